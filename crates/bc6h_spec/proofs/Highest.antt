@@ -1,0 +1,74 @@
+-- The highest pattern, 0x7BFF in both formats, with its one exception. Assumes nothing.
+use mathlib.Core.Path.{_≡_, refl, sym, ap, subst, _∙_}
+use mathlib.Core.Bool.{Bool, true, false}
+use Prim.Native.Nat.{ℕ, zero, suc, _+_, _-_, _*_, _/_, _%_, _^_, _<_, _≤_}
+use native.Mathlib.Nat.{mod-eq-of-lt}
+use native.Mathlib.Omega.{arith}
+use lib.Arith.{lt-of-le-ne}
+use lib.Dec.{T}
+use lib.IntN.{ℤ, pos, negsuc, negℤ, natAbs, ℤ-discrete}
+use lib.Signed.{mag, nonNeg}
+use Rattle.laws.specs.Pick.{pick}
+use Rattle.laws.specs.Ranges.{InBits}
+use Rattle.laws.proofs.Num.{abs-below}
+use Rattle.bc6h_spec.specs.Half.{withSign, highestPattern, minusInfinity, finishU, scaled, pattern, finishS, finished}
+
+-- unsigned: every pattern
+finishU-top : (n : ℕ) → n < 65536 → finishU n ≤ highestPattern
+unfolding finishU
+finishU-top n h = omega arith
+
+pub unsigned-top : (x : ℤ) → InBits false 16 x → finished false x ≤ highestPattern
+unfolding finished
+unsigned-top x r = finishU-top (natAbs x) (abs-below x (r .sign) (r .inside))
+
+-- the pattern of −m is 0 at 0 and 0x8000 + m above
+negative : (m : ℕ) → m < 0x8000 → pattern (negℤ (pos m)) % 0x8000 ≡ m
+negative zero h = refl
+negative (suc m) h = omega arith
+
+-- signed: every magnitude but at −32768
+pub signed-top : (x : ℤ) → InBits true 16 x → (x ≡ negsuc 32767 → ⊥) → finished true x % 0x8000 ≤ highestPattern
+unfolding finished finishS scaled
+signed-top (pos n) r e = omega (arith, r .inside)
+signed-top (negsuc n) r e =
+    let h : n < 32768 = r .inside in
+    let k : n ≡ 32767 → ⊥ = λ q. e (ap negsuc q) in
+    let l : n < 32767 = lt-of-le-ne (omega arith) k in
+    rw (negative (31 * suc n / 32) (omega arith)) (omega arith)
+
+-- signed: 0xFC00 exactly at −32768
+pub exception : finished true (negsuc 32767) ≡ minusInfinity
+unfolding finished finishS scaled
+exception = refl
+
+pub exactly : (x : ℤ) → InBits true 16 x → finished true x ≡ minusInfinity → x ≡ negsuc 32767
+exactly x r e = by (ℤ-discrete x (negsuc 32767))
+  where
+    by : Dec (x ≡ negsuc 32767) → x ≡ negsuc 32767
+    by (yes p) = p
+    by (no f) = let h : finished true x % 0x8000 ≤ highestPattern = signed-top x r f in absurd (omega (arith, e, h))
+
+-- 0x8000 never occurs, in either format
+pattern-not : (z : ℤ) → natAbs z < 0x8000 → pattern z ≡ 0x8000 → ⊥
+pattern-not (pos n) h e = omega arith
+pattern-not (negsuc n) h e = omega arith
+
+small : (m : ℕ) (z : ℤ) → natAbs (withSign z m) ≡ m
+small m (pos n) = refl
+small zero (negsuc n) = refl
+small (suc m) (negsuc n) = refl
+
+mag-abs : (x : ℤ) → mag x < 32768 → 31 * natAbs x / 32 < 0x8000
+mag-abs (pos n) h = omega arith
+mag-abs (negsuc n) h = omega arith
+
+pub no-minus-zero : (s : Bool) (x : ℤ) → InBits s 16 x → finished s x ≡ 0x8000 → ⊥
+unfolding finished finishS scaled
+no-minus-zero true x r e = pattern-not (withSign x (31 * natAbs x / 32)) (rw (small (31 * natAbs x / 32) x) (mag-abs x (r .inside))) e
+no-minus-zero false x r e = let h : finished false x ≤ highestPattern = unsigned-top x r in omega (arith, h, e)
+
+-- −1 gives 0x0000
+pub minus-one : finished true (negsuc 0) ≡ 0
+unfolding finished finishS scaled
+minus-one = refl

@@ -1,0 +1,13 @@
+-- What a block shows: the whole decoder. Assumes nothing.
+use mathlib.Core.Bool.{Bool}
+use mathlib.Core.List.{List}
+use Prim.Native.Nat.{ℕ}
+use lib.Dec.{eqb}
+use lib.ListN.{replicate}
+use Rattle.laws.specs.Pick.{pick}
+use Rattle.bc6h_spec.specs.Fields.{modeOf, fieldsOf}
+use Rattle.bc6h_spec.specs.Picture.{valueCount, picture}
+
+-- The 48 values of sixteen bytes. Reserved: "mode 0, all triples zero".
+unfoldable pub pixelsOf : Bool → List ℕ → List ℕ
+pixelsOf signed block = pick (eqb (modeOf block) 0) (replicate valueCount 0) (picture signed (fieldsOf block))

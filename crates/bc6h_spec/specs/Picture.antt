@@ -1,0 +1,64 @@
+-- The picture that a field record shows. Assumes nothing.
+use mathlib.Core.Bool.{Bool}
+use mathlib.Core.List.{List, [], _∷_}
+use Prim.Native.Nat.{ℕ, _+_, _*_, _/_, _%_}
+use lib.Dec.{eqb}
+use lib.IntN.{ℤ, pos}
+use lib.ListN.{getD}
+use Rattle.laws.specs.Pick.{pick, either}
+use Rattle.laws.specs.Made.{made}
+use Rattle.bc6h_spec.specs.declared.Fields.{Fields}
+use Rattle.bc6h_spec.specs.Layout.{twoRegions, precision, ownWidth, transformed}
+use Rattle.bc6h_spec.specs.Regions.{regionOf}
+use Rattle.bc6h_spec.specs.Fields.{stored, indexOf}
+use Rattle.bc6h_spec.specs.Half.{signExtend, transform, unquantized, interpolated, finished}
+
+-- "In signed format the first endpoint is sign-extended from p bits."
+unfoldable pub firstEnd : Bool → ℕ → ℕ → ℤ
+firstEnd signed p n = pick signed (signExtend p n) (pos n)
+
+-- "The others are sign-extended from their own widths if the format is signed or the mode is transformed."
+unfoldable pub delta : Bool → Bool → ℕ → ℕ → ℤ
+delta signed moved w n = pick (either signed moved) (signExtend w n) (pos n)
+
+-- "Transformed: add the first endpoint .."
+unfoldable pub otherEnd : Bool → Bool → ℕ → ℕ → ℤ → ℕ → ℤ
+otherEnd signed moved p w first n = pick moved (transform signed p first (delta signed moved w n)) (delta signed moved w n)
+
+-- channel c of endpoint e, after the transform
+unfoldable pub endpoint : Bool → Fields → ℕ → ℕ → ℤ
+endpoint signed f e c =
+    let p = precision (f .mode) in
+    let first = firstEnd signed p (stored f 0 c) in
+    pick (eqb e 0) first (otherEnd signed (transformed (f .mode)) p (ownWidth (f .mode) c) first (stored f e c))
+
+-- "Weights 0, 9, 18, 27, 37, 46, 55, 64, or 0, 4, 9, 13, 17, 21, 26, 30, 34, 38, 43, 47, 51, 55, 60, 64."
+abbrev pub weights8 : List ℕ
+weights8 = 0 ∷ 9 ∷ 18 ∷ 27 ∷ 37 ∷ 46 ∷ 55 ∷ 64 ∷ []
+
+abbrev pub weights16 : List ℕ
+weights16 = 0 ∷ 4 ∷ 9 ∷ 13 ∷ 17 ∷ 21 ∷ 26 ∷ 30 ∷ 34 ∷ 38 ∷ 43 ∷ 47 ∷ 51 ∷ 55 ∷ 60 ∷ 64 ∷ []
+
+abbrev pub weights : ℕ → List ℕ
+weights mode = pick (twoRegions mode) weights8 weights16
+
+-- unquantise both ends, interpolate, scale
+unfoldable pub between : Bool → ℕ → ℤ → ℤ → ℕ → ℕ
+between signed p a b w = finished signed (interpolated (unquantized signed p a) (unquantized signed p b) (pos w))
+
+-- palette value i of channel c in region r, whose two ends are endpoints 2r and 2r + 1
+unfoldable pub palette : Bool → Fields → ℕ → ℕ → ℕ → ℕ
+palette signed f r c i =
+    between signed (precision (f .mode)) (endpoint signed f (2 * r) c) (endpoint signed f (2 * r + 1) c) (getD (weights (f .mode)) i 0)
+
+-- value j is channel j mod 3 of pixel j div 3: the palette value of the pixel's region at the pixel's index
+unfoldable pub value : Bool → Fields → ℕ → ℕ
+value signed f j = palette signed f (regionOf (f .mode) (f .partition) (j / 3)) (j % 3) (indexOf f (j / 3))
+
+-- the values of a picture
+abbrev pub valueCount : ℕ
+valueCount = 48
+
+-- "48 values (pixel 0 red, green, blue, then pixel 1 ..)"
+unfoldable pub picture : Bool → Fields → List ℕ
+picture signed f = made (value signed f) valueCount

@@ -1,0 +1,87 @@
+// The plain types and numbers that the definitions of specs/ and the code share.
+
+ghost use mathlib.Core.Path.{_≡_};
+ghost use mathlib.Core.List.{[], _∷_};
+ghost use Rattle.bc6h_spec.specs.Answers.{answers};
+ghost use Rattle.bc6h_spec.specs.Bits.{blockSize};
+ghost use Rattle.bc6h_spec.specs.Half.{highestPattern};
+ghost use Rattle.bc6h_spec.specs.Picture.{valueCount};
+
+// The fields of a block, as stored: endpoint e's channel c is endpoints[3 * e + c].
+pub struct Fields {
+    pub mode: u8,
+    pub endpoints: [u16; 12],
+    pub partition: u8,
+    pub region1: u8,
+    pub indices: [u8; 16],
+}
+
+// What a call answers.
+pub struct Answer {
+    pub number: u8,
+}
+
+impl Answer {
+    pub const DONE: u8 = 0;
+
+    pub const BAD_FORMAT: u8 = 1;
+
+    pub const BAD_BLOCK: u8 = 2;
+
+    pub const SHORT_OUTPUT: u8 = 3;
+
+    pub const RESERVED_MODE: u8 = 4;
+
+    pub const LONG_STORE: u8 = 5;
+
+    pub const UNEVEN_STORE: u8 = 6;
+
+    pub const SPARE_BYTE: u8 = 7;
+
+    pub const NO_RECORD: u8 = 8;
+
+    // The constants are the numbers of specs/Answers.
+    pub fn all() -> [u8; 9]
+        ensures { λ r. ⌜ r ≡ answers ⌝ }
+    {
+        [
+            Answer::DONE,
+            Answer::BAD_FORMAT,
+            Answer::BAD_BLOCK,
+            Answer::SHORT_OUTPUT,
+            Answer::RESERVED_MODE,
+            Answer::LONG_STORE,
+            Answer::UNEVEN_STORE,
+            Answer::SPARE_BYTE,
+            Answer::NO_RECORD,
+        ]
+    }
+}
+
+// A block and the half-floats that it shows.
+pub struct Block {
+    pub bytes: [u8; 16],
+}
+
+impl Block {
+    pub const SIZE: usize = 16;
+
+    // The values that a block shows: three for each of sixteen pixels.
+    pub const VALUES: usize = 48;
+
+    // The highest pattern of both formats.
+    pub const HIGHEST: u16 = 0x7BFF;
+
+    // The constants are the numbers of specs/.
+    pub fn sizes() -> [usize; 2]
+        ensures { λ r. ⌜ r ≡ blockSize ∷ valueCount ∷ [] ⌝ }
+    {
+        [Block::SIZE, Block::VALUES]
+    }
+
+    pub fn highest() -> u16
+        ensures { λ r. ⌜ r ≡ highestPattern ⌝ }
+    {
+        Block::HIGHEST
+    }
+}

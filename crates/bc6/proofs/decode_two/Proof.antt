@@ -1,7 +1,7 @@
 -- `bc6::decode_two` meets its contract: the parts, joined. Assumes nothing.
 use borrow.Author.Needs.{needs}
 use lib.Dec.{lit<}
-use Rattle.bc6.proofs.Ends.{a0-is, palette-asks}
+use Rattle.bc6_palette.proofs.Ends.{a0-is, palette-asks}
 use Rattle.bc6.proofs.Flat.{indices-8, two-painted}
 use Rattle.bc6.proofs.decode_two.Statement.{statement}
 use Rattle.bc6.proofs.decode_two.Tie as tie

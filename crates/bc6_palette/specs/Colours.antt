@@ -9,8 +9,8 @@ use Rattle.bc6h_spec.specs.declared.Fields.{Fields}
 use Rattle.bc6h_spec.specs.Layout.{precision, ownWidth, transformed}
 use Rattle.bc6h_spec.specs.Half.{unquantized, interpolated, finished}
 use Rattle.bc6h_spec.specs.Picture.{endpoint}
-use Rattle.bc6.specs.declared.ModeBits.{ModeBits}
-use Rattle.bc6.specs.declared.Colour.{Colour}
+use Rattle.bc6_palette.specs.declared.ModeBits.{ModeBits}
+use Rattle.bc6_palette.specs.declared.Colour.{Colour}
 
 -- the precision of a mode, its own widths, and whether it is transformed
 unfoldable pub bitsOf : ℕ → ModeBits

@@ -1,4 +1,4 @@
--- `bc6::Colour::unquantize` meets its contract: channel by channel. Assumes nothing.
+-- `bc6_palette::Colour::unquantize` meets its contract: channel by channel. Assumes nothing.
 use borrow.Author.Needs.{needs}
 use mathlib.Core.Path.{ap, _∙_}
 use mir.Syntax.{w32}
@@ -6,10 +6,10 @@ use mir.Val.{SFits}
 use mir.ValLaws.{toZ-ofZ}
 use Rattle.laws.proofs.Num.{read}
 use Rattle.bc6h_spec.specs.Half.{unquantized}
-use Rattle.bc6.specs.Colours.{unquantizedOf}
-use Rattle.bc6.proofs.Ends.{colour-is}
-use Rattle.bc6.proofs.Colour.unquantize.Statement.{statement}
-use Rattle.bc6.proofs.Colour.unquantize.Tie as tie
+use Rattle.bc6_palette.specs.Colours.{unquantizedOf}
+use Rattle.bc6_palette.proofs.Ends.{colour-is}
+use Rattle.bc6_palette.proofs.Colour.unquantize.Statement.{statement}
+use Rattle.bc6_palette.proofs.Colour.unquantize.Tie as tie
 
 returns : tie.Need-returns
 unfolding unquantizedOf

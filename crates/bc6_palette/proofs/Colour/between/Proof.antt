@@ -1,4 +1,4 @@
--- `bc6::Colour::between` meets its contract: channel by channel. Assumes nothing.
+-- `bc6_palette::Colour::between` meets its contract: channel by channel. Assumes nothing.
 use borrow.Author.Needs.{needs}
 use mathlib.Core.Path.{_≡_, _∙_}
 use mathlib.Core.Bool.{Bool}
@@ -9,9 +9,9 @@ use mir.Syntax.{w32}
 use mir.Val.{SFits, toZ, ofZ}
 use mir.ValLaws.{toZ-ofZ}
 use Rattle.bc6h_spec.specs.Half.{interpolated, finished}
-use Rattle.bc6.specs.Colours.{tripleOf}
-use Rattle.bc6.proofs.Colour.between.Statement.{statement}
-use Rattle.bc6.proofs.Colour.between.Tie as tie
+use Rattle.bc6_palette.specs.Colours.{tripleOf}
+use Rattle.bc6_palette.proofs.Colour.between.Statement.{statement}
+use Rattle.bc6_palette.proofs.Colour.between.Tie as tie
 
 -- the numbers that a callee is handed are read back from bits
 plain : (s : Bool) {a b w : ℤ} {r : ℕ} → SFits w32 a → SFits w32 b → SFits w32 w

@@ -1,12 +1,12 @@
--- `bc6::ModeBits::of` meets its contract: each arm is the row of the specification's lists. Assumes nothing.
+-- `bc6_palette::ModeBits::of` meets its contract: each arm is the row of the specification's lists. Assumes nothing.
 use borrow.Author.Needs.{needs}
 use mathlib.Core.Path.{sym, ap, _∙_}
 use native.Mathlib.Nat.{le-antisymm}
 use Rattle.laws.proofs.Tests.{past}
 use Rattle.bc6h_spec.specs.Layout.{transformed}
-use Rattle.bc6.specs.Colours.{bitsOf}
-use Rattle.bc6.proofs.ModeBits.of.Statement.{statement}
-use Rattle.bc6.proofs.ModeBits.of.Tie as tie
+use Rattle.bc6_palette.specs.Colours.{bitsOf}
+use Rattle.bc6_palette.proofs.ModeBits.of.Statement.{statement}
+use Rattle.bc6_palette.proofs.ModeBits.of.Tie as tie
 
 returns : tie.Need-returns
 unfolding bitsOf transformed

@@ -1,4 +1,4 @@
--- `bc6::generate_palette_unquantized_one` meets its contract: a turn stores the next entry. Assumes nothing.
+-- `bc6_palette::generate_palette_unquantized_one` meets its contract: a turn stores the next entry. Assumes nothing.
 use borrow.Author.Needs.{needs}
 use mathlib.Core.Path.{_≡_, refl, _∙_}
 use mathlib.Core.List.{_++_}
@@ -10,10 +10,10 @@ use Rattle.laws.specs.Made.{made}
 use Rattle.laws.proofs.Num.{read}
 use Rattle.laws.proofs.Rows.{made-none, made-store, made-all}
 use Rattle.bc6h_spec.specs.Picture.{weights16}
-use Rattle.bc6.specs.Colours.{entryOf}
-use Rattle.bc6.proofs.Ends.{between-asks, entry-is}
-use Rattle.bc6.proofs.generate_palette_unquantized_one.Statement.{statement}
-use Rattle.bc6.proofs.generate_palette_unquantized_one.Tie as tie
+use Rattle.bc6_palette.specs.Colours.{entryOf}
+use Rattle.bc6_palette.proofs.Ends.{between-asks, entry-is}
+use Rattle.bc6_palette.proofs.generate_palette_unquantized_one.Statement.{statement}
+use Rattle.bc6_palette.proofs.generate_palette_unquantized_one.Tie as tie
 
 abbrev Inv-loop : tie.InvT-loop
 Inv-loop prec signed a b palette₀ i₀ palette i = (i ≤ 16) × (palette ≡ made (entryOf signed a b weights16) i ++ drop i palette₀)

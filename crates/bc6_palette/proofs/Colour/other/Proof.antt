@@ -1,4 +1,4 @@
--- `bc6::Colour::other` meets its contract: channel by channel. Assumes nothing.
+-- `bc6_palette::Colour::other` meets its contract: channel by channel. Assumes nothing.
 use borrow.Author.Needs.{needs}
 use mathlib.Core.Path.{_≡_, ap, _∙_}
 use native.Mathlib.Omega.{arith}
@@ -10,12 +10,12 @@ use mir.ValLaws.{toZ-ofZ}
 use Rattle.laws.proofs.Num.{read}
 use Rattle.bc6h_spec.specs.Layout.{ownWidth}
 use Rattle.bc6h_spec.specs.Picture.{endpoint}
-use Rattle.bc6.specs.declared.ModeBits.{ModeBits}
-use Rattle.bc6.specs.declared.Colour.{Colour}
-use Rattle.bc6.specs.Colours.{bitsOf, endOf}
-use Rattle.bc6.proofs.Ends.{colour-is, other-asks, other-is}
-use Rattle.bc6.proofs.Colour.other.Statement.{statement}
-use Rattle.bc6.proofs.Colour.other.Tie as tie
+use Rattle.bc6_palette.specs.declared.ModeBits.{ModeBits}
+use Rattle.bc6_palette.specs.declared.Colour.{Colour}
+use Rattle.bc6_palette.specs.Colours.{bitsOf, endOf}
+use Rattle.bc6_palette.proofs.Ends.{colour-is, other-asks, other-is}
+use Rattle.bc6_palette.proofs.Colour.other.Statement.{statement}
+use Rattle.bc6_palette.proofs.Colour.other.Tie as tie
 
 -- the three channels: the first endpoint's number, as it is read, the width, and the place
 red : (s : tie.Start) → toZ w32 (ofZ w32 (s .args .self .r)) ≡ endpoint (s .args .signed) (s .args .f) 0 0

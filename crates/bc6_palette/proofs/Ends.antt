@@ -18,10 +18,10 @@ use Rattle.bc6h_spec.specs.Picture.{firstEnd, otherEnd, endpoint, weights}
 use Rattle.bc6h_spec.proofs.Widths.{known, first-fits, other-fits}
 use Rattle.bc6h_spec.proofs.Shown.{endpoint-in}
 use Rattle.bc6h_spec.proofs.Ranges.{unquantized-in}
-use Rattle.bc6.proofs.Weights.{light}
-use Rattle.bc6.specs.declared.ModeBits.{ModeBits}
-use Rattle.bc6.specs.declared.Colour.{Colour}
-use Rattle.bc6.specs.Colours.{bitsOf, endOf, unquantizedOf, OfBits, tripleOf, entryOf}
+use Rattle.bc6_palette.proofs.Weights.{light}
+use Rattle.bc6_palette.specs.declared.ModeBits.{ModeBits}
+use Rattle.bc6_palette.specs.declared.Colour.{Colour}
+use Rattle.bc6_palette.specs.Colours.{bitsOf, endOf, unquantizedOf, OfBits, tripleOf, entryOf}
 
 -- a colour by its three numbers
 pub colour-is : {x y : Colour} → x .r ≡ y .r → x .g ≡ y .g → x .b ≡ y .b → x ≡ y

@@ -1,11 +1,11 @@
--- `bc6::Colour::first` meets its contract: channel by channel. Assumes nothing.
+-- `bc6_palette::Colour::first` meets its contract: channel by channel. Assumes nothing.
 use borrow.Author.Needs.{needs}
 use lib.Dec.{lit<}
 use Rattle.laws.proofs.Num.{read}
-use Rattle.bc6.specs.Colours.{endOf}
-use Rattle.bc6.proofs.Ends.{colour-is, first-asks, first-is}
-use Rattle.bc6.proofs.Colour.first.Statement.{statement}
-use Rattle.bc6.proofs.Colour.first.Tie as tie
+use Rattle.bc6_palette.specs.Colours.{endOf}
+use Rattle.bc6_palette.proofs.Ends.{colour-is, first-asks, first-is}
+use Rattle.bc6_palette.proofs.Colour.first.Statement.{statement}
+use Rattle.bc6_palette.proofs.Colour.first.Tie as tie
 
 first-end-requires : tie.Need-first-end-requires
 first-end-requires c κs = let s = c .before in first-asks (s .args .signed) _ (s .pre .0) _ (s .pre .1) 0 (lit< tt)

@@ -1,4 +1,4 @@
--- `bc6::entry` meets its contract: what is interpolated stays in the format's range. Assumes nothing.
+-- `bc6_palette::entry` meets its contract: what is interpolated stays in the format's range. Assumes nothing.
 use mathlib.Core.Path.{_≡_, sym, ap, subst, _∙_}
 use mir.Syntax.{w32}
 use mir.Val.{toZ, ofZ}
@@ -7,8 +7,8 @@ use Rattle.laws.specs.Ranges.{Below, Within, InBits}
 use Rattle.bc6h_spec.specs.Half.{interpolated, finished}
 use Rattle.laws.proofs.Num.{passed}
 use Rattle.bc6h_spec.proofs.Ranges.{interpolated-in, in-16}
-use Rattle.bc6.proofs.entry.Statement.{statement}
-use Rattle.bc6.proofs.entry.Tie as tie
+use Rattle.bc6_palette.proofs.entry.Statement.{statement}
+use Rattle.bc6_palette.proofs.entry.Tie as tie
 
 interpolate-requires : tie.Need-interpolate-requires
 interpolate-requires c κs = (

@@ -14,6 +14,7 @@ use Rattle.laws.specs.Pick.{pick, both, either}
 use Rattle.laws.specs.Every.{every, same}
 use Rattle.laws.specs.Made.{made, countOf}
 use Rattle.laws.specs.Packed.{before, unpacked}
+use Rattle.laws.specs.Search.{some}
 use Rattle.laws.proofs.Tests.{both-left, both-right, either-right, same-eq}
 use Rattle.laws.proofs.Search.{either-cases, every-at, same-self}
 use Rattle.bc6h_spec.specs.Bits.{IsBlock}
@@ -168,7 +169,7 @@ fools? p =
 all-pairs : T (every fools? premises)
 unfolding made countOf transformed rows row1 row2 row3 row4 row5 row6 row7 row8 row9 row10 row11 row12 row13 row14
     partitions regionOf region1Of modeIn modeOf gathered before unpacked fieldsAt fieldsOf signExtend keep transform unquantizeU unquantizeM unquantized interpolated finishU scaled finishS finished
-    firstEnd delta otherEnd endpoint between palette value picture pixelsOf hasPixelAt channelDiffers
+    firstEnd delta otherEnd endpoint between palette value picture pixelsOf some hasPixelAt channelDiffers
 all-pairs = tt
 
 listed : (p : Premise) → getD premises (number p) unsigned ≡ p
@@ -228,7 +229,7 @@ neighbour = refl
 B3-trusted : T (trusted B3)
 unfolding made countOf transformed rows row1 row2 row3 row4 row5 row6 row7 row8 row9 row10 row11 row12 row13 row14
     partitions regionOf region1Of modeIn modeOf gathered before unpacked fieldsAt fieldsOf unquantizeU unquantized interpolated finishU finished
-    firstEnd delta otherEnd endpoint between palette hasPixelAt channelDiffers trusted
+    firstEnd delta otherEnd endpoint between palette some hasPixelAt channelDiffers trusted
 B3-trusted = tt
 
 pub met-by-B3 : Trusted B3

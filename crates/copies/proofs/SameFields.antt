@@ -13,14 +13,13 @@ use lib.ListN.{length, getD}
 use lib.Seq.{ext-getD}
 use borrow.Author.Tests.{eq-eqb, ne-eqb}
 use Rattle.laws.specs.Pick.{pick, either}
-use Rattle.laws.specs.Made.{made}
-use Rattle.laws.proofs.Rows.{getD-made}
 use Rattle.laws.proofs.Search.{is-true, either-other}
 use Rattle.bc6h_spec.specs.declared.Fields.{Fields}
 use Rattle.bc6h_spec.specs.Layout.{twoRegions, precision, ownWidth, transformed}
 use Rattle.bc6h_spec.specs.Regions.{regionOf, fixupOf}
 use Rattle.bc6h_spec.specs.Fields.{stored, indexOf, indexBits, fixups, has, Valid}
-use Rattle.bc6h_spec.specs.Picture.{firstEnd, otherEnd, endpoint, weights, between, palette, value, picture}
+use Rattle.bc6h_spec.specs.Picture.{firstEnd, otherEnd, endpoint, weights, between, palette, picture}
+use Rattle.bc6h_spec.proofs.Pixel.{pixel-shows}
 use Rattle.bc6h_spec.proofs.Weights.{weights-even}
 use Rattle.bc6h_spec.proofs.Widths.{Mode, known, first-fits, other-fits}
 use Rattle.copies.specs.Wide.{regions, lastIndex, Differs, Spanning}
@@ -48,16 +47,6 @@ one-region m j l h = go (twoRegions m) refl l
     go : (b : Bool) → twoRegions m ≡ b → 2 * pick b 2 1 ≤ j → twoRegions m ≡ false
     go true e k = absurd (omega arith)
     go false e k = e
-
--- ---- the picture, value by value
-
-shows : (s : Bool) (f : Fields) (k c : ℕ) → k < 16 → c < 3
-    → getD (picture s f) (3 * k + c) 0 ≡ palette s f (regionOf (f .mode) (f .partition) k) c (indexOf f k)
-unfolding picture value
-shows s f k c hk hc =
-    let q : (3 * k + c) / 3 ≡ k = omega arith in
-    let r : (3 * k + c) % 3 ≡ c = omega arith in
-    getD-made (value s f) 48 (3 * k + c) 0 (omega arith) ∙ rw (q, r)
 
 -- ---- the endpoints
 
@@ -160,7 +149,7 @@ module _ (s : Bool) (f : Fields) (ends : List ℕ) (ones : ℕ) (indices : List 
           → palette s f r (c .0) (indexOf f k) ≡ palette s g r (c .0) (indexOf g k)
       shown k i c =
           subst (λ (q : ℕ). palette s f q (c .0) (indexOf f k) ≡ palette s g q (c .0) (indexOf g k)) (i .1)
-          (sym (shows s f k (c .0) (i .0) (c .1)) ∙ ap (λ (l : List ℕ). getD l (3 * k + c .0) 0) e ∙ shows s g k (c .0) (i .0) (c .1))
+          (sym (pixel-shows s f k (c .0) (i .0) (c .1)) ∙ ap (λ (l : List ℕ). getD l (3 * k + c .0) 0) e ∙ pixel-shows s g k (c .0) (i .0) (c .1))
 
       fix : Fix (f .mode) (f .partition) r
       fix = fix-known (f .mode) (f .partition) r (vf .partition-fits) h

@@ -4,21 +4,14 @@ use mathlib.Core.Logic.{_⊎_}
 use mathlib.Core.Bool.{Bool}
 use mathlib.Core.List.{List}
 use Prim.Native.Nat.{ℕ, _≤_, _<_}
-use native.Mathlib.Omega.{arith}
-use borrow.Author.Tests.{ne-eqb}
 use Rattle.bc6h_spec.specs.Bits.{IsBlock}
 use Rattle.bc6h_spec.specs.Fields.{modeOf, fieldsOf}
-use Rattle.bc6h_spec.specs.Picture.{picture}
 use Rattle.bc6h_spec.specs.Block.{pixelsOf}
 use Rattle.bc6h_spec.proofs.Reading.{fields-valid, fields-mode}
+use Rattle.bc6h_spec.proofs.Pixel.{block-shows}
 use Rattle.bc6h_spec.proofs.Undo.{fields-determine-bytes}
 use Rattle.copies.specs.Wide.{regions, Differs, Spanning}
 use Rattle.copies.proofs.SameFields.{same-fields}
-
--- an unreserved block shows the picture of its fields
-shown : (signed : Bool) (x : List ℕ) → 1 ≤ modeOf x → pixelsOf signed x ≡ picture signed (fieldsOf x)
-unfolding pixelsOf
-shown signed x h = rw (ne-eqb (modeOf x) 0 (omega arith))
 
 pub same-block : (signed : Bool) (x y : List ℕ) → IsBlock x → IsBlock y
     → 1 ≤ modeOf x → modeOf x ≤ 13 → modeOf x ≡ modeOf y → fieldsOf x .partition ≡ fieldsOf y .partition
@@ -30,4 +23,4 @@ same-block signed x y bx by l h m q sx sy d e =
     fields-determine-bytes x y bx by l
     (same-fields signed (fieldsOf x) (fieldsOf y) (fields-valid x l) (fields-valid y k)
     (subst (λ (n : ℕ). n ≤ 13) (sym (fields-mode x)) h) (fields-mode x ∙ m ∙ sym (fields-mode y)) q sx sy
-    (λ r b. d r (subst (λ (n : ℕ). r < regions n) (fields-mode x) b)) (sym (shown signed x l) ∙ e ∙ shown signed y k))
+    (λ r b. d r (subst (λ (n : ℕ). r < regions n) (fields-mode x) b)) (sym (block-shows signed x l) ∙ e ∙ block-shows signed y k))

@@ -32,7 +32,7 @@ pub fn field_numbers(block: [u8; 16]) -> (u8, [u16; 31]) {
     (if f.mode == 0 { 4 } else { 0 }, numbers)
 }
 
-/// Counts what was compared, and prints the first differences.
+/// Counts what was compared, prints the first differences, and ends the run where they are many.
 #[derive(Default)]
 pub struct Tally {
     pub compared: u64,
@@ -46,10 +46,14 @@ impl Tally {
             let hex: String = block.iter().map(|byte| format!("{byte:02X}")).collect();
             println!("DIFFERENT: {what}: format {format}, block {hex}");
         }
+        if self.differing == 1000 {
+            println!("{} comparisons, {} differ: stopped", self.compared, self.differing);
+            std::process::exit(1);
+        }
     }
 
     fn verdict(&self) -> ExitCode {
-        println!("{} blocks compared, {} differ", self.compared, self.differing);
+        println!("{} comparisons, {} differ", self.compared, self.differing);
         if self.compared > 0 && self.differing == 0 { ExitCode::SUCCESS } else { ExitCode::FAILURE }
     }
 }

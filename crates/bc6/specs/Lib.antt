@@ -1,0 +1,3 @@
+pub mod Colours
+pub mod Triples
+pub mod Call

@@ -2,6 +2,7 @@
 //!
 //!     compare short|long [SEED]                     through the archive (built with --cfg archive)
 //!     compare programs DECODE EXTRACT [SEED]        through the programs decode_blocks and extract_fields
+//!     compare entries SEED                          writes the list that the program replay reads
 //!     compare emit COUNT FORMAT SEED                writes 17-byte records, COUNT of them random, for other drivers
 mod blocks;
 mod programs;
@@ -83,9 +84,10 @@ fn main() -> ExitCode {
         #[cfg(archive)]
         Some("long") => archive::compare(&Extent { pair_step: 1, random: 5_000_000, seed: number(&words, 1, 1) }, &mut tally),
         Some("programs") if words.len() >= 3 => programs::compare(&words[1], &words[2], number(&words, 3, 1), &mut tally),
+        Some("entries") => return programs::entries(number(&words, 1, 1)),
         Some("emit") => return programs::emit(number(&words, 1, 1), number(&words, 2, 0), number(&words, 3, 1)),
         _ => {
-            eprintln!("usage: compare short|long [SEED] | programs DECODE EXTRACT [SEED] | emit COUNT FORMAT SEED");
+            eprintln!("usage: compare short|long [SEED] | programs DECODE EXTRACT [SEED] | entries SEED | emit COUNT FORMAT SEED");
             return ExitCode::from(2);
         }
     }

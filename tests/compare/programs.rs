@@ -105,3 +105,31 @@ pub fn emit(count: u64, format: u64, seed: u64) -> ExitCode {
     output.flush().expect("standard output");
     ExitCode::SUCCESS
 }
+
+/// The list that the program replay reads: each entry is a record of 17 bytes and the Rust's 98 bytes for it. Both formats of
+/// B1 to B11 and, for each code, no bit and every bit above it, random blocks and a run through the extreme endpoints.
+pub fn entries(seed: u64) -> ExitCode {
+    let mut blocks = NAMED.to_vec();
+    for mode in Mode::all() {
+        let first = blocks.len();
+        mode.few_bits(&mut |block| blocks.push(block));
+        let every_bit = blocks[first + (blocks.len() - first) / 2];
+        blocks.truncate(first + 1);
+        blocks.push(every_bit);
+        mode.random(56, seed, &mut |block| blocks.push(block));
+        if !mode.reserved() {
+            let mut extremes = Vec::new();
+            mode.extremes(&mut |block| extremes.push(block));
+            blocks.extend(extremes.iter().step_by(extremes.len() / 24 - 1).take(24));
+        }
+    }
+    let mut output = BufWriter::new(std::io::stdout().lock());
+    for block in blocks {
+        for format in [0, 1] {
+            let record = [[format].as_slice(), &block].concat();
+            output.write_all(&record).and_then(|()| output.write_all(&decoded(&record))).expect("standard output");
+        }
+    }
+    output.flush().expect("standard output");
+    ExitCode::SUCCESS
+}

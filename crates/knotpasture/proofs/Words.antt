@@ -3,6 +3,7 @@ use mathlib.Core.Path.{_≡_, refl, sym, ap, _∙_}
 use mathlib.Core.List.{List, [], _∷_}
 use Prim.Native.Nat.{ℕ, zero, suc, _+_, _*_, _<_, _≤_}
 use native.Mathlib.Omega.{arith}
+use lib.ListN.{length}
 use Rattle.bc6.specs.declared.Pixels.{Pixels}
 use Rattle.bc6.specs.Call.{Painted}
 use Rattle.records.specs.declared.Record.{Record}
@@ -11,7 +12,10 @@ use Rattle.records.specs.declared.RecordReading.the-variants as reading
 use Rattle.records.specs.Store.{recordSize, headSize, storeLimit, tileOf, formatOf, recordRefusal, Read}
 use Rattle.records.proofs.Refusals.{known}
 use Rattle.records.proofs.Readings.{unrefused, refused}
-use Rattle.knotpasture.specs.Packed.{pixelsWord, PixelsCalled, wordAt, readingWord, offsetAt}
+use Rattle.twins.specs.declared.TwinList.{TwinList}
+use Rattle.twins.specs.Twins.{answerAt, listRefusal, Listed}
+use Rattle.twins.proofs.Listing.{answer-number, counts-add-up, whole}
+use Rattle.knotpasture.specs.Packed.{pixelsWord, PixelsCalled, wordAt, readingWord, offsetAt, twinsWord, TwinsCalled}
 
 -- ---- the pixels call
 
@@ -56,3 +60,26 @@ module _ {store : List ℕ} {n : ℕ} {x : RecordReading} (d : Read store n x) w
   -- a record that is there starts inside the store
   pub inside : {r : Record} → x ≡ reading.Record r → n * recordSize < storeLimit
   inside e = let k = known store n (unrefused d e) in omega arith
+
+-- ---- the twin list
+
+number-alone : (number : ℕ) (store : List ℕ) → (number ≡ 0 → ⊥) → twinsWord (answerAt number store) ≡ number
+number-alone zero store h = absurd (h refl)
+number-alone (suc number) store h = omega arith
+
+module _ {store lent after : List ℕ} {r : TwinList} (d : Listed store lent r after) where
+  twins-called : {word : ℕ} → word ≡ twinsWord r → TwinsCalled store lent word after
+  twins-called e = record { answers = e ∙ ap twinsWord (d .answers); holds = d .holds }
+
+  pub list-refused : (r .answer ≡ 0 → ⊥) → TwinsCalled store lent (r .answer) after
+  list-refused h =
+      let n = answer-number d in
+      twins-called (n ∙ sym (number-alone (listRefusal (length store) (length lent)) store (λ e. h (n ∙ e))) ∙ ap twinsWord (sym (d .answers)))
+
+  module _ (z : r .answer ≡ 0) where
+    pub list-done : TwinsCalled store lent (r .kept * 0x10000 + r .twins * 0x100000000 + r .bad * 0x1000000000000) after
+    list-done = twins-called (omega arith)
+
+    -- no count is above the number of records, 2,000
+    pub few : r .kept + r .twins + r .bad ≤ 2000
+    few = let w = whole d z in let c = counts-add-up d z in omega arith

@@ -6,6 +6,9 @@ use lib.ListN.{length}
 use Rattle.bc6.specs.declared.Pixels.{Pixels}
 use Rattle.bc6.specs.Call.{refusalOf, answerAt, valuesAt}
 use Rattle.records.specs.Store.{recordSize, headSize, tileOf, formatOf, recordRefusal}
+use Rattle.twins.specs.declared.TwinList.{TwinList}
+use Rattle.twins.specs.Twins.{listRefusal, marksAt}
+use Rattle.twins.specs.Twins as twins
 
 -- two bytes, the first the lowest
 abbrev pub twoBytes : ℕ → ℕ → ℕ
@@ -32,3 +35,12 @@ readingWord store n = wordAt (recordRefusal store n) store n
 abbrev pub offsetAt : ℕ → ℕ → ℕ
 offsetAt zero n = n * recordSize + headSize
 offsetAt (suc number) n = 0
+
+-- the number in the low byte; kept records, twins and bad records in the three sixteen-bit fields above the lowest
+abbrev pub twinsWord : TwinList → ℕ
+twinsWord list = list .answer + list .kept * 0x10000 + list .twins * 0x100000000 + list .bad * 0x1000000000000
+
+-- The twin list: its answer in one word, and the lent marks as the call leaves them.
+pub record TwinsCalled (store lent : List ℕ) (r : ℕ) (after : List ℕ) : Type 0 where
+  pub answers : r ≡ twinsWord (twins.answerAt (listRefusal (length store) (length lent)) store)
+  pub holds : after ≡ marksAt (listRefusal (length store) (length lent)) store lent

@@ -15,7 +15,7 @@ use Rattle.bc6h_spec.specs.Fields.{modeOf, fieldsOf, Valid}
 use Rattle.bc6h_spec.specs.Picture.{value, picture}
 use Rattle.bc6h_spec.specs.Block.{pixelsOf}
 use Rattle.bc6h_spec.proofs.Reading.{fields-valid, fields-mode}
-use Rattle.bc6.specs.Colours.{black}
+use Rattle.bc6_palette.specs.Colours.{black}
 use Rattle.bc6.specs.Triples.{tripleAt, inTriples}
 
 module _ (s : Bool) (block : List ℕ) where

@@ -1,3 +1,2 @@
-pub mod Colours
 pub mod Triples
 pub mod Call

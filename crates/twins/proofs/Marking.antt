@@ -101,13 +101,12 @@ pub no-twin : (store : List ℕ) (n : ℕ) → (Unrefused store n → ⊥) → f
 unfolding firstTwin
 no-twin store n r = first-never (alike store n) (λ k. alike-refused store n k r) n
 
-pub twin-means : (store : List ℕ) (n : ℕ) → firstTwin store n < n → Twin store n
+pub first-alike : (store : List ℕ) (n : ℕ) → firstTwin store n < n → Alike store n (firstTwin store n)
 unfolding firstTwin
-twin-means store n h = record {
-  earlier = firstTwin store n;
-  before = h;
-  shows = alike-means store n _ (first-passes (alike store n) n h);
-}
+first-alike store n h = alike-means store n _ (first-passes (alike store n) n h)
+
+pub twin-means : (store : List ℕ) (n : ℕ) → firstTwin store n < n → Twin store n
+twin-means store n h = record { earlier = firstTwin store n; before = h; shows = first-alike store n h }
 
 -- the first twin is the first of all that n is a twin of
 pub twin-so : (store : List ℕ) (n : ℕ) (t : Twin store n) → firstTwin store n ≤ t .earlier

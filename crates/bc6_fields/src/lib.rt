@@ -1,0 +1,145 @@
+// From a block's bits to its fields.
+use bc6h_spec::Answer;
+use bc6h_spec::Block;
+use bc6h_spec::Fields;
+use bcn_data::Subset2Map;
+use bcn_util::BitStream;
+use bcn_util::Indexes;
+ghost use mathlib.Core.Path.{_≡_};
+ghost use Prim.Native.Nat.{_≤_};
+ghost use lib.ListN.{length};
+ghost use Rattle.laws.specs.Made.{made};
+ghost use Rattle.bcn_util.specs.Stream.{number};
+ghost use Rattle.bcn_util.specs.Indexed.{indexAt};
+ghost use Rattle.bc6h_spec.specs.Layout.{row};
+ghost use Rattle.bc6h_spec.specs.Fields.{modeIn, gathered, fieldsAt, fieldsOf};
+ghost use Rattle.bc6_fields.specs.Call.{entry, Extracted};
+
+// The mode number, 0 for a reserved mode.
+pub fn extract_mode(stream: BitStream) -> usize
+    ensures { λ r. ⌜ r ≡ modeIn (number stream) ⌝ }
+{
+    let two = stream.consume_bits(2);
+    let low2 = two.bits;
+    let rest = two.rest;
+    let three = rest.consume_bits(3);
+    let high3 = three.bits as usize;
+    match low2 {
+        0b00 => 1,
+        0b01 => 2,
+        0b10 => 3 + high3,
+        _ => { if high3 < 4 { 11 + high3 } else { 0 } }
+    }
+}
+
+// Of the fourteen places the endpoints' values.
+fn endpoints_of(places: [u16; 14]) -> [u16; 12]
+    ensures { λ r. ⌜ r ≡ made (entry places) 12 ⌝ }
+{
+    let mut endpoints = [0u16; 12];
+    let mut k = 0;
+    while k < 12 {
+        endpoints[k] = places[k];
+        k += 1;
+    }
+    endpoints
+}
+
+fn indices_of(indexes: Indexes) -> [u8; 16]
+    requires { ⌜ indexes .bits ≤ 4 ⌝ }
+    ensures { λ r. ⌜ r ≡ made (indexAt indexes) 16 ⌝ }
+{
+    let mut indices = [0u8; 16];
+    let mut k = 0;
+    while k < 16 {
+        indices[k] = indexes.get_index(k as u64);
+        k += 1;
+    }
+    indices
+}
+
+// The fields of a mode, once the numbers at its places are read.
+fn fields_from(mode: usize, places: [u16; 14], stream: BitStream) -> Fields
+    requires { ⌜ (1 ≤ mode) × (mode ≤ 14) × (places ≡ made (gathered (row mode) (number stream)) 14) ⌝ }
+    ensures { λ r. ⌜ r ≡ fieldsAt mode (number stream) ⌝ }
+{
+    let endpoints = endpoints_of(places);
+    if mode <= 10 {
+        let partition = places[13];
+        let map = Subset2Map::of(partition as usize);
+        let rest = stream.skip(82);
+        let indexes = Indexes::new_p2(3, rest, map.fixup_index_2 as u64);
+        return Fields {
+            mode: mode as u8,
+            endpoints,
+            partition: partition as u8,
+            region1: map.count_ones() as u8,
+            indices: indices_of(indexes),
+        };
+    }
+    let rest = stream.skip(65);
+    let indexes = Indexes::new_p1(4, rest);
+    Fields {
+        mode: mode as u8,
+        endpoints,
+        partition: 0,
+        region1: 0,
+        indices: indices_of(indexes),
+    }
+}
+
+// The fields of a block, read by runs. A reserved mode has none.
+pub fn fields_of(block: &[u8]) -> Fields
+    requires { ⌜ length (now block) ≡ 16 ⌝ }
+    ensures { λ r. ⌜ r ≡ fieldsOf (now (block .entry)) ⌝ }
+{
+    let stream = BitStream::new(block);
+    let mode = extract_mode(stream);
+    if mode == 0 {
+        return Fields::none();
+    }
+    let places = bc6_runs::read_places(mode, stream);
+    fields_from(mode, places, stream)
+}
+
+// The same, read bit by bit as the table says.
+pub fn plain_fields(block: &[u8]) -> Fields
+    requires { ⌜ length (now block) ≡ 16 ⌝ }
+    ensures { λ r. ⌜ r ≡ fieldsOf (now (block .entry)) ⌝ }
+{
+    let stream = BitStream::new(block);
+    let mode = extract_mode(stream);
+    if mode == 0 {
+        return Fields::none();
+    }
+    let places = bc6_table::read_places(mode, stream);
+    fields_from(mode, places, stream)
+}
+
+// What the field call answers: a number, and the fields where that is `Answer::DONE`.
+pub struct FieldsRead {
+    pub answer: u8,
+    pub fields: Fields,
+}
+
+pub fn block_fields(block: &[u8]) -> FieldsRead
+    ensures { λ r. ⌜ Extracted (now (block .entry)) r ⌝ }
+{
+    if block.len() != Block::SIZE {
+        return FieldsRead {
+            answer: Answer::BAD_BLOCK,
+            fields: Fields::none(),
+        };
+    }
+    let fields = fields_of(block);
+    if fields.mode == 0 {
+        return FieldsRead {
+            answer: Answer::RESERVED_MODE,
+            fields: Fields::none(),
+        };
+    }
+    FieldsRead {
+        answer: Answer::DONE,
+        fields,
+    }
+}

@@ -3,30 +3,23 @@
 use mathlib.Core.Path.{_≡_, _∙_, refl, sym, ap, subst}
 use mathlib.Core.Bool.{Bool, true, false}
 use Prim.Native.Nat.{ℕ, zero, suc, _+_, _-_, _*_, _/_, _%_, _^_, _<_, _≤_}
-use native.Mathlib.Nat.{mul-add, add-mul, mul-comm, mul-assoc, add-mul-div-left}
+use native.Mathlib.Nat.{mul-add, add-mul, mul-assoc, mul-le-mul-right, add-mul-div-left}
 use native.Mathlib.Decide.{decLt}
 use native.Mathlib.Omega.{arith}
 use lib.Dec.{ltb, lit<}
-use lib.IntN.{ℤ, pos, negsuc, negℤ, natAbs, _+ℤ_, _-ℤ_, _*ℤ_}
+use lib.IntN.{ℤ, pos, negsuc, negℤ, natAbs, subℕ, _+ℤ_, _-ℤ_, _*ℤ_}
 use lib.Signed.{shrZ}
 use borrow.Author.Tests.{lt-ltb, le-ltb}
 use Rattle.laws.specs.Pick.{pick}
 use Rattle.laws.specs.Ranges.{InBits}
 use Rattle.laws.proofs.Num.{diff}
 use Rattle.laws.proofs.Off.{Off, off-pos, off-add, off-mul, off-shr, off-same}
+use Rattle.bc6_paint.specs.Tones.{bias, biased, pointAt, highProduct, magnitudeAt, finishAt}
 use Rattle.bc6h_spec.specs.Half.{withSign, interpolated, finishU, scaled, pattern, finishS, finished}
-
--- what is added to a number
-abbrev pub bias : Bool → ℕ
-bias signed = pick signed 32768 0
 
 -- z, carried above zero, is n
 abbrev pub Biased : Bool → ℤ → ℕ → Type 0
 Biased signed z n = Off (bias signed) z n
-
--- the number at weight w between two such numbers
-abbrev pub pointAt : ℕ → ℕ → ℕ → ℕ
-pointAt a b w = (a * (64 - w) + b * w + 32) / 64
 
 weighted : (k w : ℕ) → w ≤ 64 → k * (64 - w) + k * w ≡ k * 64
 weighted k w h =
@@ -46,20 +39,36 @@ interpolated-biased s a b m n w h p q =
     let k : K * (64 - w) + K * w + 0 ≡ K * 64 = omega (arith, weighted K w h) in
     rw e (off-shr K S (m * (64 - w) + n * w + 32) (off-same (K * (64 - w) + K * w + 0) (K * 64) S (m * (64 - w) + n * w + 32) (m * (64 - w) + n * w + 32) k refl t))
 
--- ---- a point by bytes: each product stays below 2 ^ 14
+-- ---- a point by quotients and remainders of 64
 
-pub by-bytes : (a b w : ℕ) → w ≤ 64
-    → 4 * (a / 256 * (64 - w) + b / 256 * w) + (a % 256 * (64 - w) + b % 256 * w + 32) / 64 ≡ pointAt a b w
-by-bytes a b w h =
+-- a weighted sum of two numbers that are at most `most`
+pub mixed-le : (most x y w : ℕ) → w ≤ 64 → x ≤ most → y ≤ most → x * (64 - w) + y * w ≤ most * 64
+mixed-le most x y w h hx hy =
+    omega (arith, mul-le-mul-right (64 - w) hx, mul-le-mul-right w hy, weighted most w h)
+
+-- what the steps of a point are known to stay below
+pub record Steps (a b w : ℕ) : Type 0 where
+  pub high : a / 64 * (64 - w) + b / 64 * w ≤ 65472
+  pub low : a % 64 * (64 - w) + b % 64 * w ≤ 4032
+
+pub steps : (a b w : ℕ) → w ≤ 64 → a < 65536 → b < 65536 → Steps a b w
+steps a b w h ha hb =
+    record {
+      high = mixed-le 1023 (a / 64) (b / 64) w h (omega arith) (omega arith);
+      low = mixed-le 63 (a % 64) (b % 64) w h (omega arith) (omega arith);
+    }
+
+pub by-parts : (a b w : ℕ) → a / 64 * (64 - w) + b / 64 * w + (a % 64 * (64 - w) + b % 64 * w + 32) / 64 ≡ pointAt a b w
+by-parts a b w =
     let v = 64 - w in
-    let H = a / 256 * v + b / 256 * w in
-    let L = a % 256 * v + b % 256 * w + 32 in
-    let split : (x y : ℕ) → x * y ≡ 256 * (x / 256 * y) + x % 256 * y =
+    let H = a / 64 * v + b / 64 * w in
+    let L = a % 64 * v + b % 64 * w + 32 in
+    let split : (x y : ℕ) → x * y ≡ 64 * (x / 64 * y) + x % 64 * y =
         λ x y.
-        let e : 256 * (x / 256) + x % 256 ≡ x = omega arith in
-        ap (λ (z : ℕ). z * y) (sym e) ∙ add-mul (256 * (x / 256)) (x % 256) y ∙ ap (λ (z : ℕ). z + x % 256 * y) (mul-assoc 256 (x / 256) y) in
-    let e : a * v + b * w + 32 ≡ L + 64 * (4 * H) = omega (arith, split a v, split b w) in
-    sym (ap (λ (x : ℕ). x / 64) e ∙ add-mul-div-left L (4 * H) (lit< tt) ∙ omega arith)
+        let e : 64 * (x / 64) + x % 64 ≡ x = omega arith in
+        ap (λ (z : ℕ). z * y) (sym e) ∙ add-mul (64 * (x / 64)) (x % 64) y ∙ ap (λ (z : ℕ). z + x % 64 * y) (mul-assoc 64 (x / 64) y) in
+    let e : a * v + b * w + 32 ≡ L + 64 * H = omega (arith, split a v, split b w) in
+    sym (ap (λ (x : ℕ). x / 64) e ∙ add-mul-div-left L H (lit< tt) ∙ omega arith)
 
 -- ---- scaling
 
@@ -71,21 +80,12 @@ finishU-high n = omega arith
 high-31 : (m : ℕ) → m * 63488 / 65536 ≡ 31 * m / 32
 high-31 m = omega arith
 
--- the magnitude of a number of which n is the biased form
-abbrev pub magnitudeAt : ℕ → ℕ
-magnitudeAt n = pick (ltb n 32768) (32768 - n) (n - 32768)
-
--- the pattern of the number of which n is the biased form
-abbrev pub finishAt : Bool → ℕ → ℕ
-finishAt true n = pick (ltb n 32767) 32768 0 + magnitudeAt n * 63488 / 65536
-finishAt false n = n * 31744 / 65536
-
 pattern-neg : (m : ℕ) → 0 < m → pattern (negℤ (pos m)) ≡ 32768 + m
 pattern-neg zero h = absurd (omega arith)
 pattern-neg (suc m) h = omega arith
 
 pub finished-biased : (s : Bool) (z : ℤ) (n : ℕ) → Biased s z n → InBits s 16 z → finished s z ≡ finishAt s n
-unfolding finished finishS scaled
+unfolding finished finishS scaled finishAt
 finished-biased false (pos x) n b r = ap finishU (omega arith) ∙ sym (finishU-high n)
 finished-biased false (negsuc x) n b r = absurd (r .sign)
 finished-biased true (pos x) n b r =
@@ -108,3 +108,26 @@ finished-biased true (negsuc x) n b r = by (decLt n 32767)
     by (no h) =
         let z : x ≡ 0 = omega arith in
         rw (le-ltb n 32767 (omega arith), lt-ltb n 32768 below, high-31 (32768 - n), d, z) refl
+
+-- ---- carrying a number above zero
+
+pub biased-is : (s : Bool) (z : ℤ) → InBits s 16 z → z +ℤ pos (bias s) ≡ pos (biased s z)
+biased-is true (pos n) r = refl
+biased-is true (negsuc n) r = sub-case n (r .inside)
+  where
+    sub-case : (n : ℕ) → n < 32768 → subℕ 32768 (suc n) ≡ pos (natAbs (subℕ 32768 (suc n)))
+    sub-case n h = rw (le-ltb 32768 (suc n) (omega arith)) refl
+biased-is false (pos n) r = refl
+biased-is false (negsuc n) r = absurd (r .sign)
+
+pub biased-off : (s : Bool) (z : ℤ) → InBits s 16 z → Biased s z (biased s z)
+biased-off true (pos n) r = omega arith
+biased-off true (negsuc n) r = let h : n < 32768 = r .inside in rw (le-ltb 32768 (suc n) (omega arith)) (omega arith)
+biased-off false (pos n) r = omega arith
+biased-off false (negsuc n) r = absurd (r .sign)
+
+pub biased-lt : (s : Bool) (z : ℤ) → InBits s 16 z → biased s z < 65536
+biased-lt true (pos n) r = let h : n < 32768 = r .inside in omega arith
+biased-lt true (negsuc n) r = let h : n < 32768 = r .inside in rw (le-ltb 32768 (suc n) (omega arith)) (omega arith)
+biased-lt false (pos n) r = let h : n < 65536 = r .inside in omega arith
+biased-lt false (negsuc n) r = absurd (r .sign)

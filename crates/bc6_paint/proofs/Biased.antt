@@ -33,9 +33,9 @@ interpolated-biased s a b m n w h p q =
     let e : pos 64 -ℤ pos w ≡ pos (64 - w) = diff 64 w h in
     let S : ℤ = a *ℤ pos (64 - w) +ℤ b *ℤ pos w +ℤ pos 32 in
     let t : Off (K * (64 - w) + K * w + 0) S (m * (64 - w) + n * w + 32) =
-        off-add (K * (64 - w) + K * w) 0 (a *ℤ pos (64 - w) +ℤ b *ℤ pos w) (pos 32) (m * (64 - w) + n * w) 32
-        (off-add (K * (64 - w)) (K * w) (a *ℤ pos (64 - w)) (b *ℤ pos w) (m * (64 - w)) (n * w) (off-mul K a m (64 - w) p) (off-mul K b n w q))
-        (off-pos 32) in
+    off-add (K * (64 - w) + K * w) 0 (a *ℤ pos (64 - w) +ℤ b *ℤ pos w) (pos 32) (m * (64 - w) + n * w) 32
+    (off-add (K * (64 - w)) (K * w) (a *ℤ pos (64 - w)) (b *ℤ pos w) (m * (64 - w)) (n * w) (off-mul K a m (64 - w) p) (off-mul K b n w q))
+    (off-pos 32) in
     let k : K * (64 - w) + K * w + 0 ≡ K * 64 = omega (arith, weighted K w h) in
     rw e (off-shr K S (m * (64 - w) + n * w + 32) (off-same (K * (64 - w) + K * w + 0) (K * 64) S (m * (64 - w) + n * w + 32) (m * (64 - w) + n * w + 32) k refl t))
 
@@ -64,9 +64,9 @@ by-parts a b w =
     let H = a / 64 * v + b / 64 * w in
     let L = a % 64 * v + b % 64 * w + 32 in
     let split : (x y : ℕ) → x * y ≡ 64 * (x / 64 * y) + x % 64 * y =
-        λ x y.
-        let e : 64 * (x / 64) + x % 64 ≡ x = omega arith in
-        ap (λ (z : ℕ). z * y) (sym e) ∙ add-mul (64 * (x / 64)) (x % 64) y ∙ ap (λ (z : ℕ). z + x % 64 * y) (mul-assoc 64 (x / 64) y) in
+    λ x y.
+    let e : 64 * (x / 64) + x % 64 ≡ x = omega arith in
+    ap (λ (z : ℕ). z * y) (sym e) ∙ add-mul (64 * (x / 64)) (x % 64) y ∙ ap (λ (z : ℕ). z + x % 64 * y) (mul-assoc 64 (x / 64) y) in
     let e : a * v + b * w + 32 ≡ L + 64 * H = omega (arith, split a v, split b w) in
     sym (ap (λ (x : ℕ). x / 64) e ∙ add-mul-div-left L H (lit< tt) ∙ omega arith)
 

@@ -16,7 +16,13 @@ ghost use Rattle.laws.specs.Ranges.{InBits};
 ghost use Rattle.bc6h_spec.specs.Half.{minusInfinity};
 ghost use Rattle.bc6h_spec.specs.Picture.{weights8, weights16};
 ghost use Rattle.bc6_palette.specs.Colours.{OfBits};
-ghost use Rattle.bc6_paint.specs.Tones.{biased, pointAt, highProduct, magnitudeAt, finishAt, toneOf, IndicesBelow, oneValue, twoValue};
+ghost use Rattle.bc6_paint.specs.Tones.{biased, pointAt, highProduct, magnitudeAt, finishAt, toneOf, IndicesBelow, oneValue, twoValue, PaintedAs};
+
+// A pattern, and whether it is minus infinity.
+pub struct Half {
+    pub pattern: u16,
+    pub infinite: bool,
+}
 
 // A colour carried above zero.
 pub struct Tone {
@@ -117,11 +123,28 @@ fn magnitude(x: u16) -> u16
 }
 
 // 31 m / 32 of the magnitude m, and the sign.
-fn finish_signed(x: u16) -> u16
+fn pattern_signed(x: u16) -> u16
     ensures { λ r. ⌜ r ≡ finishAt true x ⌝ }
 {
     let t = high_product(magnitude(x), 63488);
     if x < 0x7FFF { 0x8000 + t } else { t }
+}
+
+// The pattern, and whether the number was −32768, which zero stands for.
+fn finish_signed(x: u16) -> Half
+    ensures { λ r. ⌜ r ≡ record { pattern = finishAt true x; infinite = eqb x 0 } ⌝ }
+{
+    Half {
+        pattern: pattern_signed(x),
+        infinite: x == 0,
+    }
+}
+
+// 1 for a value that is minus infinity.
+fn counted(infinite: bool) -> u16
+    ensures { λ r. ⌜ (r ≡ pick infinite 1 0) × (r ≤ 1) ⌝ }
+{
+    if infinite { 1 } else { 0 }
 }
 
 // Whether a pixel lies in region 1.
@@ -136,6 +159,14 @@ fn select(second: bool, a: u16, c: u16) -> u16
     ensures { λ r. ⌜ r ≡ pick second c a ⌝ }
 {
     if second { c } else { a }
+}
+
+// A point of the pixel's region: between a and b in region 0, between c and d in region 1.
+fn point_in(second: bool, a: u16, b: u16, c: u16, d: u16, w: u16) -> u16
+    requires { ⌜ w ≤ 64 ⌝ }
+    ensures { λ r. ⌜ r ≡ pointAt (pick second c a) (pick second d b) w ⌝ }
+{
+    point(select(second, a, c), select(second, b, d), w)
 }
 
 // The 48 values of a block of one region, between a and b, unsigned. (Pixels by eights: that is what a vector holds.)
@@ -153,4 +184,93 @@ pub fn paint_one_unsigned(a: Tone, b: Tone, indices: [u8; 16], out: &mut [u16])
             out[at + 2] = finish_unsigned(point(a.b, b.b, w));
         }
     }
+}
+
+// The same, signed; and how many of the values are minus infinity.
+pub fn paint_one_signed(a: Tone, b: Tone, indices: [u8; 16], out: &mut [u16]) -> u16
+    requires { ⌜ IndicesBelow 16 indices × (48 ≤ length (now out)) ⌝ }
+    ensures { λ r. ⌜ PaintedAs (oneValue true a b indices) (now (out .entry)) r (now (out .exit)) ⌝ }
+{
+    let mut infinite = 0u16;
+    for half in 0..2usize {
+        for k in 0..8usize {
+            let pixel = 8 * half + k;
+            let w = weight_4(wide(indices[pixel]));
+            let at = 3 * pixel;
+            let red = finish_signed(point(a.r, b.r, w));
+            let green = finish_signed(point(a.g, b.g, w));
+            let blue = finish_signed(point(a.b, b.b, w));
+            out[at] = red.pattern;
+            out[at + 1] = green.pattern;
+            out[at + 2] = blue.pattern;
+            infinite = infinite
+                + counted(red.infinite)
+                + counted(green.infinite)
+                + counted(blue.infinite);
+        }
+    }
+    infinite
+}
+
+// The 48 values of a block of two regions, between a and b in region 0 and between c and d in region 1, unsigned.
+pub fn paint_two_unsigned(
+    a: Tone,
+    b: Tone,
+    c: Tone,
+    d: Tone,
+    map: u16,
+    indices: [u8; 16],
+    out: &mut [u16],
+)
+    requires { ⌜ IndicesBelow 8 indices × (48 ≤ length (now out)) ⌝ }
+    ensures { λ _. ⌜ now (out .exit) ≡ made (twoValue false a b c d map indices) 48 ++ drop 48 (now (out .entry)) ⌝ }
+{
+    for half in 0..2usize {
+        let regions = map >> (8 * half);
+        for k in 0..8usize {
+            let pixel = 8 * half + k;
+            let w = weight_3(wide(indices[pixel]));
+            let second = in_region_1(regions, k);
+            let at = 3 * pixel;
+            out[at] = finish_unsigned(point_in(second, a.r, b.r, c.r, d.r, w));
+            out[at + 1] = finish_unsigned(point_in(second, a.g, b.g, c.g, d.g, w));
+            out[at + 2] = finish_unsigned(point_in(second, a.b, b.b, c.b, d.b, w));
+        }
+    }
+}
+
+// The same, signed; and how many of the values are minus infinity.
+pub fn paint_two_signed(
+    a: Tone,
+    b: Tone,
+    c: Tone,
+    d: Tone,
+    map: u16,
+    indices: [u8; 16],
+    out: &mut [u16],
+) -> u16
+    requires { ⌜ IndicesBelow 8 indices × (48 ≤ length (now out)) ⌝ }
+    ensures { λ r. ⌜ PaintedAs (twoValue true a b c d map indices) (now (out .entry)) r (now (out .exit)) ⌝ }
+{
+    let mut infinite = 0u16;
+    for half in 0..2usize {
+        let regions = map >> (8 * half);
+        for k in 0..8usize {
+            let pixel = 8 * half + k;
+            let w = weight_3(wide(indices[pixel]));
+            let second = in_region_1(regions, k);
+            let at = 3 * pixel;
+            let red = finish_signed(point_in(second, a.r, b.r, c.r, d.r, w));
+            let green = finish_signed(point_in(second, a.g, b.g, c.g, d.g, w));
+            let blue = finish_signed(point_in(second, a.b, b.b, c.b, d.b, w));
+            out[at] = red.pattern;
+            out[at + 1] = green.pattern;
+            out[at + 2] = blue.pattern;
+            infinite = infinite
+                + counted(red.infinite)
+                + counted(green.infinite)
+                + counted(blue.infinite);
+        }
+    }
+    infinite
 }

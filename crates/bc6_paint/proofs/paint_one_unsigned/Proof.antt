@@ -48,12 +48,12 @@ loop2-again c =
     let told = weight .weight-4 .ensures .0 in (
       search needs,
       (λ l e len.
-      made-shift _ l _ _ _ (omega arith)
-      (three-made _ l (turn .loop2 .out) pixel _ _ _ (turn .loop2 .inv .1 l e len)
-      (one-value pixel 0 (lit< tt) false (s .a) (s .b) _ _ _ _ _ index told (first .before .point .ensures) (first .finish-unsigned .ensures))
-      (one-value pixel 1 (lit< tt) false (s .a) (s .b) _ _ _ _ _ index told (second .before .point2 .ensures) (second .finish-unsigned2 .ensures))
-      (one-value pixel 2 (lit< tt) false (s .a) (s .b) _ _ _ _ _ index told (third .before .point3 .ensures) (third .finish-unsigned3 .ensures))
-      (omega arith))),
+          made-shift _ l _ _ _ (omega arith)
+          (three-made _ l (turn .loop2 .out) pixel _ _ _ (turn .loop2 .inv .1 l e len)
+          (one-value pixel 0 (lit< tt) false (s .a) (s .b) _ _ _ _ _ index told (first .before .point .ensures) (first .finish-unsigned .ensures))
+          (one-value pixel 1 (lit< tt) false (s .a) (s .b) _ _ _ _ _ index told (second .before .point2 .ensures) (second .finish-unsigned2 .ensures))
+          (one-value pixel 2 (lit< tt) false (s .a) (s .b) _ _ _ _ _ index told (third .before .point3 .ensures) (third .finish-unsigned3 .ensures))
+          (omega arith))),
       simp length-set (turn .loop2 .inv .2),
     )
 

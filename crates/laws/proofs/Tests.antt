@@ -16,6 +16,11 @@ pub picks {ℓ κ} : {X : Type ℓ} (t : Bool) (x y : X) (P : X → Type κ) →
 picks true x y P f g = f refl
 picks false x y P f g = g refl
 
+-- a test by its two outcomes, each with its equation
+pub cases {ℓ} : {C : Type ℓ} (t : Bool) → (t ≡ true → C) → (t ≡ false → C) → C
+cases true f g = f refl
+cases false f g = g refl
+
 pub both-left : (a b : Bool) → T (both a b) → T a
 both-left true b t = tt
 both-left false b t = t
@@ -56,3 +61,7 @@ same-eq (x ∷ xs) (y ∷ ys) t =
     let e = eqb→eq x y (both-left (eqb x y) (same xs ys) t) in
     let r = same-eq xs ys (both-right (eqb x y) (same xs ys) t) in
     cc
+
+-- past the arm of a number: a number from k up that is not k
+pub past : {m : ℕ} (k : ℕ) → k ≤ m → (m ≡ k → ⊥) → suc k ≤ m
+past k h n = omega arith

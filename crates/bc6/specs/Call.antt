@@ -1,0 +1,41 @@
+-- What `block_pixels` answers, and what the lent values then are. Assumes nothing.
+use mathlib.Core.Path.{_≡_}
+use mathlib.Core.Bool.{Bool}
+use mathlib.Core.List.{List, _++_}
+use Prim.Native.Nat.{ℕ, zero, suc}
+use lib.Dec.{eqb, ltb}
+use lib.ListN.{length, drop}
+use Rattle.laws.specs.Pick.{pick}
+use Rattle.bc6h_spec.specs.Answers.{done, badFormat, badBlock, shortOutput}
+use Rattle.bc6h_spec.specs.Bits.{blockSize}
+use Rattle.bc6h_spec.specs.Fields.{modeOf}
+use Rattle.bc6h_spec.specs.Picture.{valueCount}
+use Rattle.bc6h_spec.specs.Block.{pixelsOf}
+use Rattle.bc6.specs.declared.Pixels.{Pixels}
+
+-- "pixels of a block: 1, 2, 3": the first check that is met, from the format, the block's length and the room
+unfoldable pub refusalOf : ℕ → ℕ → ℕ → ℕ
+refusalOf format size room =
+    pick (ltb 1 format) badFormat
+    (pick (eqb size blockSize)
+    (pick (ltb room valueCount) shortOutput done)
+    badBlock)
+
+-- "0 (unsigned) nor 1 (signed)"
+abbrev pub isSigned : ℕ → Bool
+isSigned format = eqb format 1
+
+-- "It answers the mode number. A reserved mode is done, with mode number 0; a refusal has mode number 0 too."
+abbrev pub answerAt : ℕ → List ℕ → Pixels
+answerAt zero block = record { answer = done; mode = modeOf block }
+answerAt (suc n) block = record { answer = suc n; mode = 0 }
+
+-- "A refusal changes no lent byte or value. Done writes exactly the first 48 values ..; the rest stays."
+abbrev pub valuesAt : ℕ → List ℕ → ℕ → List ℕ → List ℕ
+valuesAt zero block format out = pixelsOf (isSigned format) block ++ drop valueCount out
+valuesAt (suc n) block format out = out
+
+-- The statement of the call: its answer r, and the lent values `after`.
+pub record Painted (block : List ℕ) (format : ℕ) (out : List ℕ) (r : Pixels) (after : List ℕ) : Type 0 where
+  pub answers : r ≡ answerAt (refusalOf format (length block) (length out)) block
+  pub holds : after ≡ valuesAt (refusalOf format (length block) (length out)) block format out

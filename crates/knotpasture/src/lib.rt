@@ -7,6 +7,7 @@ ghost use mathlib.Core.Path.{_≡_};
 ghost use mathlib.Core.List.{_++_};
 ghost use Prim.Native.Nat.{_+_, _*_, _<_, _≤_};
 ghost use lib.ListN.{length, drop};
+ghost use Rattle.copies.specs.Trust.{trusted};
 ghost use Rattle.records.specs.Store.{recordRefusal, tileAt};
 ghost use Rattle.knotpasture.specs.Packed.{twoBytes, numberCount, numberAt, numbersOf, readingWord, offsetAt, PixelsCalled, FieldsCalled, TwinsCalled};
 
@@ -121,4 +122,11 @@ pub extern "C" fn knot_twin_list(store: &[u8], marks: &mut [u8]) -> u64
     (list.kept as u64) * 0x10000
         + (list.twins as u64) * 0x100000000
         + (list.bad as u64) * 0x1000000000000
+}
+
+#[no_mangle]
+pub extern "C" fn knot_is_trusted(block: &[u8]) -> bool
+    ensures { λ r. ⌜ r ≡ trusted (now (block .entry)) ⌝ }
+{
+    trust::is_trusted(block)
 }

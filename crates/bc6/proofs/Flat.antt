@@ -17,8 +17,8 @@ use Rattle.bc6h_spec.specs.Layout.{twoRegions, precision}
 use Rattle.bc6h_spec.specs.Regions.{regionOf, mapOf}
 use Rattle.bc6h_spec.specs.Fields.{indexOf, Valid}
 use Rattle.bc6h_spec.specs.Picture.{weights8, weights16, weights, between, palette, value, picture}
-use Rattle.bc6.specs.declared.Colour.{Colour}
-use Rattle.bc6.specs.Colours.{endOf, unquantizedOf, tripleOf, entryOf}
+use Rattle.bc6_palette.specs.declared.Colour.{Colour}
+use Rattle.bc6_palette.specs.Colours.{endOf, unquantizedOf, tripleOf, entryOf}
 use Rattle.bc6.specs.Triples.{tripleAt, inTriples, valueAt, flat, onePixel, twoPixel, IndicesBelow}
 
 -- ---- values from triples

@@ -1,5 +1,5 @@
-pub mod Weights
-pub mod Ends
 pub mod Flat
 pub mod Whole
 pub mod Calls
+pub mod Values
+pub mod Firm

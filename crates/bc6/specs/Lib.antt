@@ -1,3 +1,3 @@
-pub mod Colours
 pub mod Triples
 pub mod Call
+pub mod Numbers

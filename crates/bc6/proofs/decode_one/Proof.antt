@@ -1,7 +1,7 @@
 -- `bc6::decode_one` meets its contract: the parts, joined. Assumes nothing.
 use borrow.Author.Needs.{needs}
 use lib.Dec.{lit<}
-use Rattle.bc6.proofs.Ends.{a0-is, palette-asks}
+use Rattle.bc6_palette.proofs.Ends.{a0-is, palette-asks}
 use Rattle.bc6.proofs.Flat.{indices-16, one-painted}
 use Rattle.bc6.proofs.decode_one.Statement.{statement}
 use Rattle.bc6.proofs.decode_one.Tie as tie

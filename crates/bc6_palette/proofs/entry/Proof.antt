@@ -1,0 +1,40 @@
+-- `bc6_palette::entry` meets its contract: what is interpolated stays in the format's range. Assumes nothing.
+use mathlib.Core.Path.{_≡_, sym, ap, subst, _∙_}
+use mir.Syntax.{w32}
+use mir.Val.{toZ, ofZ}
+use mir.ValLaws.{toZ-ofZ}
+use Rattle.laws.specs.Ranges.{Below, Within, InBits}
+use Rattle.bc6h_spec.specs.Half.{interpolated, finished}
+use Rattle.laws.proofs.Num.{passed}
+use Rattle.bc6h_spec.proofs.Ranges.{interpolated-in, in-16}
+use Rattle.bc6_palette.proofs.entry.Statement.{statement}
+use Rattle.bc6_palette.proofs.entry.Tie as tie
+
+interpolate-requires : tie.Need-interpolate-requires
+interpolate-requires c κs = (
+  (
+    passed (Within 65536) (c .fits .a) (in-16 (c .args .signed) (c .pre .0 .0)),
+    passed (Within 65536) (c .fits .b) (in-16 (c .args .signed) (c .pre .0 .1)),
+  ),
+  passed (Below 65) (c .fits .w) (c .pre .1),
+)
+
+-- what `interpolate` hands back, as it is read
+told : (c : tie.After-interpolate) → toZ w32 (ofZ w32 (c .interpolate .result)) ≡ interpolated (c .before .args .a) (c .before .args .b) (c .before .args .w)
+told c =
+    let s = c .before in
+    toZ-ofZ w32 (c .interpolate .result) (record { sfits = c .interpolate .ok })
+    ∙ c .interpolate .ensures
+    ∙ (λ i. interpolated (toZ-ofZ w32 (s .args .a) (s .fits .a) i) (toZ-ofZ w32 (s .args .b) (s .fits .b) i) (toZ-ofZ w32 (s .args .w) (s .fits .w) i))
+
+finish-unquantize-requires : tie.Need-finish-unquantize-requires
+finish-unquantize-requires c κs =
+    let s = c .before in
+    subst (InBits (s .args .signed) 16) (sym (told c))
+    (interpolated-in (s .args .signed) (s .args .a) (s .args .b) (s .args .w) (s .pre .1) (s .pre .0 .0) (s .pre .0 .1))
+
+returns : tie.Need-returns
+returns c = c .finish-unquantize .ensures ∙ ap (finished (c .before .before .args .signed)) (told (c .before))
+
+pub entry-spec : {M : Type 1} → statement M
+entry-spec = tie.close (tie.spec interpolate-requires finish-unquantize-requires returns)

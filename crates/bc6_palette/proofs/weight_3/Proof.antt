@@ -1,0 +1,17 @@
+-- `bc6_palette::weight_3` meets its contract. Assumes nothing.
+use borrow.Author.Needs.{needs}
+use mathlib.Core.Path.{ap, _∙_}
+use Prim.Native.Nat.{_+_, _*_, _/_}
+use native.Mathlib.Omega.{arith}
+use lib.IntN.{pos}
+use mir.Syntax.{w32}
+use mir.ValLaws.{toZ-pos}
+use Rattle.bc6_palette.proofs.Weights.{three}
+use Rattle.bc6_palette.proofs.weight_3.Statement.{statement}
+use Rattle.bc6_palette.proofs.weight_3.Tie as tie
+
+returns : tie.Need-returns
+returns c = let i = c .args .i in toZ-pos w32 (9 * i + i / 4) (omega (arith, c .pre)) ∙ ap pos (three i (c .pre))
+
+pub weight-3-spec : {M : Type 1} → statement M
+weight-3-spec = tie.close (tie.spec (λ c. search needs) (λ c. search needs) (λ c. search needs) returns)

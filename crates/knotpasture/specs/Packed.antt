@@ -1,0 +1,46 @@
+-- What the exports answer: the calls' own answers, packed into one word. Assumes nothing.
+use mathlib.Core.Path.{_≡_}
+use mathlib.Core.List.{List}
+use Prim.Native.Nat.{ℕ, zero, suc, _+_, _*_}
+use lib.ListN.{length}
+use Rattle.bc6.specs.declared.Pixels.{Pixels}
+use Rattle.bc6.specs.Call.{refusalOf, answerAt, valuesAt}
+use Rattle.records.specs.Store.{recordSize, headSize, tileOf, formatOf, recordRefusal}
+use Rattle.twins.specs.declared.TwinList.{TwinList}
+use Rattle.twins.specs.Twins.{listRefusal, marksAt}
+use Rattle.twins.specs.Twins as twins
+
+-- two bytes, the first the lowest
+abbrev pub twoBytes : ℕ → ℕ → ℕ
+twoBytes low high = low + high * 0x100
+
+-- the number in the low byte, the mode in the next
+abbrev pub pixelsWord : Pixels → ℕ
+pixelsWord p = twoBytes (p .answer) (p .mode)
+
+-- The pixels call: its answer in one word, and the lent values as the call leaves them.
+pub record PixelsCalled (block : List ℕ) (format : ℕ) (out : List ℕ) (r : ℕ) (after : List ℕ) : Type 0 where
+  pub answers : r ≡ pixelsWord (answerAt (refusalOf format (length block) (length out)) block)
+  pub holds : after ≡ valuesAt (refusalOf format (length block) (length out)) block format out
+
+-- a record: 0 in the low byte, the format in the next, the tile in the high half; a refusal: its number alone
+abbrev pub wordAt : ℕ → List ℕ → ℕ → ℕ
+wordAt zero store n = formatOf store n * 0x100 + tileOf store n * 0x100000000
+wordAt (suc number) store n = suc number
+
+abbrev pub readingWord : List ℕ → ℕ → ℕ
+readingWord store n = wordAt (recordRefusal store n) store n
+
+-- where in the store a record's block starts; 0 for a refusal
+abbrev pub offsetAt : ℕ → ℕ → ℕ
+offsetAt zero n = n * recordSize + headSize
+offsetAt (suc number) n = 0
+
+-- the number in the low byte; kept records, twins and bad records in the three sixteen-bit fields above the lowest
+abbrev pub twinsWord : TwinList → ℕ
+twinsWord list = list .answer + list .kept * 0x10000 + list .twins * 0x100000000 + list .bad * 0x1000000000000
+
+-- The twin list: its answer in one word, and the lent marks as the call leaves them.
+pub record TwinsCalled (store lent : List ℕ) (r : ℕ) (after : List ℕ) : Type 0 where
+  pub answers : r ≡ twinsWord (twins.answerAt (listRefusal (length store) (length lent)) store)
+  pub holds : after ≡ marksAt (listRefusal (length store) (length lent)) store lent

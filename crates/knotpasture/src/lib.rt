@@ -1,0 +1,65 @@
+// The public calls for C and Rust, as include/knotpasture.h declares them. A slice is a pointer and a length.
+use bc6h_spec::Answer;
+use records::Record;
+use records::RecordReading;
+ghost use mathlib.Core.Path.{_≡_};
+ghost use Prim.Native.Nat.{_+_, _*_};
+ghost use Rattle.records.specs.Store.{recordRefusal, tileAt};
+ghost use Rattle.knotpasture.specs.Packed.{twoBytes, readingWord, offsetAt, PixelsCalled, TwinsCalled};
+
+// Two bytes as one word, the first the lowest.
+fn two_bytes(low: u8, high: u8) -> u32
+    ensures { λ r. ⌜ r ≡ twoBytes low high ⌝ }
+{
+    (low as u32) + (high as u32) * 0x100
+}
+
+#[no_mangle]
+pub extern "C" fn knot_block_pixels(block: &[u8], format: u8, out: &mut [u16]) -> u32
+    ensures { λ r. ⌜ PixelsCalled (now (block .entry)) format (now (out .entry)) r (now (out .exit)) ⌝ }
+{
+    let pixels = bc6::block_pixels(block, format, out);
+    two_bytes(pixels.answer, pixels.mode)
+}
+
+#[no_mangle]
+pub extern "C" fn knot_record_at(store: &[u8], n: usize) -> u64
+    ensures { λ r. ⌜ r ≡ readingWord (now (store .entry)) n ⌝ }
+{
+    let reading = records::record_at(store, n);
+    match reading {
+        RecordReading::Record(record) => (record.format as u64) * 0x100
+            + (record.tile as u64) * 0x100000000,
+        RecordReading::Refused(number) => number as u64,
+    }
+}
+
+#[no_mangle]
+pub extern "C" fn knot_record_block(store: &[u8], n: usize) -> usize
+    ensures { λ r. ⌜ r ≡ offsetAt (recordRefusal (now (store .entry)) n) n ⌝ }
+{
+    let RecordReading::Record(_) = records::record_at(store, n) else {
+        return 0;
+    };
+    n * Record::SIZE + Record::HEAD
+}
+
+#[no_mangle]
+pub extern "C" fn knot_tile_at(store: &[u8], n: usize) -> u32
+    ensures { λ r. ⌜ r ≡ tileAt (now (store .entry)) n ⌝ }
+{
+    records::tile_at(store, n)
+}
+
+#[no_mangle]
+pub extern "C" fn knot_twin_list(store: &[u8], marks: &mut [u8]) -> u64
+    ensures { λ r. ⌜ TwinsCalled (now (store .entry)) (now (marks .entry)) r (now (marks .exit)) ⌝ }
+{
+    let list = twins::twin_list(store, marks);
+    if list.answer != Answer::DONE {
+        return list.answer as u64;
+    }
+    (list.kept as u64) * 0x10000
+        + (list.twins as u64) * 0x100000000
+        + (list.bad as u64) * 0x1000000000000
+}

@@ -1,2 +1,3 @@
 pub mod Biased
 pub mod Pixels
+pub mod Link

@@ -1,0 +1,96 @@
+-- The values that are worked out of tones are those of the palettes: one law a value, whatever the format. Assumes nothing.
+use mathlib.Core.Path.{_≡_, _∙_, refl, sym, ap, subst}
+use mathlib.Core.Bool.{Bool, true, false}
+use mathlib.Core.List.{List}
+use Prim.Native.Nat.{ℕ, zero, suc, _+_, _*_, _/_, _%_, _≤_, _<_}
+use native.Mathlib.Nat.{mod-lt}
+use native.Mathlib.Omega.{arith}
+use lib.Dec.{eqb, lit<}
+use lib.IntN.{ℤ, pos}
+use lib.ListN.{getD}
+use Rattle.laws.specs.Pick.{pick}
+use Rattle.laws.specs.Bit.{bit}
+use Rattle.laws.specs.Made.{made}
+use Rattle.laws.specs.Ranges.{Below, InBits}
+use Rattle.laws.proofs.Rows.{made-same}
+use Rattle.bc6h_spec.specs.declared.Fields.{Fields}
+use Rattle.bc6h_spec.specs.Layout.{twoRegions, precision}
+use Rattle.bc6h_spec.specs.Regions.{mapOf, regionOf}
+use Rattle.bc6h_spec.specs.Fields.{indexOf, Valid}
+use Rattle.bc6h_spec.specs.Half.{unquantized, interpolated, finished}
+use Rattle.bc6h_spec.specs.Picture.{endpoint, weights8, weights16, weights, between, palette, value, picture}
+use Rattle.bc6h_spec.proofs.Ranges.{unquantized-in, interpolated-in}
+use Rattle.bc6h_spec.proofs.Widths.{known}
+use Rattle.bc6h_spec.proofs.Shown.{endpoint-in, weight-le}
+use Rattle.bc6_palette.specs.declared.Colour.{Colour}
+use Rattle.bc6_palette.specs.Colours.{endOf, unquantizedOf}
+use Rattle.bc6_paint.specs.declared.Tone.{Tone}
+use Rattle.bc6_paint.specs.Tones.{biased, toneOf, channelOf, pointAt, finishAt, oneValue, twoValue}
+use Rattle.bc6_paint.proofs.Biased.{biased-off, interpolated-biased, finished-biased}
+
+-- a value between two numbers of 16 bits
+pub worked-out : (s : Bool) (a b : ℤ) (w : ℕ) → InBits s 16 a → InBits s 16 b → w ≤ 64
+    → finishAt s (pointAt (biased s a) (biased s b) w) ≡ finished s (interpolated a b (pos w))
+worked-out s a b w ia ib h =
+    sym
+    (finished-biased s (interpolated a b (pos w)) (pointAt (biased s a) (biased s b) w)
+    (interpolated-biased s a b (biased s a) (biased s b) w h (biased-off s a ia) (biased-off s b ib))
+    (interpolated-in s a b (pos w) (record { nonneg = tt; below = omega arith }) ia ib))
+
+-- channel c of endpoint e, unquantised and carried above zero
+unfoldable pub endTone : Bool → Fields → ℕ → Tone
+endTone s f e = toneOf s (unquantizedOf s (precision (f .mode)) (endOf s f e))
+
+channel-is : (s : Bool) (f : Fields) (e c : ℕ) → c < 3 → channelOf (endTone s f e) c ≡ biased s (unquantized s (precision (f .mode)) (endpoint s f e c))
+unfolding endTone toneOf unquantizedOf endOf
+channel-is s f e zero h = refl
+channel-is s f e (suc zero) h = refl
+channel-is s f e (suc (suc zero)) h = refl
+channel-is s f e (suc (suc (suc c))) h = absurd (omega arith)
+
+module _ (s : Bool) (f : Fields) (v : Valid f) where
+  abbrev p : ℕ
+  p = precision (f .mode)
+
+  end-in : (e c : ℕ) → e < 4 → c < 3 → InBits s 16 (unquantized s p (endpoint s f e c))
+  end-in e c he hc = unquantized-in s p (endpoint s f e c) (known f v .most) (endpoint-in s f v e c he hc)
+
+  -- the value at index i of region r
+  shown : (r c i : ℕ) (a b : ℕ) → r < 2 → c < 3 → a ≡ channelOf (endTone s f (2 * r)) c → b ≡ channelOf (endTone s f (2 * r + 1)) c
+      → finishAt s (pointAt a b (getD (weights (f .mode)) i 0)) ≡ palette s f r c i
+  unfolding palette between
+  shown r c i a b hr hc ea eb =
+      (λ j. finishAt s (pointAt ((ea ∙ channel-is s f (2 * r) c hc) j) ((eb ∙ channel-is s f (2 * r + 1) c hc) j) (getD (weights (f .mode)) i 0)))
+      ∙ worked-out s (unquantized s p (endpoint s f (2 * r) c)) (unquantized s p (endpoint s f (2 * r + 1) c)) (getD (weights (f .mode)) i 0)
+      (end-in (2 * r) c (omega arith) hc) (end-in (2 * r + 1) c (omega arith) hc) (weight-le (f .mode) i)
+
+  pub one-shown : twoRegions (f .mode) ≡ false → (j : ℕ) → oneValue s (endTone s f 0) (endTone s f 1) (f .indices) j ≡ value s f j
+  unfolding oneValue value regionOf
+  one-shown t j =
+      let w : weights16 ≡ weights (f .mode) = rw t refl in
+      ap (λ (ws : List ℕ). finishAt s (pointAt (channelOf (endTone s f 0) (j % 3)) (channelOf (endTone s f 1) (j % 3)) (getD ws (indexOf f (j / 3)) 0))) w
+      ∙ shown 0 (j % 3) (indexOf f (j / 3)) _ _ (lit< tt) (mod-lt j (lit< tt)) refl refl
+      ∙ ap (λ (r : ℕ). palette s f r (j % 3) (indexOf f (j / 3))) (sym (rw t refl))
+
+  pub two-shown : twoRegions (f .mode) ≡ true → (map : ℕ) → map ≡ mapOf (f .partition) → (j : ℕ)
+      → twoValue s (endTone s f 0) (endTone s f 1) (endTone s f 2) (endTone s f 3) map (f .indices) j ≡ value s f j
+  unfolding twoValue value regionOf
+  two-shown t map em j =
+      let w : weights8 ≡ weights (f .mode) = rw t refl in
+      let i = indexOf f (j / 3) in
+      let c = j % 3 in
+      ap (λ (ws : List ℕ).
+      finishAt s
+      (pointAt (pick (eqb (bit map (j / 3)) 1) (channelOf (endTone s f 2) c) (channelOf (endTone s f 0) c))
+      (pick (eqb (bit map (j / 3)) 1) (channelOf (endTone s f 3) c) (channelOf (endTone s f 1) c)) (getD ws i 0))) w
+      ∙ by-region (bit map (j / 3)) (mod-lt _ (lit< tt)) i c (mod-lt j (lit< tt))
+      ∙ ap (λ (r : ℕ). palette s f r c i) (ap (λ (m : ℕ). bit m (j / 3)) em ∙ sym (rw t refl))
+    where
+      by-region : (r : ℕ) → r < 2 → (i c : ℕ) → c < 3
+          → finishAt s
+          (pointAt (pick (eqb r 1) (channelOf (endTone s f 2) c) (channelOf (endTone s f 0) c))
+          (pick (eqb r 1) (channelOf (endTone s f 3) c) (channelOf (endTone s f 1) c)) (getD (weights (f .mode)) i 0))
+          ≡ palette s f r c i
+      by-region zero h i c k = shown 0 c i _ _ h k refl refl
+      by-region (suc zero) h i c k = shown 1 c i _ _ h k refl refl
+      by-region (suc (suc r)) h i c k = absurd (omega arith)

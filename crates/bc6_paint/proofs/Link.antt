@@ -1,18 +1,18 @@
 -- The values that are worked out of tones are those of the palettes: one law a value, whatever the format. Assumes nothing.
 use mathlib.Core.Path.{_≡_, _∙_, refl, sym, ap, subst}
 use mathlib.Core.Bool.{Bool, true, false}
-use mathlib.Core.List.{List}
-use Prim.Native.Nat.{ℕ, zero, suc, _+_, _*_, _/_, _%_, _≤_, _<_}
+use mathlib.Core.List.{List, _++_}
+use Prim.Native.Nat.{ℕ, zero, suc, _+_, _*_, _/_, _%_, _^_, _≤_, _<_}
 use native.Mathlib.Nat.{mod-lt}
 use native.Mathlib.Omega.{arith}
 use lib.Dec.{eqb, lit<}
 use lib.IntN.{ℤ, pos}
-use lib.ListN.{getD}
+use lib.ListN.{getD, drop}
 use Rattle.laws.specs.Pick.{pick}
 use Rattle.laws.specs.Bit.{bit}
 use Rattle.laws.specs.Made.{made}
 use Rattle.laws.specs.Ranges.{Below, InBits}
-use Rattle.laws.proofs.Rows.{made-same}
+use Rattle.laws.proofs.Rows.{made-cong}
 use Rattle.bc6h_spec.specs.declared.Fields.{Fields}
 use Rattle.bc6h_spec.specs.Layout.{twoRegions, precision}
 use Rattle.bc6h_spec.specs.Regions.{mapOf, regionOf}
@@ -25,7 +25,7 @@ use Rattle.bc6h_spec.proofs.Shown.{endpoint-in, weight-le}
 use Rattle.bc6_palette.specs.declared.Colour.{Colour}
 use Rattle.bc6_palette.specs.Colours.{endOf, unquantizedOf}
 use Rattle.bc6_paint.specs.declared.Tone.{Tone}
-use Rattle.bc6_paint.specs.Tones.{biased, toneOf, channelOf, pointAt, finishAt, oneValue, twoValue}
+use Rattle.bc6_paint.specs.Tones.{biased, toneOf, channelOf, pointAt, finishAt, IndicesBelow, oneValue, twoValue, PaintedAs}
 use Rattle.bc6_paint.proofs.Biased.{biased-off, interpolated-biased, finished-biased}
 
 -- a value between two numbers of 16 bits
@@ -94,3 +94,39 @@ module _ (s : Bool) (f : Fields) (v : Valid f) where
       by-region zero h i c k = shown 0 c i _ _ h k refl refl
       by-region (suc zero) h i c k = shown 1 c i _ _ h k refl refl
       by-region (suc (suc r)) h i c k = absurd (omega arith)
+
+-- ---- what the code has in hand
+
+-- an endpoint's tone, by the steps that made it
+pub tone-is : (s : Bool) (f : Fields) (e p : ℕ) (c : Colour) (t : Tone) → p ≡ precision (f .mode) → c ≡ endOf s f e → t ≡ toneOf s (unquantizedOf s p c)
+    → t ≡ endTone s f e
+unfolding endTone
+tone-is s f e p c t ep ec et = et ∙ (λ i. toneOf s (unquantizedOf s (ep i) (ec i)))
+
+module _ (s : Bool) (f : Fields) (v : Valid f) where
+  pub indices-16 : twoRegions (f .mode) ≡ false → IndicesBelow 16 (f .indices)
+  indices-16 t k h = subst (λ (b : Bool). indexOf f k < 2 ^ pick b 3 4) t (v .index-fits k h)
+
+  pub indices-8 : twoRegions (f .mode) ≡ true → IndicesBelow 8 (f .indices)
+  indices-8 t k h = subst (λ (b : Bool). indexOf f k < 2 ^ pick b 3 4) t (v .index-fits k h)
+
+  pub one-picture : twoRegions (f .mode) ≡ false → (a b : Tone) → a ≡ endTone s f 0 → b ≡ endTone s f 1
+      → made (oneValue s a b (f .indices)) 48 ≡ picture s f
+  unfolding picture
+  one-picture t a b ea eb =
+      (λ i. made (oneValue s (ea i) (eb i) (f .indices)) 48)
+      ∙ made-cong (oneValue s (endTone s f 0) (endTone s f 1) (f .indices)) (value s f) (one-shown s f v t) 48
+
+  pub two-picture : twoRegions (f .mode) ≡ true → (a b c d : Tone) (map : ℕ) → a ≡ endTone s f 0 → b ≡ endTone s f 1 → c ≡ endTone s f 2 → d ≡ endTone s f 3
+      → map ≡ mapOf (f .partition) → made (twoValue s a b c d map (f .indices)) 48 ≡ picture s f
+  unfolding picture
+  two-picture t a b c d map ea eb ec ed em =
+      (λ i. made (twoValue s (ea i) (eb i) (ec i) (ed i) map (f .indices)) 48)
+      ∙ made-cong (twoValue s (endTone s f 0) (endTone s f 1) (endTone s f 2) (endTone s f 3) map (f .indices)) (value s f) (two-shown s f v t map em) 48
+
+-- the same values, under another name
+pub written-as : (x y out after : List ℕ) → after ≡ x ++ drop 48 out → x ≡ y → after ≡ y ++ drop 48 out
+written-as x y out after h e = h ∙ ap (λ (l : List ℕ). l ++ drop 48 out) e
+
+pub painted-as : {x y out after : List ℕ} {n : ℕ} → PaintedAs x out n after → x ≡ y → PaintedAs y out n after
+painted-as {out = out} {after = after} {n = n} h e = subst (λ (l : List ℕ). PaintedAs l out n after) e h

@@ -129,7 +129,7 @@ module _ (f : ℕ → ℕ) where
 
   -- every pixel is painted and counted
   pub all-painted : (l out : List ℕ) (infinite half : ℕ) → Made f (3 * (8 * half)) l out → Counted f (3 * (8 * half)) infinite → half ≤ 2 → 2 ≤ half
-      → PaintedAs f l infinite out
+      → PaintedAs (made f 48) l infinite out
   all-painted l out infinite half e n h k =
       let two : 3 * (8 * half) ≡ 48 = omega arith in
       record { holds = all-made f l out half e h k; counts = counted-shift _ _ infinite two n }

@@ -8,7 +8,7 @@ use lib.IntN.{ℤ, pos, natAbs, _+ℤ_}
 use lib.ListN.{getD, drop}
 use Rattle.laws.specs.Pick.{pick}
 use Rattle.laws.specs.Bit.{bit}
-use Rattle.laws.specs.Made.{made, countOf}
+use Rattle.laws.specs.Made.{countOf}
 use Rattle.bc6h_spec.specs.Half.{minusInfinity}
 use Rattle.bc6h_spec.specs.Picture.{weights8, weights16}
 use Rattle.bc6_palette.specs.declared.Colour.{Colour}
@@ -59,7 +59,7 @@ twoValue signed a b c d map indices j =
     (pointAt (pick second (channelOf c (j % 3)) (channelOf a (j % 3))) (pick second (channelOf d (j % 3)) (channelOf b (j % 3)))
     (getD weights8 (getD indices (j / 3) 0) 0))
 
--- the 48 values of f are written, and the number that comes back is how many of them are minus infinity
-pub record PaintedAs (f : ℕ → ℕ) (out : List ℕ) (infinite : ℕ) (after : List ℕ) : Type 0 where
-  pub holds : after ≡ made f 48 ++ drop 48 out
-  pub counts : infinite ≡ countOf minusInfinity (made f 48)
+-- the values are written, and the number that comes back is how many of them are minus infinity
+pub record PaintedAs (values out : List ℕ) (infinite : ℕ) (after : List ℕ) : Type 0 where
+  pub holds : after ≡ values ++ drop 48 out
+  pub counts : infinite ≡ countOf minusInfinity values

@@ -189,7 +189,7 @@ pub fn paint_one_unsigned(a: Tone, b: Tone, indices: [u8; 16], out: &mut [u16])
 // The same, signed; and how many of the values are minus infinity.
 pub fn paint_one_signed(a: Tone, b: Tone, indices: [u8; 16], out: &mut [u16]) -> u16
     requires { ⌜ IndicesBelow 16 indices × (48 ≤ length (now out)) ⌝ }
-    ensures { λ r. ⌜ PaintedAs (oneValue true a b indices) (now (out .entry)) r (now (out .exit)) ⌝ }
+    ensures { λ r. ⌜ PaintedAs (made (oneValue true a b indices) 48) (now (out .entry)) r (now (out .exit)) ⌝ }
 {
     let mut infinite = 0u16;
     for half in 0..2usize {
@@ -250,7 +250,7 @@ pub fn paint_two_signed(
     out: &mut [u16],
 ) -> u16
     requires { ⌜ IndicesBelow 8 indices × (48 ≤ length (now out)) ⌝ }
-    ensures { λ r. ⌜ PaintedAs (twoValue true a b c d map indices) (now (out .entry)) r (now (out .exit)) ⌝ }
+    ensures { λ r. ⌜ PaintedAs (made (twoValue true a b c d map indices) 48) (now (out .entry)) r (now (out .exit)) ⌝ }
 {
     let mut infinite = 0u16;
     for half in 0..2usize {

@@ -16,6 +16,11 @@ pub picks {ℓ κ} : {X : Type ℓ} (t : Bool) (x y : X) (P : X → Type κ) →
 picks true x y P f g = f refl
 picks false x y P f g = g refl
 
+-- a test by its two outcomes, each with its equation
+pub cases {ℓ} : {C : Type ℓ} (t : Bool) → (t ≡ true → C) → (t ≡ false → C) → C
+cases true f g = f refl
+cases false f g = g refl
+
 pub both-left : (a b : Bool) → T (both a b) → T a
 both-left true b t = tt
 both-left false b t = t

@@ -19,11 +19,11 @@ use Rattle.bc6_palette.specs.Colours.{black}
 use Rattle.bc6.specs.Triples.{tripleAt, inTriples}
 
 module _ (s : Bool) (block : List ℕ) where
-  pixels-none : (m : ℕ) → modeOf block ≡ m → m ≡ 0 → pixelsOf s block ≡ replicate 48 0
+  pub pixels-none : modeOf block ≡ 0 → pixelsOf s block ≡ replicate 48 0
   unfolding pixelsOf
-  pixels-none m e z = let k : modeOf block ≡ 0 = e ∙ z in rw k refl
+  pixels-none z = rw z refl
 
-  pixels-some : 1 ≤ modeOf block → pixelsOf s block ≡ picture s (fieldsOf block)
+  pub pixels-some : 1 ≤ modeOf block → pixelsOf s block ≡ picture s (fieldsOf block)
   unfolding pixelsOf
   pixels-some h = let n : modeOf block ≡ 0 → ⊥ = λ q. omega arith in rw (ne-eqb (modeOf block) 0 n) refl
 
@@ -47,7 +47,7 @@ module _ (s : Bool) (block : List ℕ) where
 
     pub reserved : f .mode ≡ 0 → replicate 16 black ≡ inTriples (pixelsOf s block)
     unfolding inTriples tripleAt made
-    reserved z = rw (pixels-none (f .mode) (sym mode-is) z) refl
+    reserved z = rw (pixels-none (sym mode-is ∙ z)) refl
 
     pub decoded : (q : List (List ℕ)) → (f .mode ≡ 0 → ⊥) → q ≡ inTriples (picture s f) → q ≡ inTriples (pixelsOf s block)
     decoded q n h = h ∙ ap (λ (x : Fields). inTriples (picture s x)) e ∙ ap inTriples (sym (pixels-some (some n)))

@@ -1,2 +1,3 @@
 pub mod Triples
 pub mod Call
+pub mod Numbers

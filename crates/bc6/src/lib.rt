@@ -4,6 +4,8 @@ use bc6_palette::ModeBits;
 use bc6h_spec::Answer;
 use bc6h_spec::Block;
 use bc6h_spec::Fields;
+use bcn_data::Subset2Map;
+use bcn_util::BitStream;
 ghost use mathlib.Core.Path.{_≡_};
 ghost use mathlib.Core.Bool.{true, false};
 ghost use mathlib.Core.List.{_++_};
@@ -35,17 +37,17 @@ fn paint_one(palette: [[u16; 3]; 16], indices: [u8; 16]) -> [[u16; 3]; 16]
 fn paint_two(
     palette0: [[u16; 3]; 8],
     palette1: [[u16; 3]; 8],
-    map: u16,
+    partition: Subset2Map,
     indices: [u8; 16],
 ) -> [[u16; 3]; 16]
     requires { ⌜ IndicesBelow 8 indices ⌝ }
-    ensures { λ r. ⌜ r ≡ made (twoPixel palette0 palette1 map indices) 16 ⌝ }
+    ensures { λ r. ⌜ r ≡ made (twoPixel palette0 palette1 (partition .«subset_indexes») indices) 16 ⌝ }
 {
     let black = Colour::black();
     let mut picture = [black; 16];
     for k in 0..16usize {
         let at = indices[k] as usize;
-        if (map >> k) % 2 == 0 {
+        if partition.get_subset_index(k as u8) == 0 {
             picture[k] = palette0[at];
         } else {
             picture[k] = palette1[at];
@@ -77,9 +79,9 @@ fn decode_two(f: Fields, signed: bool) -> [[u16; 3]; 16]
     let d = a.other(f, 3, bits, signed);
     let palette0 = bc6_palette::generate_palette_unquantized_two(a, b, bits.a0, signed);
     let palette1 = bc6_palette::generate_palette_unquantized_two(c, d, bits.a0, signed);
-    let map = bcn_data::region_map(f.partition as usize);
+    let partition = Subset2Map::of(f.partition as usize);
     let indices = f.indices;
-    paint_two(palette0, palette1, map, indices)
+    paint_two(palette0, palette1, partition, indices)
 }
 
 // The sixteen triples of a block; a reserved mode shows zeros.
@@ -90,7 +92,8 @@ pub fn decode_bc6_block(block: &[u8], signed: bool) -> [[u16; 3]; 16]
     let f = bc6_fields::fields_of(block);
     let mode = f.mode;
     if mode == 0 {
-        return [[0u16; 3]; 16];
+        let black = Colour::black();
+        return [black; 16];
     }
     if mode <= 10 {
         return decode_two(f, signed);
@@ -137,7 +140,7 @@ pub fn block_pixels(block: &[u8], format: u8, out: &mut [u16]) -> Pixels
     if out.len() < Block::VALUES {
         return Pixels::refused(Answer::SHORT_OUTPUT);
     }
-    let mode = bc6_fields::mode_of(bcn_util::BitStream::new(block));
+    let mode = bc6_fields::extract_mode(BitStream::new(block));
     let picture = decode_bc6_block(block, format == 1);
     write_values(picture, out);
     Pixels {

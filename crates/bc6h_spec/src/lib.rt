@@ -4,6 +4,7 @@ ghost use mathlib.Core.Path.{_≡_};
 ghost use mathlib.Core.List.{[], _∷_};
 ghost use Rattle.bc6h_spec.specs.Answers.{answers};
 ghost use Rattle.bc6h_spec.specs.Bits.{blockSize};
+ghost use Rattle.bc6h_spec.specs.Fields.{noFields};
 ghost use Rattle.bc6h_spec.specs.Half.{highestPattern};
 ghost use Rattle.bc6h_spec.specs.Picture.{valueCount};
 
@@ -14,6 +15,20 @@ pub struct Fields {
     pub partition: u8,
     pub region1: u8,
     pub indices: [u8; 16],
+}
+
+impl Fields {
+    pub fn none() -> Fields
+        ensures { λ r. ⌜ r ≡ noFields ⌝ }
+    {
+        Fields {
+            mode: 0,
+            endpoints: [0; 12],
+            partition: 0,
+            region1: 0,
+            indices: [0; 16],
+        }
+    }
 }
 
 // What a call answers.

@@ -1,17 +1,21 @@
-// A block's bits, read from the lowest.
+// A block's bits, read from the lowest, and the indexes that end it.
 ghost use mathlib.Core.Path.{_≡_};
-ghost use Prim.Native.Nat.{_+_, _*_, _/_, _%_, _^_, _≤_, _<_};
+ghost use mathlib.Core.List.{[], _∷_};
+ghost use Prim.Native.Nat.{_+_, _-_, _*_, _/_, _%_, _^_, _≤_, _<_};
 ghost use lib.ListN.{length};
+ghost use Rattle.laws.specs.Packed.{opened};
 ghost use Rattle.bc6h_spec.specs.Bits.{numberOf};
-ghost use Rattle.bcn_util.specs.Stream.{number, LowBytes};
+ghost use Rattle.bcn_util.specs.Stream.{number, LowBytes, Read};
+ghost use Rattle.bcn_util.specs.Indexed.{indexesOf, indexAt};
 
+// The bits of a block that are left: two words, moved as one.
 pub struct BitStream {
     pub lo: u64,
     pub hi: u64,
 }
 
-// Bits that were read, and the stream shortened by them.
-pub struct Taken {
+// Bits that were read, the first the lowest, and the stream shortened by them.
+pub struct Consumed {
     pub bits: u64,
     pub rest: BitStream,
 }
@@ -52,20 +56,88 @@ impl BitStream {
         }
     }
 
-    // The lowest n bits, and the stream without them.
-    pub fn take(self, n: u64) -> Taken
-        requires { ⌜ (1 ≤ n) × (n ≤ 63) ⌝ }
-        ensures { λ r. ⌜ (r .bits ≡ number self % 2 ^ n) × (number (r .rest) ≡ number self / 2 ^ n) ⌝ }
+    // The stream without its lowest bits.
+    pub fn skip(self, count: u64) -> BitStream
+        requires { ⌜ count < 128 ⌝ }
+        ensures { λ r. ⌜ number r ≡ number self / 2 ^ count ⌝ }
     {
+        if count == 0 {
+            return self;
+        }
         let low = self.lo;
         let high = self.hi;
-        let p = 1u64 << n;
-        Taken {
-            bits: low % p,
-            rest: BitStream {
-                lo: (low >> n) + (high << (64 - n)),
-                hi: high >> n,
-            },
+        if count < 64 {
+            return BitStream {
+                lo: (low >> count) + (high << (64 - count)),
+                hi: high >> count,
+            };
         }
+        BitStream {
+            lo: high >> (count - 64),
+            hi: 0,
+        }
+    }
+
+    pub fn consume_bits(self, count: u64) -> Consumed
+        requires { ⌜ count ≤ 63 ⌝ }
+        ensures { λ r. ⌜ Read (number self) count (r .bits) (number (r .rest)) ⌝ }
+    {
+        let low = self.lo;
+        let above = 1u64 << count;
+        Consumed {
+            bits: low % above,
+            rest: self.skip(count),
+        }
+    }
+}
+
+// Sixteen indexes at full width in one word, pixel 0 lowest.
+pub struct Indexes {
+    pub uncompressed: u64,
+    pub bits: u64,
+}
+
+impl Indexes {
+    // One region: pixel 0 is stored with one bit fewer.
+    pub fn new_p1(bits: u64, stream: BitStream) -> Indexes
+        requires { ⌜ (1 ≤ bits) × (bits ≤ 4) ⌝ }
+        ensures { λ r. ⌜ r ≡ indexesOf bits (0 ∷ []) (number stream) ⌝ }
+    {
+        let read = stream.consume_bits(16 * bits - 1);
+        Indexes {
+            uncompressed: Indexes::decompress_single_index(bits, read.bits, 0),
+            bits,
+        }
+    }
+
+    // Two regions: so is the fix-up pixel of region 1.
+    pub fn new_p2(bits: u64, stream: BitStream, fixup: u64) -> Indexes
+        requires { ⌜ (1 ≤ bits) × (bits ≤ 4) × (1 ≤ fixup) × (fixup ≤ 15) ⌝ }
+        ensures { λ r. ⌜ r ≡ indexesOf bits (0 ∷ fixup ∷ []) (number stream) ⌝ }
+    {
+        let read = stream.consume_bits(16 * bits - 2);
+        let first = Indexes::decompress_single_index(bits, read.bits, 0);
+        Indexes {
+            uncompressed: Indexes::decompress_single_index(bits, first, fixup),
+            bits,
+        }
+    }
+
+    // A zero put in as the top bit of an index. What stands above is moved up by one, that is, added once more.
+    fn decompress_single_index(bits: u64, compressed: u64, index: u64) -> u64
+        requires { ⌜ (1 ≤ bits) × (bits ≤ 4) × (index ≤ 15) × (compressed < 2 ^ 63) ⌝ }
+        ensures { λ r. ⌜ r ≡ opened (bits * index + (bits - 1)) compressed ⌝ }
+    {
+        let top = bits * index + (bits - 1);
+        compressed + ((compressed >> top) << top)
+    }
+
+    pub fn get_index(self, pixel: u64) -> u8
+        requires { ⌜ (pixel ≤ 15) × (self .bits ≤ 4) ⌝ }
+        ensures { λ r. ⌜ r ≡ indexAt self pixel ⌝ }
+    {
+        let bits = self.bits;
+        let above = 1u64 << bits;
+        ((self.uncompressed >> (bits * pixel)) % above) as u8
     }
 }

@@ -3,7 +3,7 @@
 ghost use mathlib.Core.Path.{_≡_};
 ghost use mathlib.Core.List.{[], _∷_};
 ghost use Prim.Native.Nat.{_<_};
-ghost use Rattle.records.specs.Store.{recordSize, headSize, storeLimit, tileAt, partAt, recordRefusal, Read};
+ghost use Rattle.records.specs.Store.{recordSize, headSize, storeLimit, tileAt, numberOf, partAt, recordRefusal, Read};
 use bc6h_spec::Answer;
 use bc6h_spec::Block;
 
@@ -16,6 +16,18 @@ pub struct Record {
 pub enum RecordReading {
     Record(Record),
     Refused(u8),
+}
+
+impl RecordReading {
+    // The number that a reading stands for: 0 for a record.
+    pub fn number(self) -> u8
+        ensures { λ r. ⌜ r ≡ numberOf self ⌝ }
+    {
+        match self {
+            RecordReading::Record(_) => Answer::DONE,
+            RecordReading::Refused(number) => number,
+        }
+    }
 }
 
 impl Record {

@@ -24,7 +24,7 @@ returns-3 c = painted-output _ _ _ _ (omega arith) (omega arith) (omega arith) (
 cast-t12 : tie.Need-cast-t12
 cast-t12 c =
     let m = c .before .before .before .before .before in
-    let h : m .mode-of .result ≤ 14 = rw (m .mode-of .ensures) (mode-range _) in
+    let h : m .extract-mode .result ≤ 14 = rw (m .extract-mode .ensures) (mode-range _) in
     record { fits = omega arith }
 
 returns-4 : tie.Need-returns-4
@@ -34,7 +34,7 @@ returns-4 c =
     let d = w .before .before in
     let m = d .before in
     painted-done _ _ _ _ _ _ (omega arith) (omega arith) (omega arith)
-    (m .mode-of .ensures ∙ ap modeIn (m .before .new .ensures))
+    (m .extract-mode .ensures ∙ ap modeIn (m .before .new .ensures))
     (ap flat (d .decode-bc6-block .ensures) ∙ flat-triples _ (pixels-length _ _))
     (w .write-values .ensures)
 

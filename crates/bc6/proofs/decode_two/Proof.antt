@@ -1,6 +1,8 @@
 -- `bc6::decode_two` meets its contract: the parts, joined. Assumes nothing.
 use borrow.Author.Needs.{needs}
+use mathlib.Core.Path.{ap}
 use lib.Dec.{lit<}
+use Rattle.bcn_data.specs.declared.Subset2Map.{Subset2Map}
 use Rattle.bc6_palette.proofs.Ends.{a0-is, palette-asks}
 use Rattle.bc6.proofs.Flat.{indices-8, two-painted}
 use Rattle.bc6.proofs.decode_two.Statement.{statement}
@@ -33,7 +35,7 @@ returns c =
     two-painted (s .args .signed) _ (s .pre .0) _ _ _ (a0-is (s .args .signed) _ (s .pre .0) _ (m .of .ensures))
     (o .before .before .before .first .ensures) (o .before .before .other .ensures) _ _ _ _ _ _ (s .pre .1) (o .before .other2 .ensures) (o .other3 .ensures)
     (p .before .generate-palette-unquantized-two .ensures) (p .generate-palette-unquantized-two2 .ensures)
-    (c .before .before .region-map .ensures) (c .paint-two .ensures)
+    (ap (λ (m : Subset2Map). m .«subset_indexes») (c .before .before .of2 .ensures)) (c .paint-two .ensures)
 
 pub decode-two-spec : {M : Type 1} → statement M
 decode-two-spec =

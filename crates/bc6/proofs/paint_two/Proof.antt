@@ -16,29 +16,31 @@ use Rattle.bc6.proofs.paint_two.Statement.{statement}
 use Rattle.bc6.proofs.paint_two.Tie as tie
 
 abbrev Inv-loop : tie.InvT-loop
-Inv-loop map palette0 palette1 indices picture₀ k₀ picture k = (k ≤ 16) × (picture ≡ made (twoPixel palette0 palette1 map indices) k ++ drop k picture₀)
+Inv-loop partition palette0 palette1 indices picture₀ k₀ picture k = (k ≤ 16) × (picture ≡ made (twoPixel palette0 palette1 (partition .«subset_indexes») indices) k ++ drop k picture₀)
 
 abbrev μ-loop : tie.MeasureT-loop
-μ-loop map palette0 palette1 indices picture₀ k₀ picture k = 16 - k
+μ-loop partition palette0 palette1 indices picture₀ k₀ picture k = 16 - k
 
-in-region-0 : (p₀ p₁ : List (List ℕ)) (map k : ℕ) (indices : List ℕ) → bit map k ≡ 0 → getD p₀ (getD indices k 0) [] ≡ twoPixel p₀ p₁ map indices k
-unfolding twoPixel onePixel
-in-region-0 p₀ p₁ map k indices e = rw (eq-eqb (bit map k) 0 e) refl
+module _ (p₀ p₁ : List (List ℕ)) (map k region : ℕ) (indices : List ℕ) (e : region ≡ bit map k) where
+  in-region-0 : region ≡ 0 → getD p₀ (getD indices k 0) [] ≡ twoPixel p₀ p₁ map indices k
+  unfolding twoPixel onePixel
+  in-region-0 z = rw (← e, eq-eqb region 0 z) refl
 
-in-region-1 : (p₀ p₁ : List (List ℕ)) (map k : ℕ) (indices : List ℕ) → (bit map k ≡ 0 → ⊥) → getD p₁ (getD indices k 0) [] ≡ twoPixel p₀ p₁ map indices k
-unfolding twoPixel onePixel
-in-region-1 p₀ p₁ map k indices e = rw (ne-eqb (bit map k) 0 e) refl
+  in-region-1 : (region ≡ 0 → ⊥) → getD p₁ (getD indices k 0) [] ≡ twoPixel p₀ p₁ map indices k
+  unfolding twoPixel onePixel
+  in-region-1 n = rw (← e, ne-eqb region 0 n) refl
 
 index-lt : (c : tie.In-loop Inv-loop μ-loop) → getD (c .before .before .before .args .t4) (c .before .loop .k) 0 < 8
 index-lt c = c .before .before .before .pre (c .before .loop .k) (omega arith)
 
 loop-again : tie.Need-loop-again Inv-loop μ-loop
 loop-again c =
-    let l = c .before .before .loop in (
+    let l = c .before .before .before .loop in
+    let r = c .before .get-subset-index .ensures in (
       search needs,
       ⊎-elim
-          (λ w. made-store _ _ _ _ _ _ (l .inv .1) (w .2) (in-region-0 _ _ _ _ _ (w .0 .taken)) (omega arith))
-          (λ w. made-store _ _ _ _ _ _ (l .inv .1) (w .2) (in-region-1 _ _ _ _ _ (w .0 .left)) (omega arith))
+          (λ w. made-store _ _ _ _ _ _ (l .inv .1) (w .2) (in-region-0 _ _ _ _ _ _ r (w .0 .taken)) (omega arith))
+          (λ w. made-store _ _ _ _ _ _ (l .inv .1) (w .2) (in-region-1 _ _ _ _ _ _ r (w .0 .left)) (omega arith))
           (c .if1 .came),
     )
 
@@ -56,13 +58,13 @@ paint-two-spec =
     (λ c. search needs)
     (λ c. search needs)
     (λ c. search needs)
+    (λ c κs. search needs)
+    (λ c. omega (arith, index-lt (c .before .before)))
+    (λ c. omega (arith, index-lt (c .before .before)))
     (λ c. search needs)
-    (λ c. omega (arith, index-lt (c .before)))
-    (λ c. omega (arith, index-lt (c .before)))
     (λ c. search needs)
-    (λ c. search needs)
-    (λ c. omega (arith, index-lt (c .before)))
-    (λ c. omega (arith, index-lt (c .before)))
+    (λ c. omega (arith, index-lt (c .before .before)))
+    (λ c. omega (arith, index-lt (c .before .before)))
     (λ c. search needs)
     (λ c. search needs)
     (λ c. search needs)

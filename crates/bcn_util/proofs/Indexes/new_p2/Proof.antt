@@ -1,0 +1,33 @@
+-- `Indexes::new_p2` meets its contract. Assumes nothing.
+use borrow.Author.Needs.{needs}
+use mathlib.Core.Path.{_∙_, ap}
+use Rattle.laws.specs.Packed.{opened}
+use Rattle.bcn_util.proofs.Expand.{read-short, opened-short}
+use Rattle.bcn_util.proofs.Indexes.new_p2.Statement.{statement}
+use Rattle.bcn_util.proofs.Indexes.new_p2.Tie as tie
+
+first-requires : tie.Need-decompress-single-index-requires
+first-requires c κs = (search needs, search needs, search needs, read-short _ _ _ (c .consume-bits .ensures .next) (search needs))
+
+second-requires : tie.Need-decompress-single-index-requires-2
+second-requires c κs = (
+  search needs,
+  search needs,
+  search needs,
+  opened-short _ _ _ _ _ (c .before .consume-bits .ensures .next) (search needs) (c .decompress-single-index .ensures),
+)
+
+returns : tie.Need-returns
+returns c =
+    λ i.
+    record {
+      uncompressed =
+          (c .decompress-single-index2 .ensures
+          ∙ ap (opened _) (c .before .decompress-single-index .ensures ∙ ap (opened _) (c .before .before .consume-bits .ensures .next)))
+          i;
+      bits = c .before .before .before .args .bits;
+    }
+
+pub new-p2-spec : {M : Type 1} → statement M
+new-p2-spec =
+    tie.close (tie.spec (λ c. search needs) (λ c. search needs) (λ c κs. search needs) first-requires second-requires returns)

@@ -1,0 +1,11 @@
+pub mod Demand3
+pub mod Trust
+pub mod Needed
+pub mod Wide
+pub mod SameFields
+pub mod Region
+pub mod Palettes
+pub mod Mixing
+pub mod Staircase
+pub mod Endpoints
+pub mod Fixups

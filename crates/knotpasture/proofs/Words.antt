@@ -1,0 +1,85 @@
+-- The words that the exports answer, from what the calls ensure. Assumes nothing.
+use mathlib.Core.Path.{_≡_, refl, sym, ap, _∙_}
+use mathlib.Core.List.{List, [], _∷_}
+use Prim.Native.Nat.{ℕ, zero, suc, _+_, _*_, _<_, _≤_}
+use native.Mathlib.Omega.{arith}
+use lib.ListN.{length}
+use Rattle.bc6.specs.declared.Pixels.{Pixels}
+use Rattle.bc6.specs.Call.{Painted}
+use Rattle.records.specs.declared.Record.{Record}
+use Rattle.records.specs.declared.RecordReading.{RecordReading}
+use Rattle.records.specs.declared.RecordReading.the-variants as reading
+use Rattle.records.specs.Store.{recordSize, headSize, storeLimit, tileOf, formatOf, recordRefusal, Read}
+use Rattle.records.proofs.Refusals.{known}
+use Rattle.records.proofs.Readings.{unrefused, refused}
+use Rattle.twins.specs.declared.TwinList.{TwinList}
+use Rattle.twins.specs.Twins.{answerAt, listRefusal, Listed}
+use Rattle.twins.proofs.Listing.{answer-number, counts-add-up, whole}
+use Rattle.knotpasture.specs.Packed.{pixelsWord, PixelsCalled, wordAt, readingWord, offsetAt, twinsWord, TwinsCalled}
+
+-- ---- the pixels call
+
+pub called : {block : List ℕ} {format : ℕ} {out : List ℕ} {p : Pixels} {after : List ℕ} {r : ℕ}
+    → Painted block format out p after → r ≡ pixelsWord p → PixelsCalled block format out r after
+called d e = record { answers = e ∙ ap pixelsWord (d .answers); holds = d .holds }
+
+pub one-outcome : {block : List ℕ} {format : ℕ} {out : List ℕ} {r s : ℕ} {a b : List ℕ}
+    → PixelsCalled block format out r a → PixelsCalled block format out s b → (r ≡ s) × (a ≡ b)
+one-outcome d e = (d .answers ∙ sym (e .answers), d .holds ∙ sym (e .holds))
+
+-- ---- the record calls
+
+refusal-word : (store : List ℕ) (n number : ℕ) → (number ≡ 0 → ⊥) → number ≡ wordAt number store n
+refusal-word store n zero h = absurd (h refl)
+refusal-word store n (suc number) h = refl
+
+no-offset : (number n : ℕ) → (number ≡ 0 → ⊥) → 0 ≡ offsetAt number n
+no-offset zero n h = absurd (h refl)
+no-offset (suc number) n h = refl
+
+module _ {store : List ℕ} {n : ℕ} {x : RecordReading} (d : Read store n x) where
+  pub record-word : {r : Record} → x ≡ reading.Record r → r .format * 0x100 + r .tile * 0x100000000 ≡ readingWord store n
+  record-word {r} e =
+      let u = unrefused d e in
+      let v : r .tile ∷ r .format ∷ [] ≡ tileOf store n ∷ formatOf store n ∷ [] = rw (e, u) at (d .gives) in
+      let t : r .tile ≡ tileOf store n = cc in
+      let f : r .format ≡ formatOf store n = cc in
+      rw (u, t, f)
+
+  pub refused-word : {number : ℕ} → x ≡ reading.Refused number → number ≡ readingWord store n
+  refused-word {number} e =
+      let a : number ≡ recordRefusal store n = rw e at (d .answers) in
+      a ∙ refusal-word store n (recordRefusal store n) (refused d e)
+
+  pub record-offset : {r : Record} → x ≡ reading.Record r → n * recordSize + headSize ≡ offsetAt (recordRefusal store n) n
+  record-offset e = rw (unrefused d e)
+
+  pub refused-offset : {number : ℕ} → x ≡ reading.Refused number → 0 ≡ offsetAt (recordRefusal store n) n
+  refused-offset e = no-offset (recordRefusal store n) n (refused d e)
+
+  -- a record that is there starts inside the store
+  pub inside : {r : Record} → x ≡ reading.Record r → n * recordSize < storeLimit
+  inside e = let k = known store n (unrefused d e) in omega arith
+
+-- ---- the twin list
+
+number-alone : (number : ℕ) (store : List ℕ) → (number ≡ 0 → ⊥) → twinsWord (answerAt number store) ≡ number
+number-alone zero store h = absurd (h refl)
+number-alone (suc number) store h = omega arith
+
+module _ {store lent after : List ℕ} {r : TwinList} (d : Listed store lent r after) where
+  twins-called : {word : ℕ} → word ≡ twinsWord r → TwinsCalled store lent word after
+  twins-called e = record { answers = e ∙ ap twinsWord (d .answers); holds = d .holds }
+
+  pub list-refused : (r .answer ≡ 0 → ⊥) → TwinsCalled store lent (r .answer) after
+  list-refused h =
+      let n = answer-number d in
+      twins-called (n ∙ sym (number-alone (listRefusal (length store) (length lent)) store (λ e. h (n ∙ e))) ∙ ap twinsWord (sym (d .answers)))
+
+  module _ (z : r .answer ≡ 0) where
+    pub list-done : TwinsCalled store lent (r .kept * 0x10000 + r .twins * 0x100000000 + r .bad * 0x1000000000000) after
+    list-done = twins-called (omega arith)
+
+    -- no count is above the number of records, 2,000
+    pub few : r .kept + r .twins + r .bad ≤ 2000
+    few = let w = whole d z in let c = counts-add-up d z in omega arith

@@ -1,0 +1,52 @@
+-- The list of the Rust decoder's answers, and when ours agree with it. Assumes nothing.
+use mathlib.Core.Bool.{Bool}
+use mathlib.Core.List.{List}
+use Prim.Native.Nat.{ℕ, zero, suc, _+_, _*_}
+use lib.Dec.{eqb}
+use lib.ListN.{length, getD, take, drop, replicate}
+use Rattle.laws.specs.Pick.{pick, both}
+use Rattle.laws.specs.Every.{same}
+use Rattle.laws.specs.Made.{made}
+use Rattle.bc6h_spec.specs.Bits.{blockSize}
+use Rattle.bc6h_spec.specs.Picture.{valueCount}
+use Rattle.bc6.specs.Call.{refusalOf, answerAt, valuesAt}
+
+-- an entry: a format byte, a block, and what is answered to them: a number, a mode and 48 values of two bytes
+abbrev pub entrySize : ℕ
+entrySize = 115
+
+abbrev pub formatIn : List ℕ → ℕ
+formatIn entry = getD entry 0 0
+
+unfoldable pub blockIn : List ℕ → List ℕ
+blockIn entry = take blockSize (drop 1 entry)
+
+-- value k, low byte first, of the bytes that hold the values
+unfoldable pub valueIn : List ℕ → ℕ → ℕ
+valueIn bytes k = getD bytes (2 * k) 0 + getD bytes (2 * k + 1) 0 * 0x100
+
+unfoldable pub valuesIn : List ℕ → List ℕ
+valuesIn bytes = made (valueIn bytes) valueCount
+
+-- what our call answers to an entry's block: room for 48 values, all of them zero before
+abbrev pub numberFor : List ℕ → ℕ
+numberFor entry = refusalOf (formatIn entry) (length (blockIn entry)) valueCount
+
+abbrev pub valuesFor : List ℕ → List ℕ
+valuesFor entry = valuesAt (numberFor entry) (blockIn entry) (formatIn entry) (replicate valueCount 0)
+
+-- our number, mode and values are the entry's
+unfoldable pub agrees : List ℕ → Bool
+agrees entry =
+    both (eqb (answerAt (numberFor entry) (blockIn entry) .answer) (getD entry 17 0))
+    (both (eqb (answerAt (numberFor entry) (blockIn entry) .mode) (getD entry 18 0))
+    (same (valuesFor entry) (valuesIn (take 96 (drop 19 entry)))))
+
+-- 1 where entry n agrees, else 0
+unfoldable pub countAt : List ℕ → ℕ → ℕ
+countAt list n = pick (agrees (take entrySize (drop (n * entrySize) list))) 1 0
+
+-- how many of the first n entries agree
+unfoldable pub agreeing : List ℕ → ℕ → ℕ
+agreeing list zero = 0
+agreeing list (suc n) = agreeing list n + countAt list n

@@ -1,0 +1,127 @@
+-- The twin list's statement: which check gives its answer, what a done list says of its store, its marks and its counts, and that it
+-- admits one outcome. Assumes nothing.
+use mathlib.Core.Path.{_≡_, refl, sym, _∙_, ap}
+use mathlib.Core.Bool.{Bool, true, false}
+use mathlib.Core.List.{List, [], _∷_, _++_}
+use Prim.Native.Nat.{ℕ, zero, suc, _+_, _*_, _/_, _%_, _≤_, _<_}
+use native.Mathlib.Omega.{arith}
+use lib.Dec.{eqb, ltb}
+use lib.ListN.{length, getD, take, drop, List·getD-append}
+use lib.Seq.{take-at, drop-at}
+use borrow.Author.Tests.{lt-ltb, le-ltb, eq-eqb, ne-eqb, ltb-true, ltb-false, eqb-true}
+use Rattle.laws.specs.Made.{made, countOf}
+use Rattle.laws.proofs.Tests.{cases}
+use Rattle.laws.proofs.Rows.{length-made, getD-made}
+use Rattle.laws.proofs.Counts.{count-three}
+use Rattle.bc6h_spec.specs.Answers.{done, shortOutput, longStore, unevenStore}
+use Rattle.records.specs.Store.{recordSize, storeLimit, recordsIn}
+use Rattle.twins.specs.declared.TwinList.{TwinList}
+use Rattle.twins.specs.Twins.{Marked, keptMark, twinMark, badMark, firstTwin, markAt, marksOf, listRefusal, refusal, answerAt, marksAt, Listed}
+use Rattle.twins.proofs.Marking.{mark-small, mark-is}
+
+-- ---- the checks
+
+module _ (size room : ℕ) where
+  pub long : storeLimit < size → listRefusal size room ≡ longStore
+  unfolding listRefusal
+  long h = rw (lt-ltb _ _ h)
+
+  pub uneven : size ≤ storeLimit → (size % recordSize ≡ 0 → ⊥) → listRefusal size room ≡ unevenStore
+  unfolding listRefusal
+  uneven h w = rw (le-ltb _ _ h, ne-eqb _ _ w)
+
+  pub short : size ≤ storeLimit → size % recordSize ≡ 0 → room < size / recordSize → listRefusal size room ≡ shortOutput
+  unfolding listRefusal
+  short h w l = rw (le-ltb _ _ h, eq-eqb _ _ w, lt-ltb _ _ l)
+
+  pub fine : size ≤ storeLimit → size % recordSize ≡ 0 → size / recordSize ≤ room → listRefusal size room ≡ done
+  unfolding listRefusal
+  fine h w l = rw (le-ltb _ _ h, eq-eqb _ _ w, le-ltb _ _ l)
+
+-- ---- the statement, at each return
+
+module _ (store lent : List ℕ) where
+  pub listed-refused : (k : ℕ) {r : TwinList} → listRefusal (length store) (length lent) ≡ suc k → r ≡ refusal (suc k) → Listed store lent r lent
+  listed-refused k a e = record { answers = rw a e; holds = rw a }
+
+  marks-length : length (marksOf store) ≡ recordsIn store
+  unfolding marksOf
+  marks-length = length-made (markAt store) (recordsIn store)
+
+  front : {after : List ℕ} → after ≡ marksOf store ++ drop (recordsIn store) lent → take (recordsIn store) after ≡ marksOf store
+  front e = ap (take (recordsIn store)) e ∙ take-at (marksOf store) (drop (recordsIn store) lent) (recordsIn store) marks-length
+
+  pub listed-done : {after : List ℕ} {kept twins bad : ℕ} → listRefusal (length store) (length lent) ≡ done
+      → after ≡ marksOf store ++ drop (recordsIn store) lent → kept ≡ countOf keptMark (take (recordsIn store) after)
+      → twins ≡ countOf twinMark (take (recordsIn store) after) → bad ≡ countOf badMark (take (recordsIn store) after)
+      → Listed store lent (record { answer = done; kept = kept; twins = twins; bad = bad }) after
+  listed-done a e k t b = record { answers = rw (a, k, t, b, front e); holds = rw a e }
+
+-- ---- what it says
+
+answer-is : (k : ℕ) (store : List ℕ) → answerAt k store .answer ≡ k
+answer-is zero store = refl
+answer-is (suc k) store = refl
+
+module _ {store lent after : List ℕ} {r : TwinList} (d : Listed store lent r after) where
+  pub one-outcome : {s : TwinList} {other : List ℕ} → Listed store lent s other → (r ≡ s) × (after ≡ other)
+  one-outcome e = (d .answers ∙ sym (e .answers), d .holds ∙ sym (e .holds))
+
+  pub answer-number : r .answer ≡ listRefusal (length store) (length lent)
+  answer-number = ap (λ (x : TwinList). x .answer) (d .answers) ∙ answer-is (listRefusal (length store) (length lent)) store
+
+  module _ (z : r .answer ≡ done) where
+    unrefused : listRefusal (length store) (length lent) ≡ done
+    unrefused = sym answer-number ∙ z
+
+    pub after-is : after ≡ marksOf store ++ drop (recordsIn store) lent
+    after-is = rw unrefused at (d .holds)
+
+    counts : r ≡ answerAt done store
+    counts = rw unrefused at (d .answers)
+
+    -- every mark is right by the words, and the rest of the lent marks stays
+    pub mark-here : (n : ℕ) → n < recordsIn store → getD after n 0 ≡ markAt store n
+    unfolding marksOf
+    mark-here n h =
+        ap (λ (l : List ℕ). getD l n 0) after-is
+        ∙ List·getD-append (marksOf store) (drop (recordsIn store) lent) 0 n (let l = marks-length store lent in omega arith)
+        ∙ getD-made (markAt store) (recordsIn store) n 0 h
+
+    pub marked : (n : ℕ) → n < recordsIn store → Marked store n (getD after n 0)
+    marked n h = rw (mark-here n h) (mark-is store n)
+
+    pub rest-stays : drop (recordsIn store) after ≡ drop (recordsIn store) lent
+    rest-stays = ap (drop (recordsIn store)) after-is ∙ drop-at (marksOf store) (drop (recordsIn store) lent) (recordsIn store) (marks-length store lent)
+
+    -- each count is the number of marks of its kind, and together they are the number of records
+    pub kept-count : r .kept ≡ countOf keptMark (take (recordsIn store) after)
+    kept-count = ap (λ (x : TwinList). x .kept) counts ∙ ap (countOf keptMark) (sym (front store lent after-is))
+
+    pub twins-count : r .twins ≡ countOf twinMark (take (recordsIn store) after)
+    twins-count = ap (λ (x : TwinList). x .twins) counts ∙ ap (countOf twinMark) (sym (front store lent after-is))
+
+    pub bad-count : r .bad ≡ countOf badMark (take (recordsIn store) after)
+    bad-count = ap (λ (x : TwinList). x .bad) counts ∙ ap (countOf badMark) (sym (front store lent after-is))
+
+    pub counts-add-up : r .kept + r .twins + r .bad ≡ recordsIn store
+    unfolding marksOf
+    counts-add-up = rw counts (count-three (markAt store) (mark-small store) (recordsIn store))
+
+-- a done list's store is whole, and its marks have room
+pub record Whole (store lent : List ℕ) : Type 0 where
+  pub fits : length store ≤ storeLimit
+  pub even : length store % recordSize ≡ 0
+  pub room : recordsIn store ≤ length lent
+
+whole-by : (store lent : List ℕ) → listRefusal (length store) (length lent) ≡ done → Whole store lent
+unfolding listRefusal
+whole-by store lent z =
+    cases (ltb storeLimit (length store)) (λ t. absurd (omega (arith, rw t at z)))
+    (λ a. cases (eqb (length store % recordSize) 0)
+    (λ b. cases (ltb (length lent) (recordsIn store)) (λ t. absurd (omega (arith, rw (a, b, t) at z)))
+    (λ e. record { fits = ltb-false _ _ a; even = eqb-true _ _ b; room = ltb-false _ _ e }))
+    (λ f. absurd (omega (arith, rw (a, f) at z))))
+
+pub whole : {store lent after : List ℕ} {r : TwinList} → Listed store lent r after → r .answer ≡ done → Whole store lent
+whole {store} {lent} d z = whole-by store lent (sym (answer-number d) ∙ z)

@@ -1,0 +1,81 @@
+use borrow.Author.Needs.{needs}
+use mathlib.Core.Path.{_≡_, sym, ap, _∙_}
+use Prim.Native.Nat.{_≤_, _-_}
+use Rattle.laws.specs.First.{firstBelow}
+use Rattle.laws.proofs.Firsts.{first-none, first-more, first-end, first-at}
+use Rattle.records.proofs.Readings.{unrefused, format-is, refused}
+use Rattle.twins.specs.Twins.{alike, firstTwin}
+use Rattle.twins.proofs.Marking.{no-twin, alike-shown}
+use Rattle.twins.proofs.first_twin.Statement.{statement}
+use Rattle.twins.proofs.first_twin.Tie as tie
+
+abbrev Inv-loop : tie.InvT-loop
+Inv-loop store n picture earlier₀ earlier = (earlier ≤ n) × (firstBelow (alike store n) earlier ≡ earlier)
+
+abbrev μ-loop : tie.MeasureT-loop
+μ-loop store n picture earlier₀ earlier = n - earlier
+
+record-at-requires : tie.Need-record-at-requires Inv-loop μ-loop
+record-at-requires c κs = search needs
+
+enum-known-found : tie.Need-enum-known-found Inv-loop μ-loop
+enum-known-found c = search needs
+
+enum-told : tie.Need-enum-told Inv-loop μ-loop
+enum-told c = search needs
+
+returns : tie.Need-returns Inv-loop μ-loop
+returns c = sym (no-twin _ _ (refused (c .before .before .record-at .ensures) (c .enum-told .given .1)))
+
+slice-aggregate-decode-record : tie.Need-slice-aggregate-decode-record Inv-loop μ-loop
+slice-aggregate-decode-record c = search needs
+
+decode-record-requires : tie.Need-decode-record-requires Inv-loop μ-loop
+decode-record-requires c κs = let r = c .before .before .before .before .record-at .ensures in let e = c .before .before .found .given .1 in (unrefused r e, (format-is r e, search needs))
+
+loop-holds : tie.Need-loop-holds Inv-loop μ-loop
+loop-holds c = (search needs, first-none _)
+
+slice-aggregate-shows : tie.Need-slice-aggregate-shows Inv-loop μ-loop
+slice-aggregate-shows c = search needs
+
+shows-requires : tie.Need-shows-requires Inv-loop μ-loop
+shows-requires c κs = search needs
+
+returns-2 : tie.Need-returns-2 Inv-loop μ-loop
+unfolding firstTwin
+returns-2 c = sym (first-at _ _ _ (c .before .before .before .before .loop .inv .1) (alike-shown _ _ _ _ (unrefused (c .before .before .before .before .before .before .before .before .before .before .before .record-at .ensures) (c .before .before .before .before .before .before .before .before .before .found .given .1)) (c .before .before .before .before .before .before .decode-record .ensures) (search needs) (c .before .shows .ensures) ∙ c .if1 .taken) (search needs))
+
+add-earlier : tie.Need-add-earlier Inv-loop μ-loop
+add-earlier c = search needs
+
+loop-less : tie.Need-loop-less Inv-loop μ-loop
+loop-less c = search needs
+
+loop-again : tie.Need-loop-again Inv-loop μ-loop
+loop-again c = (search needs, first-more _ _ (c .before .before .before .before .loop .inv .1) (alike-shown _ _ _ _ (unrefused (c .before .before .before .before .before .before .before .before .before .before .before .record-at .ensures) (c .before .before .before .before .before .before .before .before .before .found .given .1)) (c .before .before .before .before .before .before .decode-record .ensures) (search needs) (c .before .shows .ensures) ∙ c .if1 .left))
+
+returns-3 : tie.Need-returns-3 Inv-loop μ-loop
+unfolding firstTwin
+returns-3 c = sym (first-end _ _ _ (search needs) (search needs) (c .before .loop .inv .1))
+
+pub first-twin-spec : {M : Type 1} → statement M
+first-twin-spec =
+    tie.close
+    (tie.spec
+    Inv-loop
+    μ-loop
+    record-at-requires
+    enum-known-found
+    enum-told
+    returns
+    slice-aggregate-decode-record
+    decode-record-requires
+    loop-holds
+    slice-aggregate-shows
+    shows-requires
+    returns-2
+    add-earlier
+    loop-less
+    loop-again
+    returns-3)

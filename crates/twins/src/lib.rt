@@ -1,0 +1,249 @@
+// The twin list: which records of a store show the same picture as an earlier one.
+
+ghost use mathlib.Core.Path.{_≡_};
+ghost use mathlib.Core.List.{[], _∷_, _++_};
+ghost use Prim.Native.Nat.{_+_, _*_, _≤_, _<_};
+ghost use lib.ListN.{length, drop};
+ghost use Rattle.laws.specs.Every.{same};
+ghost use Rattle.laws.specs.Made.{countOf};
+ghost use Rattle.bc6h_spec.specs.Picture.{valueCount};
+ghost use Rattle.records.specs.Store.{recordsIn, formatOf, Unrefused};
+ghost use Rattle.twins.specs.Twins.{pictureAt, marks, showing, alike, firstTwin, marksOf, refusal, Listed};
+ghost use Rattle.twins.specs.Kept.{pictureIn, printOf, Pictured, Decoded};
+use bc6::block_pixels;
+use bc6h_spec::Answer;
+use bc6h_spec::Block;
+use records::Record;
+use records::RecordReading;
+use records::record_at;
+use records::record_block;
+
+// What a record is marked with.
+pub struct Mark {
+    pub number: u8,
+}
+
+impl Mark {
+    pub const KEPT: u8 = 0;
+
+    pub const TWIN: u8 = 1;
+
+    pub const BAD: u8 = 2;
+
+    // The constants are the numbers of specs/.
+    pub fn all() -> [u8; 3]
+        ensures { λ r. ⌜ r ≡ marks ⌝ }
+    {
+        [Mark::KEPT, Mark::TWIN, Mark::BAD]
+    }
+}
+
+// Done, with how many records are kept, are twins and are refused; or a refusal's number.
+pub struct TwinList {
+    pub answer: u8,
+    pub kept: usize,
+    pub twins: usize,
+    pub bad: usize,
+}
+
+impl TwinList {
+    // The most records of a store, and the values of their pictures.
+    pub const RECORDS: usize = Record::STORE / Record::SIZE;
+
+    pub const VALUES: usize = TwinList::RECORDS * Block::VALUES;
+
+    fn refused(answer: u8) -> TwinList
+        ensures { λ r. ⌜ r ≡ refusal answer ⌝ }
+    {
+        TwinList {
+            answer,
+            kept: 0,
+            twins: 0,
+            bad: 0,
+        }
+    }
+}
+
+fn same_picture(a: &[u16], b: &[u16]) -> bool
+    requires { ⌜ (length (now a) ≡ valueCount) × (length (now b) ≡ valueCount) ⌝ }
+    ensures { λ r. ⌜ r ≡ same (now (a .entry)) (now (b .entry)) ⌝ }
+{
+    for k in 0..Block::VALUES {
+        if a[k] != b[k] {
+            return false;
+        }
+    }
+    true
+}
+
+fn wide(value: u16) -> u64
+    ensures { λ r. ⌜ (r ≡ value) × (r < 65536) ⌝ }
+{
+    value as u64
+}
+
+// A number that pictures with other values seldom share, from the three values of each pixel in turn.
+fn fingerprint(picture: &[u16]) -> u64
+    requires { ⌜ length (now picture) ≡ valueCount ⌝ }
+    ensures { λ r. ⌜ r ≡ printOf (now (picture .entry)) ⌝ }
+{
+    let mut print: u64 = 0;
+    for pixel in 0..16usize {
+        let at = pixel * 3;
+        let low = wide(picture[at]);
+        let middle = wide(picture[at + 1]);
+        let high = wide(picture[at + 2]);
+        print = print % 0x10000000000 * 0x9E3779 + low + middle * 0x1000 + high * 0x1000000;
+    }
+    print
+}
+
+// The picture of record n among those of all records.
+fn picture_in(pictures: &[u16], n: usize) -> &[u16]
+    requires { ⌜ n * valueCount + valueCount ≤ length (now pictures) ⌝ }
+    ensures { λ r. ⌜ now r ≡ pictureIn (now (pictures .entry)) n ⌝ }
+{
+    let start = n * Block::VALUES;
+    let end = start + Block::VALUES;
+    &pictures[start..end]
+}
+
+// The picture of record n, which is not refused, into the first values of `out`.
+fn decode_record(store: &[u8], n: usize, format: u8, out: &mut [u16])
+    requires { ⌜ Unrefused (now store) n ⌝ }
+    requires { ⌜ format ≡ formatOf (now store) n ⌝ }
+    requires { ⌜ valueCount ≤ length (now out) ⌝ }
+    ensures { λ _. ⌜ now (out .exit) ≡ pictureAt (now (store .entry)) n ++ drop valueCount (now (out .entry)) ⌝ }
+{
+    block_pixels(record_block(store, n), format, out);
+}
+
+// Decodes each record once: its picture, and the picture's fingerprint, at the record's number.
+fn decode_records(store: &[u8], pictures: &mut [u16], prints: &mut [u64])
+    requires { ⌜ recordsIn (now store) * valueCount ≤ length (now pictures) ⌝ }
+    requires { ⌜ recordsIn (now store) ≤ length (now prints) ⌝ }
+    ensures { λ _. ⌜ Decoded (now (store .entry)) (recordsIn (now (store .entry))) (now (pictures .exit)) (now (prints .exit)) ⌝ }
+{
+    let count = store.len() / Record::SIZE;
+    for n in 0..count {
+        let RecordReading::Record(found) = record_at(store, n) else {
+            continue;
+        };
+        let start = n * Block::VALUES;
+        decode_record(store, n, found.format, &mut pictures[start..]);
+        prints[n] = fingerprint(picture_in(pictures, n));
+    }
+}
+
+// Record `earlier` is not refused and its picture is that of record n, which is not refused either.
+fn kept_alike(store: &[u8], pictures: &[u16], n: usize, earlier: usize) -> bool
+    requires { ⌜ Unrefused (now store) n ⌝ }
+    requires { ⌜ (n < recordsIn (now store)) × (earlier < n) ⌝ }
+    requires { ⌜ recordsIn (now store) * valueCount ≤ length (now pictures) ⌝ }
+    requires { ⌜ Pictured (now store) (recordsIn (now store)) (now pictures) ⌝ }
+    ensures { λ r. ⌜ r ≡ alike (now (store .entry)) n earlier ⌝ }
+{
+    let RecordReading::Record(_) = record_at(store, earlier) else {
+        return false;
+    };
+    same_picture(picture_in(pictures, earlier), picture_in(pictures, n))
+}
+
+// One mark a record, by the pictures and fingerprints that were kept.
+fn mark_records(store: &[u8], pictures: &[u16], prints: &[u64], marks: &mut [u8])
+    requires { ⌜ recordsIn (now store) * valueCount ≤ length (now pictures) ⌝ }
+    requires { ⌜ recordsIn (now store) ≤ length (now prints) ⌝ }
+    requires { ⌜ recordsIn (now store) ≤ length (now marks) ⌝ }
+    requires { ⌜ Decoded (now store) (recordsIn (now store)) (now pictures) (now prints) ⌝ }
+    ensures { λ _. ⌜ now (marks .exit) ≡ marksOf (now (store .entry)) ++ drop (recordsIn (now (store .entry))) (now (marks .entry)) ⌝ }
+{
+    let count = store.len() / Record::SIZE;
+    for n in 0..count {
+        let RecordReading::Record(_) = record_at(store, n) else {
+            marks[n] = Mark::BAD;
+            continue;
+        };
+        let print = prints[n];
+        let mut mark = Mark::KEPT;
+        'search: for earlier in 0..n {
+            if prints[earlier] != print {
+                continue 'search;
+            }
+            if kept_alike(store, pictures, n, earlier) {
+                mark = Mark::TWIN;
+                break 'search;
+            }
+        }
+        marks[n] = mark;
+    }
+}
+
+// How many of the marks are `mark`.
+fn count_of(marks: &[u8], mark: u8) -> usize
+    ensures { λ r. ⌜ r ≡ countOf mark (now (marks .entry)) ⌝ }
+{
+    let mut count: usize = 0;
+    for n in 0..marks.len() {
+        if marks[n] == mark {
+            count += 1;
+        }
+    }
+    count
+}
+
+// Marks the records of a store, one mark a record, and counts the marks of each kind.
+pub fn twin_list(store: &[u8], marks: &mut [u8]) -> TwinList
+    ensures { λ r. ⌜ Listed (now (store .entry)) (now (marks .entry)) r (now (marks .exit)) ⌝ }
+{
+    if store.len() > Record::STORE {
+        return TwinList::refused(Answer::LONG_STORE);
+    }
+    if store.len() % Record::SIZE != 0 {
+        return TwinList::refused(Answer::UNEVEN_STORE);
+    }
+    let count = store.len() / Record::SIZE;
+    if marks.len() < count {
+        return TwinList::refused(Answer::SHORT_OUTPUT);
+    }
+    let mut pictures = [0u16; TwinList::VALUES];
+    let mut prints = [0u64; TwinList::RECORDS];
+    decode_records(store, &mut pictures, &mut prints);
+    mark_records(store, &pictures, &prints, marks);
+    let made = &marks[..count];
+    TwinList {
+        answer: Answer::DONE,
+        kept: count_of(made, Mark::KEPT),
+        twins: count_of(made, Mark::TWIN),
+        bad: count_of(made, Mark::BAD),
+    }
+}
+
+// Record n is not refused and shows the picture.
+fn shows(store: &[u8], n: usize, picture: &[u16]) -> bool
+    requires { ⌜ length (now picture) ≡ valueCount ⌝ }
+    ensures { λ r. ⌜ r ≡ showing (now (store .entry)) n (now (picture .entry)) ⌝ }
+{
+    let RecordReading::Record(found) = record_at(store, n) else {
+        return false;
+    };
+    let mut shown = [0u16; Block::VALUES];
+    decode_record(store, n, found.format, &mut shown);
+    same_picture(&shown, picture)
+}
+
+// The first earlier record that record n is a twin of; n where it is no twin.
+pub fn first_twin(store: &[u8], n: usize) -> usize
+    ensures { λ r. ⌜ r ≡ firstTwin (now (store .entry)) n ⌝ }
+{
+    let RecordReading::Record(found) = record_at(store, n) else {
+        return n;
+    };
+    let mut picture = [0u16; Block::VALUES];
+    decode_record(store, n, found.format, &mut picture);
+    for earlier in 0..n {
+        if shows(store, earlier, &picture) {
+            return earlier;
+        }
+    }
+    n
+}

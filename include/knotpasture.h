@@ -1,0 +1,114 @@
+/* Knotpasture: a BC6H decoder whose every function is proved to do what is said here.
+ *
+ * Link with the archive that `rt staticlib knotpasture` writes, target/staticlib/libknotpasture.a (x86-64).
+ *
+ * No function keeps a pointer, allocates memory, has state of its own or fails: each answers for every input. A pointer is
+ * followed by its length, in elements; it may be null where the length is 0. Lent input and lent output must not overlap.
+ * The calls may run on any number of threads at once.
+ *
+ * An answer is one word. Its low byte is a number of this table, and 0 means done. Where several refusals apply, the order
+ * that each call names decides, first met first. A refusal changes no lent byte or value.
+ */
+#ifndef KNOTPASTURE_H
+#define KNOTPASTURE_H
+
+#include <stdbool.h>
+#include <stddef.h>
+#include <stdint.h>
+
+#ifdef __cplusplus
+extern "C" {
+#endif
+
+enum knot_answer {
+    KNOT_DONE = 0,
+    KNOT_BAD_FORMAT = 1,    /* format number is neither KNOT_UNSIGNED nor KNOT_SIGNED */
+    KNOT_BAD_BLOCK = 2,     /* block length is not KNOT_BLOCK_SIZE */
+    KNOT_SHORT_OUTPUT = 3,  /* lent output too short */
+    KNOT_RESERVED_MODE = 4, /* reserved mode, from the field call only */
+    KNOT_LONG_STORE = 5,    /* store longer than KNOT_STORE_LIMIT bytes */
+    KNOT_UNEVEN_STORE = 6,  /* store length not a multiple of KNOT_RECORD_SIZE */
+    KNOT_SPARE_BYTE = 7,    /* a record's spare byte is not zero */
+    KNOT_NO_RECORD = 8      /* record number not below the number of records */
+};
+
+enum knot_format { KNOT_UNSIGNED = 0, KNOT_SIGNED = 1 };
+
+enum knot_mark {
+    KNOT_KEPT = 0, /* no earlier record decodes to the same values */
+    KNOT_TWIN = 1, /* an earlier record that is not refused decodes to the same 48 values */
+    KNOT_BAD = 2   /* knot_record_at refuses the record */
+};
+
+enum {
+    KNOT_BLOCK_SIZE = 16,     /* bytes of a block */
+    KNOT_VALUES = 48,         /* values that a block shows */
+    KNOT_FIELDS = 31,         /* numbers of a field record */
+    KNOT_RECORD_SIZE = 24,    /* bytes of a record */
+    KNOT_STORE_LIMIT = 48000  /* bytes of a store, at most */
+};
+
+/* The number of an answer. */
+#define KNOT_ANSWER(word) ((unsigned)((word) & 0xFF))
+
+/* The 48 half-float patterns of a block: pixel 0 red, green, blue, then pixel 1; pixel k is column k mod 4 of row k div 4,
+ * row 0 on top. They become out[0] to out[47]; the rest of out stays.
+ *
+ * Answers the number in the low byte and the mode, 1 to 14, in the next. A reserved mode is done, with mode 0 and 48 zeros.
+ * Refusals: 1, 2, 3 (fewer than 48 values of room), in this order.
+ */
+uint32_t knot_block_pixels(const uint8_t *block, size_t block_length, uint8_t format, uint16_t *out, size_t out_length);
+
+#define KNOT_MODE(word) ((unsigned)((word) >> 8 & 0xFF))
+
+/* The fields of a block, as stored, before any sign extension or transform:
+ *
+ *   numbers[0]         mode, 1 to 14
+ *   numbers[1 to 12]   four endpoints: red, green, blue of the first, then of the second, third and fourth
+ *   numbers[13]        partition
+ *   numbers[14]        how many pixels lie in region 1
+ *   numbers[15 to 30]  the sixteen pixels' indices, at full width
+ *
+ * Modes 11 to 14 have one region: their last two endpoints, partition and region count are 0.
+ * Answers the number in the low byte and the mode in the next. Refusals: 2, 4, 3 (fewer than 31 numbers of room).
+ */
+uint32_t knot_block_fields(const uint8_t *block, size_t block_length, uint16_t *numbers, size_t numbers_length);
+
+/* Record n of a store of 24-byte records: tile number (4 bytes, low byte first), format, three zero bytes, block.
+ *
+ * Answers the number in the low byte; where that is 0, the format in the next byte and the tile in the high 32 bits.
+ * Refusals: 5, 6, 8, 1, 7.
+ */
+uint64_t knot_record_at(const uint8_t *store, size_t store_length, size_t n);
+
+#define KNOT_FORMAT(word) ((uint8_t)((word) >> 8 & 0xFF))
+#define KNOT_TILE(word) ((uint32_t)((word) >> 32))
+
+/* Where in the store the sixteen block bytes of record n start: 24 n + 8. 0 exactly when knot_record_at refuses n. */
+size_t knot_record_block(const uint8_t *store, size_t store_length, size_t n);
+
+/* The tile number of record n, whatever else the record holds, and 0 where there is no such record. */
+uint32_t knot_tile_at(const uint8_t *store, size_t store_length, size_t n);
+
+/* Marks each record of a store as kept, twin or bad (enum knot_mark): marks[n] for record n; the rest of marks stays.
+ *
+ * Answers the number in the low byte; where that is 0, the number of kept records in bits 16 to 31, of twins in bits 32 to
+ * 47, of bad ones in bits 48 to 63. Together they are the number of records. Refusals: 5, 6, 3 (fewer marks than records).
+ */
+uint64_t knot_twin_list(const uint8_t *store, size_t store_length, uint8_t *marks, size_t marks_length);
+
+#define KNOT_KEPT_COUNT(word) ((unsigned)((word) >> 16 & 0xFFFF))
+#define KNOT_TWIN_COUNT(word) ((unsigned)((word) >> 32 & 0xFFFF))
+#define KNOT_BAD_COUNT(word) ((unsigned)((word) >> 48))
+
+/* Whether a block, read as unsigned, is of mode 11, 12 or 13, has a pixel at index 0 and one at index 15, and has a channel
+ * whose sixteen palette values all differ. Another block of the same mode with a pixel at index 0 and one at index 15 that
+ * shows the same 48 values then has the same sixteen bytes: deleting one of the two loses nothing. False for any other length.
+ */
+bool knot_is_trusted(const uint8_t *block, size_t block_length);
+
+#ifdef __cplusplus
+}
+#endif
+
+#endif

@@ -1,0 +1,144 @@
+//! Blocks per second, ours and the Rust's in one run, both built for release: for each format and group of modes, over 4,096
+//! blocks that stay in cache and over 64 MiB of blocks; and the twin list's two worst stores against decoding their blocks.
+//!
+//!     bench                  the table
+//!     bench ours|rust        decodes 100,000 mixed blocks with one side, in `counted`, for a count of instructions
+#[path = "../compare/blocks.rs"]
+mod blocks;
+
+use blocks::{Mode, Random};
+use std::hint::black_box;
+use std::time::Instant;
+
+extern "C" {
+    fn knot_block_pixels(block: *const u8, block_length: usize, format: u8, out: *mut u16, out_length: usize) -> u32;
+    fn knot_twin_list(store: *const u8, store_length: usize, marks: *mut u8, marks_length: usize) -> u64;
+}
+
+fn ours(block: &[u8; 16], format: u8, out: &mut [u16; 48]) {
+    unsafe { knot_block_pixels(block.as_ptr(), 16, format, out.as_mut_ptr(), 48) };
+}
+
+fn rust(block: &[u8; 16], format: u8, out: &mut [u16; 48]) {
+    out.copy_from_slice(oracle::pixels(*block, format == 1).as_flattened());
+}
+
+/// Random blocks whose modes come in a random order.
+fn blocks_of(modes: &[&Mode], count: usize) -> Vec<[u8; 16]> {
+    let mut random = Random(7);
+    let mut blocks = Vec::with_capacity(count);
+    while blocks.len() < count {
+        let mode = modes[random.next() as usize % modes.len()];
+        mode.random(1, random.next() >> 8, &mut |block| blocks.push(block));
+    }
+    blocks
+}
+
+/// Blocks per second in the best of several runs; each run decodes at least a million blocks.
+fn rate(blocks: &[[u8; 16]], format: u8, decode: impl Fn(&[u8; 16], u8, &mut [u16; 48])) -> f64 {
+    let rounds = (1_000_000 / blocks.len()).max(1);
+    let mut out = [0; 48];
+    let best = (0..7)
+        .map(|_| {
+            let start = Instant::now();
+            for _ in 0..rounds {
+                for block in blocks {
+                    decode(black_box(block), black_box(format), &mut out);
+                    black_box(&out);
+                }
+            }
+            start.elapsed().as_secs_f64()
+        })
+        .fold(f64::INFINITY, f64::min);
+    (rounds * blocks.len()) as f64 / best
+}
+
+fn table() {
+    let modes = Mode::all();
+    let groups: [(&str, Vec<&Mode>); 3] = [
+        ("mixed", modes.iter().filter(|mode| !mode.reserved()).collect()),
+        ("two-region", modes.iter().filter(|mode| mode.two_regions()).collect()),
+        ("one-region", modes.iter().filter(|mode| !mode.two_regions() && !mode.reserved()).collect()),
+    ];
+    println!("{:12} {:11} {:9} {:>14} {:>14} {:>6}", "blocks", "modes", "format", "ours/s", "Rust/s", "ratio");
+    for (size, count) in [("4,096", 4096), ("64 MiB", 4 << 20)] {
+        for (group, modes) in &groups {
+            let blocks = blocks_of(modes, count);
+            for (format, name) in ["unsigned", "signed"].into_iter().enumerate() {
+                let (a, b) = (rate(&blocks, format as u8, ours), rate(&blocks, format as u8, rust));
+                println!("{size:12} {group:11} {name:9} {:>14.0} {:>14.0} {:>6.2}", a, b, a / b);
+            }
+        }
+    }
+    twins(&groups[0].1);
+}
+
+fn record(block: [u8; 16]) -> [u8; 24] {
+    let mut record = [0; 24];
+    record[8..].copy_from_slice(&block);
+    record
+}
+
+/// Seconds for one run, the best of several.
+fn seconds(mut run: impl FnMut()) -> f64 {
+    (0..9)
+        .map(|_| {
+            let start = Instant::now();
+            run();
+            start.elapsed().as_secs_f64()
+        })
+        .fold(f64::INFINITY, f64::min)
+}
+
+fn twins(modes: &[&Mode]) {
+    let different = blocks_of(modes, 2000);
+    let equal = vec![different[0]; 2000];
+    for (name, blocks) in [("2,000 different records", different), ("2,000 equal records", equal)] {
+        let store: Vec<u8> = blocks.iter().flat_map(|&block| record(block)).collect();
+        let mut marks = [0; 2000];
+        let mut counts = 0;
+        let list = seconds(|| counts = unsafe { knot_twin_list(store.as_ptr(), store.len(), marks.as_mut_ptr(), 2000) });
+        let mut out = [0; 48];
+        let decode = seconds(|| {
+            for block in &blocks {
+                ours(black_box(block), 0, &mut out);
+                black_box(&out);
+            }
+        });
+        println!(
+            "twin list, {name} (kept {}): {:.3} ms; decoding them once {:.3} ms; {:.1} times",
+            counts >> 16 & 0xFFFF,
+            list * 1e3,
+            decode * 1e3,
+            list / decode
+        );
+    }
+}
+
+/// What is counted: one side alone, over mixed blocks of both formats.
+#[inline(never)]
+#[no_mangle]
+fn counted(blocks: &[[u8; 16]], decode: fn(&[u8; 16], u8, &mut [u16; 48])) {
+    let mut out = [0; 48];
+    for round in 0..100 {
+        for block in blocks {
+            decode(black_box(block), round % 2, &mut out);
+            black_box(&out);
+        }
+    }
+}
+
+fn count(decode: fn(&[u8; 16], u8, &mut [u16; 48])) {
+    let modes = Mode::all();
+    let live: Vec<&Mode> = modes.iter().filter(|mode| !mode.reserved()).collect();
+    counted(&blocks_of(&live, 1000), decode);
+}
+
+fn main() {
+    match std::env::args().nth(1).as_deref() {
+        None => table(),
+        Some("ours") => count(ours),
+        Some("rust") => count(rust),
+        Some(word) => eprintln!("bench takes ours, rust or nothing, and not {word}"),
+    }
+}

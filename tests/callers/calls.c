@@ -1,0 +1,174 @@
+/* Calls every function of knotpasture.h as a C program does, with good and bad input. Prints each check that fails. */
+#include "knotpasture.h"
+
+int printf(const char *format, ...);
+
+static unsigned checks, failures;
+
+#define CHECK(condition) check((condition), #condition, __LINE__)
+
+static void check(int holds, const char *condition, int line)
+{
+    checks++;
+    if (!holds) {
+        failures++;
+        printf("calls.c:%d: not so: %s\n", line, condition);
+    }
+}
+
+static const uint8_t B1[17] = {0};
+static const uint8_t B2[16] = {0x13};
+static const uint8_t B3[16] = {0x03, 0, 0, 0, 0xF8, 0x1F, 0, 0, 0, 0, 0, 0, 0, 0, 0, 0xF0};
+static const uint8_t B4[16] = {0x07, 0, 0, 0, 0xF8, 0x0F, 0, 0, 0, 0, 0, 0, 0, 0, 0, 0xF0};
+static const uint8_t B5[16] = {0x0B, 0, 0, 0, 0, 0x08};
+static const uint8_t B6[16] = {0x0F, 0, 0, 0, 0x80};
+static const uint8_t B9[16] = {0x1E, 0, 0, 0, 0, 0, 0, 0, 0x7E, 0xA0, 0x01};
+
+enum { UNTOUCHED = 0xA55A };
+
+static uint16_t values[64];
+
+static void untouch(void)
+{
+    for (size_t k = 0; k < 64; k++) values[k] = UNTOUCHED;
+}
+
+/* The values from `from` up to `to` are all `value`. */
+static int all(size_t from, size_t to, uint16_t value)
+{
+    for (size_t k = from; k < to; k++)
+        if (values[k] != value) return 0;
+    return 1;
+}
+
+static void pixels(void)
+{
+    untouch();
+    CHECK(knot_block_pixels(NULL, 0, 2, NULL, 0) == KNOT_BAD_FORMAT);
+    CHECK(knot_block_pixels(NULL, 0, 0, NULL, 0) == KNOT_BAD_BLOCK);
+    CHECK(knot_block_pixels(B1, 16, 0, NULL, 0) == KNOT_SHORT_OUTPUT);
+    CHECK(knot_block_pixels(B1, 15, 255, values, 47) == KNOT_BAD_FORMAT);
+    CHECK(knot_block_pixels(B1, 15, 1, values, 64) == KNOT_BAD_BLOCK);
+    CHECK(knot_block_pixels(B1, 17, 1, values, 64) == KNOT_BAD_BLOCK);
+    CHECK(knot_block_pixels(B1, 16, 1, values, 47) == KNOT_SHORT_OUTPUT);
+    CHECK(all(0, 64, UNTOUCHED));
+
+    uint32_t answer = knot_block_pixels(B1, 16, KNOT_UNSIGNED, values, 48);
+    CHECK(KNOT_ANSWER(answer) == KNOT_DONE && KNOT_MODE(answer) == 1 && all(0, 48, 0) && all(48, 64, UNTOUCHED));
+    untouch();
+    CHECK(knot_block_pixels(B2, 16, KNOT_SIGNED, values, 64) == KNOT_DONE && all(0, 48, 0) && all(48, 64, UNTOUCHED));
+    answer = knot_block_pixels(B3, 16, KNOT_UNSIGNED, values, 64);
+    CHECK(KNOT_MODE(answer) == 11 && all(0, 45, 0) && values[45] == 0x7BFF && all(46, 48, 0));
+    answer = knot_block_pixels(B5, 16, KNOT_UNSIGNED, values, 64);
+    CHECK(KNOT_MODE(answer) == 13 && values[0] == 0x3E03 && values[1] == 0 && values[45] == 0x3E03);
+    answer = knot_block_pixels(B6, 16, KNOT_SIGNED, values, 64);
+    CHECK(KNOT_MODE(answer) == 14 && values[0] == 0xFC00 && values[45] == 0xFC00);
+    answer = knot_block_pixels(B6, 16, KNOT_UNSIGNED, values, 64);
+    CHECK(KNOT_MODE(answer) == 14 && values[0] == 0x3E00);
+    answer = knot_block_pixels(B9, 16, KNOT_SIGNED, values, 64);
+    CHECK(KNOT_MODE(answer) == 10 && values[21] == 0 && values[24] == 0x85D0 && values[45] == 0x85D0);
+}
+
+static void fields(void)
+{
+    untouch();
+    CHECK(knot_block_fields(NULL, 0, NULL, 0) == KNOT_BAD_BLOCK);
+    CHECK(knot_block_fields(B1, 15, values, 31) == KNOT_BAD_BLOCK);
+    CHECK(knot_block_fields(B1, 17, values, 31) == KNOT_BAD_BLOCK);
+    CHECK(knot_block_fields(B2, 16, values, 30) == KNOT_RESERVED_MODE);
+    CHECK(knot_block_fields(B2, 16, values, 31) == KNOT_RESERVED_MODE);
+    CHECK(knot_block_fields(B3, 16, values, 30) == KNOT_SHORT_OUTPUT);
+    CHECK(knot_block_fields(B3, 16, NULL, 0) == KNOT_SHORT_OUTPUT);
+    CHECK(all(0, 64, UNTOUCHED));
+
+    uint32_t answer = knot_block_fields(B3, 16, values, 31);
+    CHECK(KNOT_ANSWER(answer) == KNOT_DONE && KNOT_MODE(answer) == 11 && values[0] == 11);
+    CHECK(all(1, 4, 0) && values[4] == 0x3FF && all(5, 30, 0) && values[30] == 15 && all(31, 64, UNTOUCHED));
+    answer = knot_block_fields(B9, 16, values, 31);
+    CHECK(KNOT_MODE(answer) == 10 && values[7] == 0x3F && values[10] == 0 && values[13] == 13 && values[14] == 8);
+}
+
+static uint8_t store[48001];
+static uint8_t marks[2001];
+
+static void put_record(size_t n, uint32_t tile, uint8_t format, const uint8_t *block)
+{
+    uint8_t *record = store + KNOT_RECORD_SIZE * n;
+    for (int k = 0; k < 4; k++) record[k] = (uint8_t)(tile >> 8 * k);
+    record[4] = format;
+    for (int k = 5; k < 8; k++) record[k] = 0;
+    for (int k = 0; k < 16; k++) record[8 + k] = block[k];
+}
+
+/* The four records of the listing: tiles 7, 8, 9, 10. */
+static void put_four(void)
+{
+    put_record(0, 7, 0, B3);
+    put_record(1, 8, 0, B4);
+    put_record(2, 9, 1, B6);
+    put_record(3, 10, 2, B1);
+}
+
+static void records(void)
+{
+    put_four();
+    CHECK(knot_record_at(NULL, 0, 0) == KNOT_NO_RECORD && knot_record_block(NULL, 0, 0) == 0 && knot_tile_at(NULL, 0, 0) == 0);
+    uint64_t answer = knot_record_at(store, 96, 2);
+    CHECK(KNOT_ANSWER(answer) == KNOT_DONE && KNOT_FORMAT(answer) == KNOT_SIGNED && KNOT_TILE(answer) == 9);
+    CHECK(knot_record_block(store, 96, 2) == 56 && knot_tile_at(store, 96, 2) == 9);
+    CHECK(knot_record_at(store, 96, 3) == KNOT_BAD_FORMAT && knot_record_block(store, 96, 3) == 0 && knot_tile_at(store, 96, 3) == 10);
+    CHECK(knot_record_at(store, 96, 4) == KNOT_NO_RECORD && knot_record_block(store, 96, 4) == 0 && knot_tile_at(store, 96, 4) == 0);
+    CHECK(knot_record_at(store, 96, SIZE_MAX) == KNOT_NO_RECORD && knot_record_block(store, 96, SIZE_MAX) == 0);
+    CHECK(knot_record_at(store, 95, 0) == KNOT_UNEVEN_STORE && knot_record_at(store, 97, 0) == KNOT_UNEVEN_STORE);
+    for (int spare = 5; spare < 8; spare++) {
+        store[24 + spare] = 1;
+        CHECK(knot_record_at(store, 96, 1) == KNOT_SPARE_BYTE && knot_record_block(store, 96, 1) == 0);
+        store[24 + spare] = 0;
+    }
+    put_record(1, 0xFFFFFFFF, 1, B4);
+    CHECK(knot_record_at(store, 96, 1) == 0xFFFFFFFF00000100 && knot_tile_at(store, 96, 1) == 0xFFFFFFFF);
+
+    CHECK(knot_record_at(store, 48001, 0) == KNOT_LONG_STORE && knot_record_block(store, 48001, 0) == 0);
+    CHECK(KNOT_ANSWER(knot_record_at(store, 48000, 1999)) == KNOT_DONE && knot_record_block(store, 48000, 1999) == 47984);
+    CHECK(knot_record_at(store, 48000, 2000) == KNOT_NO_RECORD);
+    CHECK(KNOT_ANSWER(knot_record_at(store, 47976, 1998)) == KNOT_DONE && knot_record_at(store, 47976, 1999) == KNOT_NO_RECORD);
+}
+
+static void twins(void)
+{
+    put_four();
+    CHECK(knot_twin_list(NULL, 0, NULL, 0) == KNOT_DONE);
+    for (int n = 0; n < 2001; n++) marks[n] = 9;
+    CHECK(knot_twin_list(store, 48001, marks, 2001) == KNOT_LONG_STORE);
+    CHECK(knot_twin_list(store, 47999, marks, 2001) == KNOT_UNEVEN_STORE);
+    CHECK(knot_twin_list(store, 96, marks, 3) == KNOT_SHORT_OUTPUT);
+    CHECK(marks[0] == 9 && marks[3] == 9 && marks[2000] == 9);
+
+    uint64_t answer = knot_twin_list(store, 96, marks, 5);
+    CHECK(KNOT_ANSWER(answer) == KNOT_DONE);
+    CHECK(KNOT_KEPT_COUNT(answer) == 2 && KNOT_TWIN_COUNT(answer) == 1 && KNOT_BAD_COUNT(answer) == 1);
+    CHECK(marks[0] == KNOT_KEPT && marks[1] == KNOT_TWIN && marks[2] == KNOT_KEPT && marks[3] == KNOT_BAD && marks[4] == 9);
+
+    for (size_t n = 0; n < 2000; n++) put_record(n, 1, n % 2, B1);
+    answer = knot_twin_list(store, 48000, marks, 2000);
+    CHECK(KNOT_KEPT_COUNT(answer) == 1 && KNOT_TWIN_COUNT(answer) == 1999 && KNOT_BAD_COUNT(answer) == 0);
+    CHECK(marks[0] == KNOT_KEPT && marks[1999] == KNOT_TWIN && marks[2000] == 9);
+}
+
+static void trusted(void)
+{
+    CHECK(!knot_is_trusted(NULL, 0) && !knot_is_trusted(B3, 15) && !knot_is_trusted(B1, 17));
+    CHECK(knot_is_trusted(B3, 16) && knot_is_trusted(B4, 16));
+    CHECK(!knot_is_trusted(B1, 16) && !knot_is_trusted(B2, 16) && !knot_is_trusted(B5, 16) && !knot_is_trusted(B6, 16));
+}
+
+int main(void)
+{
+    pixels();
+    fields();
+    records();
+    twins();
+    trusted();
+    printf("C: %u checks, %u failed\n", checks, failures);
+    return failures != 0;
+}

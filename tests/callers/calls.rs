@@ -1,0 +1,132 @@
+//! Calls every function of include/knotpasture.h as a Rust program does: declarations, a safe wrapper for each, and checks
+//! with good and bad input.
+
+mod knot {
+    mod c {
+        extern "C" {
+            pub fn knot_block_pixels(block: *const u8, block_length: usize, format: u8, out: *mut u16, out_length: usize) -> u32;
+            pub fn knot_block_fields(block: *const u8, block_length: usize, numbers: *mut u16, numbers_length: usize) -> u32;
+            pub fn knot_record_at(store: *const u8, store_length: usize, n: usize) -> u64;
+            pub fn knot_record_block(store: *const u8, store_length: usize, n: usize) -> usize;
+            pub fn knot_tile_at(store: *const u8, store_length: usize, n: usize) -> u32;
+            pub fn knot_twin_list(store: *const u8, store_length: usize, marks: *mut u8, marks_length: usize) -> u64;
+            pub fn knot_is_trusted(block: *const u8, block_length: usize) -> bool;
+        }
+    }
+
+    /// The mode of the block, whose 48 values are now the first of `out`; or a refusal's number.
+    pub fn block_pixels(block: &[u8], format: u8, out: &mut [u16]) -> Result<u8, u8> {
+        let word = unsafe { c::knot_block_pixels(block.as_ptr(), block.len(), format, out.as_mut_ptr(), out.len()) };
+        if word as u8 == 0 { Ok((word >> 8) as u8) } else { Err(word as u8) }
+    }
+
+    /// Mode, twelve endpoint values, partition, pixels in region 1, sixteen indices.
+    pub fn block_fields(block: &[u8]) -> Result<[u16; 31], u8> {
+        let mut numbers = [0; 31];
+        match unsafe { c::knot_block_fields(block.as_ptr(), block.len(), numbers.as_mut_ptr(), numbers.len()) } as u8 {
+            0 => Ok(numbers),
+            number => Err(number),
+        }
+    }
+
+    /// Tile and format of record n.
+    pub fn record_at(store: &[u8], n: usize) -> Result<(u32, u8), u8> {
+        let word = unsafe { c::knot_record_at(store.as_ptr(), store.len(), n) };
+        if word as u8 == 0 { Ok(((word >> 32) as u32, (word >> 8) as u8)) } else { Err(word as u8) }
+    }
+
+    /// The block of record n, where the record is not refused.
+    pub fn record_block(store: &[u8], n: usize) -> Option<&[u8]> {
+        match unsafe { c::knot_record_block(store.as_ptr(), store.len(), n) } {
+            0 => None,
+            start => Some(&store[start..start + 16]),
+        }
+    }
+
+    pub fn tile_at(store: &[u8], n: usize) -> u32 {
+        unsafe { c::knot_tile_at(store.as_ptr(), store.len(), n) }
+    }
+
+    /// How many records are kept, are twins and are refused; or a refusal's number.
+    pub fn twin_list(store: &[u8], marks: &mut [u8]) -> Result<[u16; 3], u8> {
+        let word = unsafe { c::knot_twin_list(store.as_ptr(), store.len(), marks.as_mut_ptr(), marks.len()) };
+        if word as u8 == 0 { Ok([16, 32, 48].map(|shift| (word >> shift) as u16)) } else { Err(word as u8) }
+    }
+
+    pub fn is_trusted(block: &[u8]) -> bool {
+        unsafe { c::knot_is_trusted(block.as_ptr(), block.len()) }
+    }
+}
+
+const B1: [u8; 16] = [0; 16];
+const B2: [u8; 16] = [0x13, 0, 0, 0, 0, 0, 0, 0, 0, 0, 0, 0, 0, 0, 0, 0];
+const B3: [u8; 16] = [0x03, 0, 0, 0, 0xF8, 0x1F, 0, 0, 0, 0, 0, 0, 0, 0, 0, 0xF0];
+const B4: [u8; 16] = [0x07, 0, 0, 0, 0xF8, 0x0F, 0, 0, 0, 0, 0, 0, 0, 0, 0, 0xF0];
+const B6: [u8; 16] = [0x0F, 0, 0, 0, 0x80, 0, 0, 0, 0, 0, 0, 0, 0, 0, 0, 0];
+
+fn record(tile: u32, format: u8, block: [u8; 16]) -> [u8; 24] {
+    let mut record = [0; 24];
+    record[..4].copy_from_slice(&tile.to_le_bytes());
+    record[4] = format;
+    record[8..].copy_from_slice(&block);
+    record
+}
+
+fn pixels() {
+    let mut out = [9; 50];
+    assert_eq!(knot::block_pixels(&[], 2, &mut []), Err(1));
+    assert_eq!(knot::block_pixels(&[], 1, &mut []), Err(2));
+    assert_eq!(knot::block_pixels(&B1[..15], 1, &mut out), Err(2));
+    assert_eq!(knot::block_pixels(&[0; 17], 1, &mut out), Err(2));
+    assert_eq!(knot::block_pixels(&B1, 0, &mut out[..47]), Err(3));
+    assert_eq!(out, [9; 50]);
+    assert_eq!(knot::block_pixels(&B2, 0, &mut out[..48]), Ok(0));
+    assert_eq!(out[..48], [0; 48]);
+    assert_eq!(knot::block_pixels(&B3, 0, &mut out), Ok(11));
+    assert_eq!((out[0], out[45], out[48], out[49]), (0, 0x7BFF, 9, 9));
+    assert_eq!(knot::block_pixels(&B6, 1, &mut out), Ok(14));
+    assert_eq!((out[0], out[1], out[45]), (0xFC00, 0, 0xFC00));
+}
+
+fn fields() {
+    assert_eq!(knot::block_fields(&[]), Err(2));
+    assert_eq!(knot::block_fields(&[0; 17]), Err(2));
+    assert_eq!(knot::block_fields(&B2), Err(4));
+    let numbers = knot::block_fields(&B3).unwrap();
+    assert_eq!((numbers[0], numbers[4], numbers[30]), (11, 0x3FF, 15));
+    assert_eq!(numbers.iter().map(|&number| u32::from(number)).sum::<u32>(), 11 + 0x3FF + 15);
+}
+
+fn store() {
+    let store = [record(7, 0, B3), record(8, 0, B4), record(9, 1, B6), record(10, 2, B1)].concat();
+    let mut marks = [9; 5];
+    assert_eq!(knot::twin_list(&store, &mut marks), Ok([2, 1, 1]));
+    assert_eq!(marks, [0, 1, 0, 2, 9]);
+    assert_eq!(knot::twin_list(&store, &mut marks[..3]), Err(3));
+    assert_eq!(knot::twin_list(&store[1..], &mut marks), Err(6));
+    assert_eq!(knot::twin_list(&[0; 48001], &mut marks), Err(5));
+    assert_eq!(knot::twin_list(&[], &mut []), Ok([0, 0, 0]));
+    assert_eq!(knot::record_at(&store, 2), Ok((9, 1)));
+    assert_eq!(knot::record_at(&store, 3), Err(1));
+    assert_eq!(knot::record_at(&store, 4), Err(8));
+    assert_eq!(knot::record_at(&store[1..], 0), Err(6));
+    assert_eq!(knot::record_at(&[0; 48001], 0), Err(5));
+    assert_eq!(knot::record_at(&[1; 24], 0), Err(7));
+    assert_eq!(knot::record_block(&store, 2), Some(B6.as_slice()));
+    assert_eq!(knot::record_block(&store, 3), None);
+    assert_eq!(knot::record_block(&[], 0), None);
+    assert_eq!([3, 4].map(|n| knot::tile_at(&store, n)), [10, 0]);
+}
+
+fn trusted() {
+    assert!(knot::is_trusted(&B3) && knot::is_trusted(&B4));
+    assert!(!knot::is_trusted(&B1) && !knot::is_trusted(&B6) && !knot::is_trusted(&B3[..15]) && !knot::is_trusted(&[]));
+}
+
+fn main() {
+    pixels();
+    fields();
+    store();
+    trusted();
+    println!("Rust: every check holds");
+}

@@ -1,0 +1,95 @@
+//! Feeds our decoder and the Rust the same blocks and compares every value, mode, field and refusal.
+//!
+//!     compare short|long [SEED]                     through the archive (built with --cfg archive)
+//!     compare programs DECODE EXTRACT [SEED]        through the programs decode_blocks and extract_fields
+//!     compare entries SEED                          writes the list that the program replay reads
+//!     compare emit COUNT FORMAT SEED                writes 17-byte records, COUNT of them random, for other drivers
+mod blocks;
+mod programs;
+#[cfg(archive)]
+mod archive;
+
+use blocks::{Mode, NAMED};
+use std::process::ExitCode;
+
+/// How much of each class to run.
+pub struct Extent {
+    pub pair_step: usize,
+    pub random: u64,
+    pub seed: u64,
+}
+
+/// One side's answer to the field call, with our numbers in the order of the header.
+pub fn field_numbers(block: [u8; 16]) -> (u8, [u16; 31]) {
+    let f = oracle::fields(block);
+    let mut numbers = [0; 31];
+    numbers[0] = f.mode.into();
+    numbers[1..13].copy_from_slice(&f.endpoints);
+    numbers[13] = f.partition.into();
+    numbers[14] = f.region1.into();
+    for (number, index) in numbers[15..].iter_mut().zip(f.indices) {
+        *number = index.into();
+    }
+    (if f.mode == 0 { 4 } else { 0 }, numbers)
+}
+
+/// Counts what was compared, prints the first differences, and ends the run where they are many.
+#[derive(Default)]
+pub struct Tally {
+    pub compared: u64,
+    pub differing: u64,
+}
+
+impl Tally {
+    pub fn differs(&mut self, what: &str, format: u8, block: &[u8]) {
+        self.differing += 1;
+        if self.differing <= 10 {
+            let hex: String = block.iter().map(|byte| format!("{byte:02X}")).collect();
+            println!("DIFFERENT: {what}: format {format}, block {hex}");
+        }
+        if self.differing == 1000 {
+            println!("{} comparisons, {} differ: stopped", self.compared, self.differing);
+            std::process::exit(1);
+        }
+    }
+
+    fn verdict(&self) -> ExitCode {
+        println!("{} comparisons, {} differ", self.compared, self.differing);
+        if self.compared > 0 && self.differing == 0 { ExitCode::SUCCESS } else { ExitCode::FAILURE }
+    }
+}
+
+/// Every class of blocks, with its name.
+pub fn for_each_class(extent: &Extent, mut class: impl FnMut(&str, &mut dyn FnMut(&mut dyn FnMut([u8; 16])))) {
+    let modes = Mode::all();
+    let live = || modes.iter().filter(|mode| !mode.reserved());
+    class("B1 to B11", &mut |mut visit| NAMED.into_iter().for_each(&mut visit));
+    class("one and two bits", &mut |mut visit| modes.iter().for_each(|mode| mode.few_bits(&mut visit)));
+    class("index bits", &mut |mut visit| live().for_each(|mode| mode.index_bits(&mut visit)));
+    class("extreme endpoints", &mut |mut visit| live().for_each(|mode| mode.extremes(&mut visit)));
+    class("endpoint pairs", &mut |mut visit| live().for_each(|mode| mode.pairs(extent.pair_step, &mut visit)));
+    class("random", &mut |mut visit| modes.iter().for_each(|mode| mode.random(extent.random, extent.seed, &mut visit)));
+}
+
+fn number(words: &[String], at: usize, default: u64) -> u64 {
+    words.get(at).map_or(default, |word| word.parse().expect("a number"))
+}
+
+fn main() -> ExitCode {
+    let words: Vec<String> = std::env::args().skip(1).collect();
+    let mut tally = Tally::default();
+    match words.first().map(String::as_str) {
+        #[cfg(archive)]
+        Some("short") => archive::compare(&Extent { pair_step: 7, random: 50_000, seed: number(&words, 1, 1) }, &mut tally),
+        #[cfg(archive)]
+        Some("long") => archive::compare(&Extent { pair_step: 1, random: 5_000_000, seed: number(&words, 1, 1) }, &mut tally),
+        Some("programs") if words.len() >= 3 => programs::compare(&words[1], &words[2], number(&words, 3, 1), &mut tally),
+        Some("entries") => return programs::entries(number(&words, 1, 1)),
+        Some("emit") => return programs::emit(number(&words, 1, 1), number(&words, 2, 0), number(&words, 3, 1)),
+        _ => {
+            eprintln!("usage: compare short|long [SEED] | programs DECODE EXTRACT [SEED] | entries SEED | emit COUNT FORMAT SEED");
+            return ExitCode::from(2);
+        }
+    }
+    tally.verdict()
+}

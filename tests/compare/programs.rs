@@ -1,0 +1,135 @@
+//! Our side as programs: decode_blocks (17 bytes in, 98 out) and extract_fields (16 in, 44 out).
+use crate::blocks::{Mode, NAMED};
+use crate::{field_numbers, Tally};
+use std::io::{BufWriter, Read, Write};
+use std::process::{Command, ExitCode, Stdio};
+
+/// What a program answers to an input, both as a whole.
+fn answers(program: &str, input: &[u8]) -> Vec<u8> {
+    let mut child = Command::new("sh").args(["-c", program]).stdin(Stdio::piped()).stdout(Stdio::piped()).spawn().expect(program);
+    let mut to = child.stdin.take().unwrap();
+    let mut from = child.stdout.take().unwrap();
+    let mut output = Vec::new();
+    std::thread::scope(|scope| {
+        scope.spawn(move || to.write_all(input).expect("the program reads its input"));
+        from.read_to_end(&mut output).expect("the program writes");
+    });
+    child.wait().unwrap();
+    output
+}
+
+/// The 98 bytes for a record; a format above 1 and a block that is not whole are refused.
+fn decoded(record: &[u8]) -> [u8; 98] {
+    let mut answer = [0; 98];
+    match (record[0], <[u8; 16]>::try_from(&record[1..])) {
+        (2.., _) => answer[0] = 1,
+        (_, Err(_)) => answer[0] = 2,
+        (format, Ok(block)) => {
+            answer[1] = oracle::mode(block);
+            for (value, bytes) in oracle::pixels(block, format == 1).iter().flatten().zip(answer[2..].chunks_mut(2)) {
+                bytes.copy_from_slice(&value.to_le_bytes());
+            }
+        }
+    }
+    answer
+}
+
+/// The 44 bytes for a block: answer, mode, twelve endpoints of two bytes, partition, region count, sixteen indices.
+fn extracted(block: &[u8]) -> Vec<u8> {
+    let Ok(block) = <[u8; 16]>::try_from(block) else {
+        return [[2].as_slice(), &[0; 43]].concat();
+    };
+    let (answer, numbers) = field_numbers(block);
+    let mut bytes = vec![answer, numbers[0] as u8];
+    bytes.extend(numbers[1..13].iter().flat_map(|number| number.to_le_bytes()));
+    bytes.extend(numbers[13..].iter().map(|&number| number as u8));
+    bytes
+}
+
+fn sample(seed: u64) -> Vec<[u8; 16]> {
+    let mut blocks = NAMED.to_vec();
+    for mode in Mode::all() {
+        mode.few_bits(&mut |block| blocks.push(block));
+        mode.random(5000, seed, &mut |block| blocks.push(block));
+        if !mode.reserved() {
+            mode.pairs(9973, &mut |block| blocks.push(block));
+        }
+    }
+    blocks
+}
+
+fn compare_run(what: &str, input: &[u8], size: usize, output: &[u8], expected: &[u8], each: usize, tally: &mut Tally) {
+    if output.len() != expected.len() {
+        tally.differs(&format!("{what} wrote {} bytes for {}", output.len(), expected.len()), 0, &[]);
+    }
+    for (n, (ours, theirs)) in output.chunks(each).zip(expected.chunks(each)).enumerate() {
+        tally.compared += 1;
+        if ours != theirs {
+            let piece = &input[n * size..input.len().min((n + 1) * size)];
+            tally.differs(what, if size == 17 { piece[0] } else { 0 }, &piece[size - 16..]);
+        }
+    }
+}
+
+pub fn compare(decode: &str, extract: &str, seed: u64, tally: &mut Tally) {
+    let blocks = sample(seed);
+    let mut records = Vec::new();
+    for (n, block) in blocks.iter().enumerate() {
+        for format in [0, 1, 2 + (n % 254) as u8].into_iter().take(if n % 50 == 0 { 3 } else { 2 }) {
+            records.push(format);
+            records.extend(block);
+        }
+    }
+    records.extend([1, 0x0F, 0, 0]);
+    let expected: Vec<u8> = records.chunks(17).flat_map(decoded).collect();
+    compare_run("decode_blocks", &records, 17, &answers(decode, &records), &expected, 98, tally);
+
+    let mut bytes = blocks.concat();
+    bytes.extend([0x0F, 0, 0]);
+    let expected: Vec<u8> = bytes.chunks(16).flat_map(extracted).collect();
+    compare_run("extract_fields", &bytes, 16, &answers(extract, &bytes), &expected, 44, tally);
+}
+
+/// B1 to B11, every block of at most two bits over each code or two short of all, and random ones.
+pub fn emit(count: u64, format: u64, seed: u64) -> ExitCode {
+    let mut output = BufWriter::new(std::io::stdout().lock());
+    let mut put = |block: [u8; 16]| {
+        output.write_all(&[format as u8]).and_then(|()| output.write_all(&block)).expect("standard output");
+    };
+    let modes = Mode::all();
+    NAMED.into_iter().for_each(&mut put);
+    for mode in &modes {
+        mode.few_bits(&mut put);
+        mode.random(count.div_ceil(modes.len() as u64), seed, &mut put);
+    }
+    output.flush().expect("standard output");
+    ExitCode::SUCCESS
+}
+
+/// The list that the program replay reads: each entry is a record of 17 bytes and the Rust's 98 bytes for it. Both formats of
+/// B1 to B11 and, for each code, no bit and every bit above it, random blocks and a run through the extreme endpoints.
+pub fn entries(seed: u64) -> ExitCode {
+    let mut blocks = NAMED.to_vec();
+    for mode in Mode::all() {
+        let first = blocks.len();
+        mode.few_bits(&mut |block| blocks.push(block));
+        let every_bit = blocks[first + (blocks.len() - first) / 2];
+        blocks.truncate(first + 1);
+        blocks.push(every_bit);
+        mode.random(56, seed, &mut |block| blocks.push(block));
+        if !mode.reserved() {
+            let mut extremes = Vec::new();
+            mode.extremes(&mut |block| extremes.push(block));
+            blocks.extend(extremes.iter().step_by(extremes.len() / 24 - 1).take(24));
+        }
+    }
+    let mut output = BufWriter::new(std::io::stdout().lock());
+    for block in blocks {
+        for format in [0, 1] {
+            let record = [[format].as_slice(), &block].concat();
+            output.write_all(&record).and_then(|()| output.write_all(&decoded(&record))).expect("standard output");
+        }
+    }
+    output.flush().expect("standard output");
+    ExitCode::SUCCESS
+}

@@ -30,11 +30,7 @@ runOf signed blocks n = join (made (shownAt signed blocks) n)
 
 -- "order 1, 9, 3, where 3 means fewer than 48 values a block"
 unfoldable pub runRefusal : ℕ → ℕ → ℕ → ℕ
-runRefusal format size room =
-    pick (ltb 1 format) badFormat
-    (pick (eqb (size % blockSize) 0)
-    (pick (ltb room (valueCount * (size / blockSize))) shortOutput done)
-    unevenBlocks)
+runRefusal format size room = pick (ltb 1 format) badFormat (pick (eqb (size % blockSize) 0) (pick (ltb room (valueCount * (size / blockSize))) shortOutput done) unevenBlocks)
 
 -- "it answers that number", the number of blocks
 abbrev pub runAnswer : ℕ → List ℕ → BlocksPixels

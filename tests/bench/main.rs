@@ -1,5 +1,6 @@
 //! Blocks per second, ours and the Rust's in one run, both built for release: for each format and group of modes, over 4,096
-//! blocks that stay in cache and over 64 MiB of blocks; and the twin list's two worst stores against decoding their blocks.
+//! blocks that stay in cache and over 64 MiB of blocks; the call over a run of blocks against a call for each; and the twin
+//! list's two worst stores against decoding their blocks.
 //!
 //!     bench                  the table
 //!     bench ours|rust        decodes 100,000 mixed blocks with one side, in `counted`, for a count of instructions
@@ -12,6 +13,7 @@ use std::time::Instant;
 
 extern "C" {
     fn knot_block_pixels(block: *const u8, block_length: usize, format: u8, out: *mut u16, out_length: usize) -> u32;
+    fn knot_blocks_pixels(blocks: *const u8, blocks_length: usize, format: u8, out: *mut u16, out_length: usize, done: *mut usize) -> u32;
     fn knot_twin_list(store: *const u8, store_length: usize, marks: *mut u8, marks_length: usize) -> u64;
 }
 
@@ -70,7 +72,38 @@ fn table() {
             }
         }
     }
+    runs(&groups[0].1);
     twins(&groups[0].1);
+}
+
+/// Nanoseconds a block of mixed modes: one call for the run, and a call for each block, both into one run of values.
+fn runs(modes: &[&Mode]) {
+    println!("{:12} {:9} {:>16} {:>16} {:>6}", "run of", "format", "one call, ns", "a call each, ns", "ratio");
+    for count in [1, 64, 4096, 1_048_576] {
+        let blocks = blocks_of(modes, count);
+        let mut out = vec![0u16; 48 * count];
+        let rounds = (1_000_000 / count).max(1);
+        for (format, name) in [(0, "unsigned"), (1, "signed")] {
+            let whole = seconds(|| {
+                for _ in 0..rounds {
+                    let bytes = black_box(blocks.as_flattened());
+                    let mut done = 0;
+                    unsafe { knot_blocks_pixels(bytes.as_ptr(), bytes.len(), black_box(format), out.as_mut_ptr(), out.len(), &mut done) };
+                    assert_eq!(black_box(done), count);
+                }
+            });
+            let each = seconds(|| {
+                for _ in 0..rounds {
+                    for (block, values) in black_box(&blocks).iter().zip(out.chunks_exact_mut(48)) {
+                        unsafe { knot_block_pixels(block.as_ptr(), 16, black_box(format), values.as_mut_ptr(), 48) };
+                    }
+                    black_box(&out);
+                }
+            });
+            let cost = |seconds: f64| seconds * 1e9 / (rounds * count) as f64;
+            println!("{count:<12} {name:9} {:>16.1} {:>16.1} {:>6.2}", cost(whole), cost(each), each / whole);
+        }
+    }
 }
 
 fn record(block: [u8; 16]) -> [u8; 24] {

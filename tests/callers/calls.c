@@ -85,7 +85,7 @@ static void fields(void)
     CHECK(KNOT_ANSWER(answer) == KNOT_DONE && KNOT_MODE(answer) == 11 && values[0] == 11);
     CHECK(all(1, 4, 0) && values[4] == 0x3FF && all(5, 30, 0) && values[30] == 15 && all(31, 64, UNTOUCHED));
     answer = knot_block_fields(B9, 16, values, 31);
-    CHECK(KNOT_MODE(answer) == 10 && values[7] == 0x3F && values[10] == 0x1A && values[13] == 13 && values[14] == 8);
+    CHECK(KNOT_MODE(answer) == 10 && values[7] == 0x3F && values[10] == 0 && values[13] == 13 && values[14] == 8);
 }
 
 static uint8_t store[48001];

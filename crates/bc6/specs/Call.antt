@@ -15,11 +15,7 @@ use Rattle.bc6.specs.declared.Pixels.{Pixels}
 
 -- "pixels of a block: 1, 2, 3": the first check that is met, from the format, the block's length and the room
 unfoldable pub refusalOf : ℕ → ℕ → ℕ → ℕ
-refusalOf format size room =
-    pick (ltb 1 format) badFormat
-    (pick (eqb size blockSize)
-    (pick (ltb room valueCount) shortOutput done)
-    badBlock)
+refusalOf format size room = pick (ltb 1 format) badFormat (pick (eqb size blockSize) (pick (ltb room valueCount) shortOutput done) badBlock)
 
 -- "0 (unsigned) nor 1 (signed)"
 abbrev pub isSigned : ℕ → Bool

@@ -92,7 +92,8 @@ pub fn decode_bc6_block(block: &[u8], signed: bool) -> [[u16; 3]; 16]
     let f = bc6_fields::fields_of(block);
     let mode = f.mode;
     if mode == 0 {
-        return [[0u16; 3]; 16];
+        let black = Colour::black();
+        return [black; 16];
     }
     if mode <= 10 {
         return decode_two(f, signed);

@@ -1,8 +1,15 @@
 -- What the exports answer: the calls' own answers, packed into one word. Assumes nothing.
 use mathlib.Core.Path.{_≡_}
-use mathlib.Core.List.{List}
-use Prim.Native.Nat.{ℕ, zero, suc, _+_, _*_}
-use lib.ListN.{length}
+use mathlib.Core.List.{List, _++_}
+use Prim.Native.Nat.{ℕ, zero, suc, _+_, _-_, _*_}
+use lib.Dec.{ltb}
+use lib.ListN.{length, getD, drop}
+use Rattle.laws.specs.Pick.{pick}
+use Rattle.laws.specs.Made.{made}
+use Rattle.bc6h_spec.specs.declared.Fields.{Fields}
+use Rattle.bc6h_spec.specs.Answers.{done, shortOutput}
+use Rattle.bc6h_spec.specs.Fields.{modeOf, fieldsOf}
+use Rattle.bc6_fields.specs.Call as fields
 use Rattle.bc6.specs.declared.Pixels.{Pixels}
 use Rattle.bc6.specs.Call.{refusalOf, answerAt, valuesAt}
 use Rattle.records.specs.Store.{recordSize, headSize, tileOf, formatOf, recordRefusal}
@@ -22,6 +29,43 @@ pixelsWord p = twoBytes (p .answer) (p .mode)
 pub record PixelsCalled (block : List ℕ) (format : ℕ) (out : List ℕ) (r : ℕ) (after : List ℕ) : Type 0 where
   pub answers : r ≡ pixelsWord (answerAt (refusalOf format (length block) (length out)) block)
   pub holds : after ≡ valuesAt (refusalOf format (length block) (length out)) block format out
+
+-- a field record as numbers: mode, twelve endpoint values, partition, pixels in region 1, sixteen indices
+abbrev pub numberCount : ℕ
+numberCount = 31
+
+unfoldable pub numberAt : Fields → ℕ → ℕ
+numberAt f k =
+    pick (ltb k 1) (f .mode)
+    (pick (ltb k 13) (getD (f .endpoints) (k - 1) 0)
+    (pick (ltb k 14) (f .partition)
+    (pick (ltb k 15) (f .region1)
+    (getD (f .indices) (k - 15) 0))))
+
+unfoldable pub numbersOf : Fields → List ℕ
+numbersOf f = made (numberAt f) numberCount
+
+-- the field call's own refusals, 2 and 4, and then 3, where the lent numbers are too few
+abbrev pub withRoom : ℕ → ℕ → ℕ
+withRoom zero room = pick (ltb room numberCount) shortOutput done
+withRoom (suc number) room = suc number
+
+abbrev pub fieldsRefusal : List ℕ → ℕ → ℕ
+fieldsRefusal block room = withRoom (fields.refusalOf (length block) (modeOf block)) room
+
+-- the number in the low byte, the mode in the next
+abbrev pub fieldsWord : ℕ → List ℕ → ℕ
+fieldsWord zero block = twoBytes done (modeOf block)
+fieldsWord (suc number) block = suc number
+
+abbrev pub numbersAt : ℕ → List ℕ → List ℕ → List ℕ
+numbersAt zero block lent = numbersOf (fieldsOf block) ++ drop numberCount lent
+numbersAt (suc number) block lent = lent
+
+-- The field call: its answer in one word, and the lent numbers, which a refusal leaves.
+pub record FieldsCalled (block lent : List ℕ) (r : ℕ) (after : List ℕ) : Type 0 where
+  pub answers : r ≡ fieldsWord (fieldsRefusal block (length lent)) block
+  pub holds : after ≡ numbersAt (fieldsRefusal block (length lent)) block lent
 
 -- a record: 0 in the low byte, the format in the next, the tile in the high half; a refusal: its number alone
 abbrev pub wordAt : ℕ → List ℕ → ℕ → ℕ

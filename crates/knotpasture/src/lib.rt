@@ -1,11 +1,15 @@
 // The public calls for C and Rust, as include/knotpasture.h declares them. A slice is a pointer and a length.
 use bc6h_spec::Answer;
+use bc6h_spec::Fields;
 use records::Record;
 use records::RecordReading;
 ghost use mathlib.Core.Path.{_≡_};
-ghost use Prim.Native.Nat.{_+_, _*_};
+ghost use mathlib.Core.List.{_++_};
+ghost use Prim.Native.Nat.{_+_, _*_, _<_, _≤_};
+ghost use lib.ListN.{length, drop};
+ghost use Rattle.copies.specs.Trust.{trusted};
 ghost use Rattle.records.specs.Store.{recordRefusal, tileAt};
-ghost use Rattle.knotpasture.specs.Packed.{twoBytes, readingWord, offsetAt, PixelsCalled, TwinsCalled};
+ghost use Rattle.knotpasture.specs.Packed.{twoBytes, numberCount, numberAt, numbersOf, readingWord, offsetAt, PixelsCalled, FieldsCalled, TwinsCalled};
 
 // Two bytes as one word, the first the lowest.
 fn two_bytes(low: u8, high: u8) -> u32
@@ -20,6 +24,62 @@ pub extern "C" fn knot_block_pixels(block: &[u8], format: u8, out: &mut [u16]) -
 {
     let pixels = bc6::block_pixels(block, format, out);
     two_bytes(pixels.answer, pixels.mode)
+}
+
+// A field record as a run of numbers.
+struct Numbers {
+    count: usize,
+}
+
+impl Numbers {
+    const COUNT: usize = 31;
+}
+
+// Number k of a field record: mode, twelve endpoint values, partition, pixels in region 1, sixteen indices.
+fn number_at(fields: Fields, k: usize) -> u16
+    requires { ⌜ k < numberCount ⌝ }
+    ensures { λ r. ⌜ r ≡ numberAt fields k ⌝ }
+{
+    if k < 1 {
+        return fields.mode as u16;
+    }
+    if k < 13 {
+        let endpoints = fields.endpoints;
+        return endpoints[k - 1];
+    }
+    if k < 14 {
+        return fields.partition as u16;
+    }
+    if k < 15 {
+        return fields.region1 as u16;
+    }
+    let indices = fields.indices;
+    indices[k - 15] as u16
+}
+
+fn write_numbers(fields: Fields, numbers: &mut [u16])
+    requires { ⌜ numberCount ≤ length (now numbers) ⌝ }
+    ensures { λ _. ⌜ now (numbers .exit) ≡ numbersOf fields ++ drop numberCount (now (numbers .entry)) ⌝ }
+{
+    for k in 0..Numbers::COUNT {
+        numbers[k] = number_at(fields, k);
+    }
+}
+
+#[no_mangle]
+pub extern "C" fn knot_block_fields(block: &[u8], numbers: &mut [u16]) -> u32
+    ensures { λ r. ⌜ FieldsCalled (now (block .entry)) (now (numbers .entry)) r (now (numbers .exit)) ⌝ }
+{
+    let read = bc6_fields::block_fields(block);
+    if read.answer != Answer::DONE {
+        return read.answer as u32;
+    }
+    if numbers.len() < Numbers::COUNT {
+        return Answer::SHORT_OUTPUT as u32;
+    }
+    let fields = read.fields;
+    write_numbers(fields, numbers);
+    two_bytes(Answer::DONE, fields.mode)
 }
 
 #[no_mangle]
@@ -62,4 +122,11 @@ pub extern "C" fn knot_twin_list(store: &[u8], marks: &mut [u8]) -> u64
     (list.kept as u64) * 0x10000
         + (list.twins as u64) * 0x100000000
         + (list.bad as u64) * 0x1000000000000
+}
+
+#[no_mangle]
+pub extern "C" fn knot_is_trusted(block: &[u8]) -> bool
+    ensures { λ r. ⌜ r ≡ trusted (now (block .entry)) ⌝ }
+{
+    trust::is_trusted(block)
 }

@@ -61,7 +61,3 @@ same-eq (x ∷ xs) (y ∷ ys) t =
     let e = eqb→eq x y (both-left (eqb x y) (same xs ys) t) in
     let r = same-eq xs ys (both-right (eqb x y) (same xs ys) t) in
     cc
-
--- past the arm of a number: a number from k up that is not k
-pub past : {m : ℕ} (k : ℕ) → k ≤ m → (m ≡ k → ⊥) → suc k ≤ m
-past k h n = omega arith

@@ -1,12 +1,16 @@
 -- `bc6::decode_bc6_block` meets its contract: by the mode. Assumes nothing.
 use borrow.Author.Needs.{needs}
 use borrow.Author.Tests.{le-leb, lt-leb}
+use mathlib.Core.Path.{ap, _∙_}
+use lib.ListN.{replicate}
 use Rattle.bc6.proofs.Whole.{valid, reserved, decoded}
 use Rattle.bc6.proofs.decode_bc6_block.Statement.{statement}
 use Rattle.bc6.proofs.decode_bc6_block.Tie as tie
 
 returns : tie.Need-returns
-returns c = reserved (c .before .before .before .args .signed) _ _ (c .before .fields-of .ensures) (c .if1 .taken)
+returns c =
+    let f = c .before .before in
+    ap (replicate 16) (c .black .ensures) ∙ reserved (f .before .before .args .signed) _ _ (f .fields-of .ensures) (c .before .if1 .taken)
 
 decode-two-requires : tie.Need-decode-two-requires
 decode-two-requires c κs =
@@ -32,6 +36,7 @@ pub decode-bc6-block-spec : {M : Type 1} → statement M
 decode-bc6-block-spec =
     tie.close
     (tie.spec
+    (λ c κs. search needs)
     (λ c κs. search needs)
     returns
     decode-two-requires

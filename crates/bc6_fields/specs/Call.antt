@@ -3,7 +3,7 @@ use mathlib.Core.Path.{_≡_}
 use mathlib.Core.List.{List}
 use Prim.Native.Nat.{ℕ, zero, suc}
 use lib.Dec.{eqb}
-use lib.ListN.{length, getD}
+use lib.ListN.{length}
 use Rattle.laws.specs.Pick.{pick}
 use Rattle.bc6h_spec.specs.Answers.{done, badBlock, reservedMode}
 use Rattle.bc6h_spec.specs.Bits.{blockSize}
@@ -22,7 +22,3 @@ answerAt (suc n) block = record { answer = suc n; fields = noFields }
 -- the whole outcome of the call
 pub record Extracted (block : List ℕ) (r : FieldsRead) : Type 0 where
   pub answers : r ≡ answerAt (refusalOf (length block) (modeOf block)) block
-
--- the number at a place
-unfoldable pub entry : List ℕ → ℕ → ℕ
-entry places place = getD places place 0

@@ -13,7 +13,8 @@ ghost use Rattle.bcn_util.specs.Stream.{number};
 ghost use Rattle.bcn_util.specs.Indexed.{indexAt};
 ghost use Rattle.bc6h_spec.specs.Layout.{row};
 ghost use Rattle.bc6h_spec.specs.Fields.{modeIn, gathered, fieldsAt, fieldsOf};
-ghost use Rattle.bc6_fields.specs.Call.{entry, Extracted};
+ghost use Rattle.bc6_fields.specs.Call.{Extracted};
+ghost use Rattle.bc6_fields.specs.Places.{entry};
 
 // The mode number, 0 for a reserved mode.
 pub fn extract_mode(stream: BitStream) -> usize

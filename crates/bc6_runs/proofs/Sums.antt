@@ -1,7 +1,7 @@
 -- Sums of parts: their bounds, and equal lists of them. Assumes nothing.
 use mathlib.Core.Path.{_≡_, refl}
 use mathlib.Core.List.{List, [], _∷_}
-use Prim.Native.Nat.{ℕ, _+_, _<_, _≤_}
+use Prim.Native.Nat.{ℕ, _+_, _≤_}
 use native.Mathlib.Nat.{add-le-add, lt-of-le-of-lt}
 use lib.Dec.{T, ltb, ltb→lt}
 use mir.Val.{Fits}

@@ -1,4 +1,5 @@
 // The bits before the indices, by runs: each place of a mode is a sum of a few stretches of bits. This is what decoding reads.
+// The places are red, green and blue of the endpoints w, x, y and z, then the mode and the partition.
 use bcn_util::BitStream;
 ghost use mathlib.Core.Path.{_≡_};
 ghost use Prim.Native.Nat.{_+_, _<_, _≤_};

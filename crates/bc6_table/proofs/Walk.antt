@@ -2,12 +2,12 @@
 -- Assumes nothing.
 use mathlib.Core.Path.{_≡_, _∙_, refl, sym, ap, subst}
 use mathlib.Core.Bool.{Bool, true, false}
-use mathlib.Core.List.{List, [], _∷_}
-use Prim.Native.Nat.{ℕ, zero, suc, _+_, _-_, _*_, _/_, _%_, _^_, _<_, _≤_}
-use native.Mathlib.Nat.{le-refl, add-le-add, mul-le-mul-right, one-mul, mod-lt, le-of-suc-le-suc, lt-of-le-of-lt, lt-of-lt-of-le, div-one, zero-add}
+use mathlib.Core.List.{List}
+use Prim.Native.Nat.{ℕ, zero, suc, _+_, _*_, _/_, _%_, _^_, _<_, _≤_}
+use native.Mathlib.Nat.{le-of-suc-le-suc, lt-of-le-of-lt, lt-of-lt-of-le, div-one, zero-add}
 use native.Mathlib.Numerals.{add-one}
 use native.Mathlib.Omega.{arith}
-use lib.Dec.{eqb, lit<}
+use lib.Dec.{eqb}
 use lib.Pow.{shr-shr, pow-mono}
 use lib.ListN.{length, getD, set, length-set, drop, replicate}
 use lib.Seq.{drop-cons, drop-length, getD-set-same, getD-set-other}
@@ -17,7 +17,7 @@ use Rattle.laws.specs.Made.{made}
 use Rattle.laws.proofs.Rows.{made-each}
 use Rattle.bc6h_spec.specs.Layout.{row, width, table, tableBits, rowStart}
 use Rattle.bc6h_spec.specs.Fields.{gathered}
-use Rattle.bc6h_spec.proofs.Once.{full, Once, row-once, in-table, in-range}
+use Rattle.bc6h_spec.proofs.Once.{full, row-once, in-table, in-range}
 use Rattle.bc6h_spec.proofs.Gather.{gathered-le}
 
 next : (l : List ℕ) (k n p : ℕ) → k < length l

@@ -1,9 +1,8 @@
 -- The steps of `Indexes`, one law each. Assumes nothing.
-use mathlib.Core.Path.{_≡_, _∙_, sym, ap, subst}
+use mathlib.Core.Path.{_≡_, sym, ap, subst}
 use Prim.Native.Nat.{ℕ, _+_, _-_, _*_, _/_, _%_, _^_, _<_, _≤_}
-use native.Mathlib.Nat.{mul-le-mul, mod-lt, mod-eq-of-lt, lt-of-lt-of-le, lt-of-le-of-lt}
+use native.Mathlib.Nat.{mul-le-mul, mod-lt, mod-eq-of-lt, lt-of-lt-of-le}
 use native.Mathlib.Omega.{arith}
-use lib.Dec.{lit≤}
 use lib.Pow.{pow-pos, pow-mono, split}
 use Rattle.laws.specs.Packed.{opened}
 use Rattle.laws.proofs.Opening.{opened-le}

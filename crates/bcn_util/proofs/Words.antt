@@ -1,5 +1,5 @@
 -- Two words as one number, cut at bit n. Assumes nothing.
-use mathlib.Core.Path.{_≡_, _∙_, refl, sym, ap, subst}
+use mathlib.Core.Path.{_≡_, _∙_, sym, ap, subst}
 use Prim.Native.Nat.{ℕ, _+_, _-_, _*_, _/_, _%_, _^_, _<_, _≤_}
 use native.Mathlib.Nat.{add-mul-mod-self-left, add-mul-div-left, mul-assoc, mul-comm, mul-mod-left, mul-div-left, mul-add, mod-lt, div-lt-iff-lt-mul, div-add-mod, div-eq-of-lt, one-mul, add-zero, zero-add, div-one}
 use native.Mathlib.Omega.{arith}

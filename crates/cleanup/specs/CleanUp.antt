@@ -1,16 +1,19 @@
 -- When a tile that is marked a twin may go: its block is a copy, byte for byte, of the block that stays. Assumes nothing.
 use mathlib.Core.Path.{_≡_}
 use mathlib.Core.Logic.{_⊎_}
-use mathlib.Core.Bool.{false}
+use mathlib.Core.Bool.{Bool, false}
 use mathlib.Core.List.{List}
 use Prim.Native.Nat.{ℕ, _<_}
+use lib.Dec.{eqb}
 use lib.ListN.{getD}
+use Rattle.laws.specs.Pick.{both}
 use Rattle.bc6h_spec.specs.Answers.{done}
 use Rattle.bc6h_spec.specs.Fields.{modeOf}
 use Rattle.copies.specs.Words.{Eligible, ChannelDiffers}
+use Rattle.copies.specs.Trust.{trusted}
 use Rattle.records.specs.Store.{recordsIn, formatOf, blockOf, Unrefused}
 use Rattle.twins.specs.declared.TwinList.{TwinList}
-use Rattle.twins.specs.Twins.{twinMark, firstTwin, Listed}
+use Rattle.twins.specs.Twins.{twinMark, isRecord, firstTwin, Listed}
 
 -- both records unsigned, their blocks of one mode, and demand 3's premises met
 pub record Covered (store : List ℕ) (n earlier : ℕ) : Type 0 where
@@ -33,3 +36,13 @@ pub record Copy (store : List ℕ) (n earlier : ℕ) : Type 0 where
 abbrev pub CleanUp : Type 0
 CleanUp = (store lent after : List ℕ) (r : TwinList) → Listed store lent r after → r .answer ≡ done → (n : ℕ) → n < recordsIn store
     → getD after n 0 ≡ twinMark → Covered store n (firstTwin store n) → Copy store n (firstTwin store n)
+
+-- ---- a test for it, which a program computes: each of the two blocks meets the premises by itself
+
+unfoldable pub coveredPair : List ℕ → List ℕ → Bool
+coveredPair block earlier = both (trusted block) (both (trusted earlier) (eqb (modeOf block) (modeOf earlier)))
+
+unfoldable pub covered : List ℕ → ℕ → ℕ → Bool
+covered store n earlier =
+    both (both (isRecord store n) (isRecord store earlier))
+    (both (both (eqb (formatOf store n) 0) (eqb (formatOf store earlier) 0)) (coveredPair (blockOf store n) (blockOf store earlier)))

@@ -44,31 +44,31 @@ off-keep p j (negsuc x) n h = go (decLt (x / 2 ^ p) j)
 pos-inj : (a b : ℕ) → pos a ≡ pos b → a ≡ b
 pos-inj a b e = ap natAbs e
 
--- ---- sign extension, 2 ^ w added
+-- ---- sign extension, lifted by 2 ^ w above zero
 
-sx : ℕ → ℕ → ℕ
-sx w d = pick (ltb d (2 ^ (w - 1))) (2 ^ w + d) d
+lifted : ℕ → ℕ → ℕ
+lifted w d = pick (ltb d (2 ^ (w - 1))) (2 ^ w + d) d
 
-sx-off : (w d : ℕ) → Off (2 ^ w) (signExtend w d) (sx w d)
-unfolding sx signExtend
-sx-off w d = go (decLt d (2 ^ (w - 1)))
+lifted-off : (w d : ℕ) → Off (2 ^ w) (signExtend w d) (lifted w d)
+unfolding lifted signExtend
+lifted-off w d = go (decLt d (2 ^ (w - 1)))
   where
-    go : Dec (d < 2 ^ (w - 1)) → Off (2 ^ w) (signExtend w d) (sx w d)
+    go : Dec (d < 2 ^ (w - 1)) → Off (2 ^ w) (signExtend w d) (lifted w d)
     go (yes l) = rw (lt-ltb d (2 ^ (w - 1)) l) refl
     go (no l) =
         rw (le-ltb d (2 ^ (w - 1)) (omega arith))
         (off-same (0 + 2 ^ w) (2 ^ w) (pos d -ℤ pos (2 ^ w)) (d + 0) d (omega arith) (omega arith)
         (off-add 0 (2 ^ w) (pos d) (negℤ (pos (2 ^ w))) d 0 (off-pos d) (off-neg (2 ^ w))))
 
-record Sx (w d : ℕ) : Type 0 where
-  low : 2 ^ (w - 1) ≤ sx w d
-  high : sx w d < 3 * 2 ^ (w - 1)
+record LiftedRange (w d : ℕ) : Type 0 where
+  low : 2 ^ (w - 1) ≤ lifted w d
+  high : lifted w d < 3 * 2 ^ (w - 1)
 
-sx-range : (w d : ℕ) → 1 ≤ w → d < 2 ^ w → Sx w d
-unfolding sx
-sx-range w d o h = go (decLt d (2 ^ (w - 1)))
+lifted-range : (w d : ℕ) → 1 ≤ w → d < 2 ^ w → LiftedRange w d
+unfolding lifted
+lifted-range w d o h = go (decLt d (2 ^ (w - 1)))
   where
-    go : Dec (d < 2 ^ (w - 1)) → Sx w d
+    go : Dec (d < 2 ^ (w - 1)) → LiftedRange w d
     go (yes l) =
         record {
           low = rw (lt-ltb d (2 ^ (w - 1)) l) (omega (arith, twice w o));
@@ -80,11 +80,11 @@ sx-range w d o h = go (decLt d (2 ^ (w - 1)))
           high = rw (le-ltb d (2 ^ (w - 1)) (omega arith)) (omega (arith, twice w o));
         }
 
-sx-inj : (w d e : ℕ) → d < 2 ^ w → e < 2 ^ w → sx w d ≡ sx w e → d ≡ e
-unfolding sx
-sx-inj w d e hd he = go (decLt d (2 ^ (w - 1))) (decLt e (2 ^ (w - 1)))
+lifted-inj : (w d e : ℕ) → d < 2 ^ w → e < 2 ^ w → lifted w d ≡ lifted w e → d ≡ e
+unfolding lifted
+lifted-inj w d e hd he = go (decLt d (2 ^ (w - 1))) (decLt e (2 ^ (w - 1)))
   where
-    go : Dec (d < 2 ^ (w - 1)) → Dec (e < 2 ^ (w - 1)) → sx w d ≡ sx w e → d ≡ e
+    go : Dec (d < 2 ^ (w - 1)) → Dec (e < 2 ^ (w - 1)) → lifted w d ≡ lifted w e → d ≡ e
     go (yes a) (yes b) = rw (lt-ltb d (2 ^ (w - 1)) a, lt-ltb e (2 ^ (w - 1)) b) (omega arith)
     go (yes a) (no b) = rw (lt-ltb d (2 ^ (w - 1)) a, le-ltb e (2 ^ (w - 1)) (omega arith)) (omega arith)
     go (no a) (yes b) = rw (le-ltb d (2 ^ (w - 1)) (omega arith), lt-ltb e (2 ^ (w - 1)) b) (omega arith)
@@ -92,13 +92,13 @@ sx-inj w d e hd he = go (decLt d (2 ^ (w - 1))) (decLt e (2 ^ (w - 1)))
 
 extend-inj : (w d e : ℕ) → d < 2 ^ w → e < 2 ^ w → signExtend w d ≡ signExtend w e → d ≡ e
 extend-inj w d e hd he q =
-    sx-inj w d e hd he (off-fun (2 ^ w) (signExtend w d) _ _ (sx-off w d) (subst (λ (z : ℤ). Off (2 ^ w) z (sx w e)) (sym q) (sx-off w e)))
+    lifted-inj w d e hd he (off-fun (2 ^ w) (signExtend w d) _ _ (lifted-off w d) (subst (λ (z : ℤ). Off (2 ^ w) z (lifted w e)) (sym q) (lifted-off w e)))
 
 -- a number of w bits, seen from p bits
-wide : (w p d : ℕ) → w ≤ p → Off (2 ^ p) (signExtend w d) (sx w d + (2 ^ p - 2 ^ w))
+wide : (w p d : ℕ) → w ≤ p → Off (2 ^ p) (signExtend w d) (lifted w d + (2 ^ p - 2 ^ w))
 wide w p d h =
     off-same (2 ^ w + (2 ^ p - 2 ^ w)) (2 ^ p) (signExtend w d) _ _ (omega (arith, pow-mono {i = w} {j = p} h)) refl
-    (off-raise (2 ^ p - 2 ^ w) (2 ^ w) (signExtend w d) (sx w d) (sx-off w d))
+    (off-raise (2 ^ p - 2 ^ w) (2 ^ w) (signExtend w d) (lifted w d) (lifted-off w d))
 
 -- ---- ranges
 
@@ -112,9 +112,9 @@ not-least H (negsuc x) n o l h q = go (decLt (suc x) H)
 
 extended-ok : (w p d : ℕ) → 1 ≤ w → w ≤ p → d < 2 ^ w → signExtend w d ≢ negℤ (pos (2 ^ (p - 1))) → OkS p (signExtend w d)
 extended-ok w p d o h l q =
-    let s : Sx w d = sx-range w d o l in
+    let s : LiftedRange w d = lifted-range w d o l in
     let k : w - 1 ≤ p - 1 = omega arith in
-    not-least (2 ^ (p - 1)) (signExtend w d) (sx w d + (2 ^ p - 2 ^ w))
+    not-least (2 ^ (p - 1)) (signExtend w d) (lifted w d + (2 ^ p - 2 ^ w))
     (off-same (2 ^ p) (2 * 2 ^ (p - 1)) (signExtend w d) _ _ (omega (arith, twice p (omega arith))) refl (wide w p d h))
     (omega (arith, twice w o, twice p (omega arith), pow-mono {i = w - 1} {j = p - 1} k))
     (omega (arith, twice w o, twice p (omega arith), pow-mono {i = w - 1} {j = p - 1} k)) q
@@ -137,7 +137,7 @@ first-inj false p n m hn hm e = pos-inj n m e
 
 first-off : (signed : Bool) (p n : ℕ) → (A : ℕ) × Off (2 ^ p) (firstEnd signed p n) A
 unfolding firstEnd
-first-off true p n = (sx p n, sx-off p n)
+first-off true p n = (lifted p n, lifted-off p n)
 first-off false p n = (2 ^ p + n, refl)
 
 -- ---- a later endpoint
@@ -153,18 +153,18 @@ later-ok false false p w n d o h l q = omega (arith, pow-mono {i = w} {j = p} h)
 keep-inj : (p w d e : ℕ) (a : ℤ) (A : ℕ) → 1 ≤ w → w ≤ p → d < 2 ^ w → e < 2 ^ w → Off (2 ^ p) a A
     → keep p (a +ℤ signExtend w d) ≡ keep p (a +ℤ signExtend w e) → d ≡ e
 keep-inj p w d e a A o h hd he oa q =
-    sx-inj w d e hd he (omega (arith, near))
+    lifted-inj w d e hd he (omega (arith, near))
   where
-    sum : (x : ℕ) → keep p (a +ℤ signExtend w x) ≡ (A + (sx w x + (2 ^ p - 2 ^ w))) % 2 ^ p
+    sum : (x : ℕ) → keep p (a +ℤ signExtend w x) ≡ (A + (lifted w x + (2 ^ p - 2 ^ w))) % 2 ^ p
     sum x =
-        off-keep p 2 (a +ℤ signExtend w x) (A + (sx w x + (2 ^ p - 2 ^ w)))
+        off-keep p 2 (a +ℤ signExtend w x) (A + (lifted w x + (2 ^ p - 2 ^ w)))
         (off-same (2 ^ p + 2 ^ p) (2 * 2 ^ p) (a +ℤ signExtend w x) _ _ (omega arith) refl
-        (off-add (2 ^ p) (2 ^ p) a (signExtend w x) A (sx w x + (2 ^ p - 2 ^ w)) oa (wide w p x h)))
+        (off-add (2 ^ p) (2 ^ p) a (signExtend w x) A (lifted w x + (2 ^ p - 2 ^ w)) oa (wide w p x h)))
 
-    near : A + (sx w d + (2 ^ p - 2 ^ w)) ≡ A + (sx w e + (2 ^ p - 2 ^ w))
+    near : A + (lifted w d + (2 ^ p - 2 ^ w)) ≡ A + (lifted w e + (2 ^ p - 2 ^ w))
     near =
-        let s : Sx w d = sx-range w d o hd in
-        let t : Sx w e = sx-range w e o he in
+        let s : LiftedRange w d = lifted-range w d o hd in
+        let t : LiftedRange w e = lifted-range w e o he in
         mod-near (2 ^ p) _ _ (sym (sum d) ∙ q ∙ sum e)
         (omega (arith, twice w o, pow-mono {i = w} {j = p} h)) (omega (arith, twice w o, pow-mono {i = w} {j = p} h))
 

@@ -1,10 +1,10 @@
 -- Pixel 0 lies in region 0, and the fix-up pixel of region 1 in region 1. Assumes nothing.
-use mathlib.Core.Path.{_≡_, refl, sym, ap, _∙_, subst}
+use mathlib.Core.Path.{_≡_}
 use mathlib.Core.Bool.{Bool, true, false}
-use Prim.Native.Nat.{ℕ, zero, suc, _+_, _-_, _*_, _/_, _%_, _^_, _≤_, _<_}
+use Prim.Native.Nat.{ℕ, zero, suc, _/_, _^_, _<_}
 use native.Mathlib.Nat.{mod-lt}
 use native.Mathlib.Omega.{arith}
-use lib.Dec.{T, eqb, eqb·suc-zero, lit≤}
+use lib.Dec.{eqb, eqb·suc-zero, lit≤}
 use Rattle.laws.specs.Pick.{pick}
 use Rattle.laws.specs.Bit.{bit}
 use Rattle.bc6h_spec.specs.Layout.{twoRegions}

@@ -4,13 +4,12 @@ use mathlib.Core.Path.{_≡_, refl, subst}
 use mathlib.Core.Logic.{_⊎_, inl, inr, ⊎-elim}
 use mathlib.Core.Bool.{Bool, true, false, not}
 use mathlib.Core.List.{List, [], _∷_, _++_}
-use Prim.Native.Nat.{ℕ, _+_, _≤_, _<_}
-use native.Mathlib.Omega.{arith}
-use lib.Dec.{T, eqb, ltb, leb, eqb→eq, leb→le, T-not, lit<}
-use lib.IntN.{pos, negsuc}
+use Prim.Native.Nat.{ℕ, _≤_, _<_}
+use lib.Dec.{T, eqb, leb, eqb→eq, leb→le, T-not, lit<}
+use lib.IntN.{negsuc}
 use lib.ListN.{getD, replicate}
 use borrow.Author.Tests.{ne-eqb}
-use Rattle.laws.specs.Pick.{pick, both, either}
+use Rattle.laws.specs.Pick.{both, either}
 use Rattle.laws.specs.Every.{every, same}
 use Rattle.laws.specs.Made.{made, countOf}
 use Rattle.laws.specs.Packed.{before, unpacked}

@@ -9,16 +9,16 @@ use native.Mathlib.Decide.{ℕ-discrete, decLt}
 use native.Mathlib.Omega.{arith}
 use lib.Dec.{eqb, eqb·suc-zero}
 use lib.IntN.{ℤ}
-use lib.ListN.{length, getD}
+use lib.ListN.{getD}
 use lib.Seq.{ext-getD}
 use borrow.Author.Tests.{eq-eqb, ne-eqb}
-use Rattle.laws.specs.Pick.{pick, either}
+use Rattle.laws.specs.Pick.{pick}
 use Rattle.laws.proofs.Search.{is-true, either-other}
 use Rattle.bc6h_spec.specs.declared.Fields.{Fields}
 use Rattle.bc6h_spec.specs.Layout.{twoRegions, precision, ownWidth, transformed}
 use Rattle.bc6h_spec.specs.Regions.{regionOf, fixupOf}
-use Rattle.bc6h_spec.specs.Fields.{stored, indexOf, indexBits, fixups, has, Valid}
-use Rattle.bc6h_spec.specs.Picture.{firstEnd, otherEnd, endpoint, weights, between, palette, picture}
+use Rattle.bc6h_spec.specs.Fields.{stored, indexOf, fixups, has, Valid}
+use Rattle.bc6h_spec.specs.Picture.{firstEnd, otherEnd, endpoint, weights, palette, picture}
 use Rattle.bc6h_spec.proofs.Pixel.{pixel-shows}
 use Rattle.bc6h_spec.proofs.Weights.{weights-even}
 use Rattle.bc6h_spec.proofs.Widths.{Mode, known, first-fits, other-fits}

@@ -1,18 +1,16 @@
 -- The test `trusted` says what the words say, no less and no more; two trusted blocks of one mode with one picture are one block.
 -- Assumes nothing.
-use mathlib.Core.Path.{_≡_}
-use mathlib.Core.Logic.{inl}
+use mathlib.Core.Path.{_≡_, sym, subst}
+use mathlib.Core.Logic.{_⊎_, inl, inr}
 use mathlib.Core.Bool.{Bool, false}
 use mathlib.Core.List.{List}
 use Prim.Native.Nat.{ℕ, _<_}
 use native.Mathlib.Decide.{decLt}
 use native.Mathlib.Omega.{arith}
-use lib.Dec.{T, eqb, ltb, leb, eqb→eq, ltb→lt, leb→le, eqb-refl, lt→ltb, le→leb, lit<}
+use lib.Dec.{T, eqb, ltb, leb, eqb→eq, ltb→lt, leb→le, lt→ltb, le→leb, lit<}
 use lib.ListN.{length, getD, List·getD-eq-default}
 use borrow.Author.Tests.{eq-eqb}
-use Rattle.laws.specs.Pick.{both}
 use Rattle.laws.specs.Every.{every}
-use Rattle.laws.specs.Search.{some, distinct}
 use Rattle.laws.proofs.Tests.{both-left, both-right}
 use Rattle.laws.proofs.Search.{holds, both-hold, every-at, every-all, Found, some-found, some-at, distinct-apart, apart-distinct}
 use Rattle.bc6h_spec.specs.Bits.{blockSize, IsBlock}
@@ -102,3 +100,15 @@ complete block r =
 -- both blocks trusted, and of one mode: every premise of demand 3 holds
 pub trusted-copies : (x y : List ℕ) → T (trusted x) → T (trusted y) → modeOf x ≡ modeOf y → pixelsOf false x ≡ pixelsOf false y → x ≡ y
 trusted-copies x y tx ty m e = demand3 x y (sound x tx .eligible) (sound y ty .eligible) m (inl (sound x tx .differs)) e
+
+-- and no pair is lost by asking trust of both: a pair that meets the premises and shows one picture is trusted, each block by itself
+pub none-lost : (x y : List ℕ) → Eligible x → Eligible y → modeOf x ≡ modeOf y → ChannelDiffers false x ⊎ ChannelDiffers false y
+    → pixelsOf false x ≡ pixelsOf false y → T (trusted x) × T (trusted y)
+none-lost x y ex ey m d e = go d
+  where
+    one : x ≡ y
+    one = demand3 x y ex ey m d e
+
+    go : ChannelDiffers false x ⊎ ChannelDiffers false y → T (trusted x) × T (trusted y)
+    go (inl q) = let t = complete x (record { eligible = ex; differs = q }) in (t, subst (λ (b : List ℕ). T (trusted b)) one t)
+    go (inr q) = let t = complete y (record { eligible = ey; differs = q }) in (subst (λ (b : List ℕ). T (trusted b)) (sym one) t, t)

@@ -1,6 +1,6 @@
--- Which blocks a program may trust: those that meet demand 3's premises by themselves. Two trusted blocks of one mode meet them as a
--- pair; a pair may meet them too where only one of the two is trusted, since one channel that differs in one block is enough.
--- Assumes nothing.
+-- Which blocks a program may trust: those that meet demand 3's premises by themselves. Two trusted blocks of one mode meet the
+-- premises as a pair. A pair may meet them with one trusted block alone, since one channel in one of the two is enough; but where such
+-- a pair shows one picture, both are trusted (proofs/Trust), so asking trust of both loses no copy. Assumes nothing.
 use mathlib.Core.Bool.{Bool, false}
 use mathlib.Core.List.{List}
 use Prim.Native.Nat.{ℕ}

@@ -11,14 +11,10 @@ ghost use lib.ListN.{length, drop};
 ghost use Rattle.laws.specs.Made.{made};
 ghost use Rattle.extract_fields.specs.Record.{halfOf, byteOf};
 
-// What is written for a block.
-struct Record {
-    bytes: [u8; 44],
-}
+// What is written for a block, and how many blocks are read at a time.
+const RECORD_SIZE: usize = 44;
 
-impl Record {
-    const SIZE: usize = 44;
-}
+const BATCH: usize = 1024;
 
 // Of an endpoint's value the low byte at an even place, the high byte at an odd one.
 fn half_of(value: u16, k: usize) -> u8
@@ -62,7 +58,7 @@ fn write_record(read: FieldsRead, out: &mut [u8])
     ensures { λ r. ⌜ now (out .exit) ≡ made (byteOf read) 44 ++ drop 44 (now (out .entry)) ⌝ }
 {
     let mut k = 0;
-    while k < Record::SIZE {
+    while k < RECORD_SIZE {
         out[k] = byte_of(read, k);
         k += 1;
     }
@@ -86,17 +82,17 @@ fn write_records(input: &[u8], out: &mut [u8]) -> usize
     ensures { λ r. ⌜ r ≡ 44 * ((length (now (input .entry)) + 15) / 16) ⌝ }
 {
     let size = input.len();
-    let count = (size + 15) / 16;
+    let count = (size + 15) / Block::SIZE;
     let mut i = 0;
     while i < count {
-        let at = 16 * i;
+        let at = Block::SIZE * i;
         let end = piece_end(at, size);
         let read = bc6_fields::block_fields(&input[at..end]);
-        let to = Record::SIZE * i;
+        let to = RECORD_SIZE * i;
         write_record(read, &mut out[to..]);
         i += 1;
     }
-    Record::SIZE * count
+    RECORD_SIZE * count
 }
 
 // The same, written in one go.
@@ -107,12 +103,12 @@ fn write_batch(input: &[u8], out: &mut [u8]) -> bool
     io::write_all(STDOUT_FILENO, &out[..done])
 }
 
-// Reads 1,024 blocks, writes their records, and answers whether to go on.
+// Reads a batch of blocks, writes their records, and answers whether to go on.
 fn extract_some() -> bool {
-    let mut input = [0u8; 16384];
-    let mut out = [0u8; 45056];
+    let mut input = [0u8; Block::SIZE * BATCH];
+    let mut out = [0u8; RECORD_SIZE * BATCH];
     let got = io::read_full(STDIN_FILENO, &mut input);
-    write_batch(&input[..got], &mut out) && got == 16384
+    write_batch(&input[..got], &mut out) && got == Block::SIZE * BATCH
 }
 
 // A proved loop has to end, and nothing says that the input does: the turns count down from a number that no run uses up.

@@ -3,12 +3,11 @@
 use mathlib.Core.Path.{_≡_, _∙_, refl, sym, ap, ap₂, subst}
 use mathlib.Core.Bool.{Bool, true, false}
 use Prim.Native.Nat.{ℕ, zero, suc, _+_, _-_, _*_, _/_, _%_, _^_, _<_, _≤_}
-use native.Mathlib.Nat.{add-comm, add-assoc, add-zero, add-suc, mul-comm, mul-assoc, mod-lt, mod-eq-of-lt, lt-of-lt-of-le, lt-of-le-of-lt, add-le-add}
-use native.Mathlib.Numerals.{add-one}
+use native.Mathlib.Nat.{add-comm, add-zero, add-suc, mul-assoc, mod-lt, mod-eq-of-lt, lt-of-lt-of-le}
 use native.Mathlib.Omega.{arith}
 use lib.Arith.{lt-of-le-ne}
 use lib.Dec.{eqb, ltb}
-use lib.Pow.{pow-pos, pow-add, pow-mono, pow-lt, split, high, low, field, mod-mod-pow, shr-shr}
+use lib.Pow.{pow-pos, pow-add, pow-mono, split, high, low, field, mod-mod-pow, shr-shr}
 use borrow.Author.Tests.{eqb-true, eqb-false, ltb-true, ltb-false}
 use Rattle.laws.specs.Packed.{before, unpacked, opened}
 
@@ -37,9 +36,6 @@ before-mono size j k h =
 -- ---- what stands below the zero, and what above it
 
 module _ (at n : ℕ) where
-  double : 2 ^ (at + 1) ≡ 2 ^ at + 2 ^ at
-  double = pow-add 2 at 1 ∙ let e : 2 ^ at * 2 ≡ 2 ^ at + 2 ^ at = omega arith in e
-
   apart : opened at n ≡ n / 2 ^ at * 2 ^ (at + 1) + n % 2 ^ at
   unfolding opened
   apart =

@@ -8,16 +8,17 @@ use bc6::block_pixels;
 use bc6h_spec::Answer;
 use bc6h_spec::Block;
 use libc::STDIN_FILENO;
-use libc::STDOUT_FILENO;
 use records::Record;
 use records::RecordReading;
 use records::record_at;
 use records::record_block;
 use records::tile_at;
+use text::print;
 use text::put;
-use text::put_decimal;
+use text::put_count;
 use text::put_field;
 use text::put_hex;
+use text::put_refusal;
 use twins::TwinList;
 use twins::twin_list;
 
@@ -91,36 +92,31 @@ fn print_records(text: &mut [u8], store: &[u8], marks: &[u8]) -> bool
     let mut end: usize = 0;
     for n in 0..count {
         if text.len() - end < Line::SIZE {
-            if !io::write_all(STDOUT_FILENO, &text[..end]) {
+            if !print(text, end) {
                 return false;
             }
             end = 0;
         }
         end = put_record(text, end, store, n, marks[n]);
     }
-    io::write_all(STDOUT_FILENO, &text[..end])
+    print(text, end)
 }
 
 fn print_counts(text: &mut [u8], list: TwinList)
     requires { ⌜ 128 ≤ length (now text) ⌝ }
 {
-    let mut end = put(text, 0, b"kept ");
-    end = put_decimal(text, end, list.kept as u64);
-    end = put(text, end, b" twins ");
-    end = put_decimal(text, end, list.twins as u64);
-    end = put(text, end, b" bad ");
-    end = put_decimal(text, end, list.bad as u64);
+    let mut end = put_count(text, 0, b"kept ", list.kept as u64);
+    end = put_count(text, end, b" twins ", list.twins as u64);
+    end = put_count(text, end, b" bad ", list.bad as u64);
     end = put(text, end, b"\n");
-    io::write_all(STDOUT_FILENO, &text[..end]);
+    print(text, end);
 }
 
 fn print_refusal(text: &mut [u8], answer: u8)
     requires { ⌜ 128 ≤ length (now text) ⌝ }
 {
-    let mut end = put(text, 0, b"store refused ");
-    end = put_decimal(text, end, answer as u64);
-    end = put(text, end, b"\n");
-    io::write_all(STDOUT_FILENO, &text[..end]);
+    let end = put_refusal(text, 0, answer);
+    print(text, end);
 }
 
 fn print_store(store: &[u8], marks: &mut [u8], text: &mut [u8])

@@ -4,6 +4,13 @@ ghost use mathlib.Core.Path.{_≡_};
 ghost use Prim.Native.Nat.{_+_, _≤_};
 ghost use lib.ListN.{length};
 
+// Writes a text to standard output. False where a write fails.
+pub fn print(text: &[u8], end: usize) -> bool
+    requires { ⌜ end ≤ length (now text) ⌝ }
+{
+    io::write_all(libc::STDOUT_FILENO, &text[..end])
+}
+
 pub fn put(text: &mut [u8], at: usize, word: &[u8]) -> usize
     requires { ⌜ at + length (now word) ≤ length (now text) ⌝ }
     ensures { λ r. ⌜ r ≡ at + length (now (word .entry)) ⌝ }
@@ -39,6 +46,24 @@ pub fn put_field(text: &mut [u8], at: usize, n: u64) -> usize
 {
     let end = put_decimal(text, at, n);
     put(text, end, b" ")
+}
+
+// A word, with its blanks, and a number.
+pub fn put_count(text: &mut [u8], at: usize, word: &[u8], n: u64) -> usize
+    requires { ⌜ at + length (now word) + 20 ≤ length (now text) ⌝ }
+    ensures { λ r. ⌜ r ≤ at + length (now (word .entry)) + 20 ⌝ }
+{
+    let end = put(text, at, word);
+    put_decimal(text, end, n)
+}
+
+// The line for a store that is refused.
+pub fn put_refusal(text: &mut [u8], at: usize, answer: u8) -> usize
+    requires { ⌜ at + 40 ≤ length (now text) ⌝ }
+    ensures { λ r. ⌜ r ≤ at + 40 ⌝ }
+{
+    let end = put_count(text, at, b"store refused ", answer as u64);
+    put(text, end, b"\n")
 }
 
 // An upper-case hex digit, of the lowest four bits.

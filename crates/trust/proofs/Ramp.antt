@@ -1,5 +1,5 @@
 -- A block of one region with the index k at pixel k shows its palette, entry by entry. Assumes nothing.
-use mathlib.Core.Path.{_≡_, refl, sym, ap, ap₂, _∙_, subst}
+use mathlib.Core.Path.{_≡_, sym, ap, ap₂, _∙_, subst}
 use mathlib.Core.Bool.{Bool, false}
 use mathlib.Core.List.{List, [], _∷_, _++_}
 use Prim.Native.Nat.{ℕ, _+_, _*_, _/_, _%_, _^_, _≤_, _<_}
@@ -19,16 +19,16 @@ use Rattle.laws.proofs.Rows.{made-cong}
 use Rattle.laws.proofs.Taken.{made-taken}
 use Rattle.bc6h_spec.specs.declared.Fields.{Fields}
 use Rattle.bc6h_spec.specs.Bits.{IsBlock, numberOf}
-use Rattle.bc6h_spec.specs.Layout.{row, twoRegions, tableBits}
+use Rattle.bc6h_spec.specs.Layout.{row, twoRegions}
 use Rattle.bc6h_spec.specs.Regions.{mapOf, regionOf}
-use Rattle.bc6h_spec.specs.Fields.{modeIn, modeOf, gathered, indexBits, fixups, indexIn, fieldsAt, fieldsOf, indexOf}
+use Rattle.bc6h_spec.specs.Fields.{modeIn, modeOf, gathered, indexIn, fieldsAt, fieldsOf, indexOf}
 use Rattle.bc6h_spec.specs.Picture.{palette}
 use Rattle.bc6h_spec.specs.Block.{pixelsOf}
 use Rattle.bc6h_spec.proofs.Bytes.{number-lt}
 use Rattle.bc6h_spec.proofs.Gather.{low-only}
 use Rattle.bc6h_spec.proofs.Joined.{number-joined}
 use Rattle.bc6h_spec.proofs.Modes.{low-mode}
-use Rattle.bc6h_spec.proofs.Once.{Once, row-once}
+use Rattle.bc6h_spec.proofs.Once.{row-once}
 use Rattle.bc6h_spec.proofs.Pixel.{block-shows, pixel-shows, same-palette}
 use Rattle.bc6h_spec.proofs.Reading.{at-index, fields-are, fields-mode, mode-le}
 use Rattle.copies.specs.Words.{paletteValue}

@@ -1,18 +1,17 @@
 -- What the checks of `is_trusted` show of `trusted`, one law for each return. Assumes nothing.
-use mathlib.Core.Path.{_≡_, refl, sym, ap, _∙_, subst}
+use mathlib.Core.Path.{_≡_, sym, ap, _∙_, subst}
 use mathlib.Core.Bool.{Bool, true, false}
 use mathlib.Core.List.{List, append-nil}
 use Prim.Native.Nat.{ℕ, _+_, _*_, _≤_, _<_}
 use native.Mathlib.Omega.{arith}
-use lib.Dec.{T, leb, lit≤}
-use lib.ListN.{length, getD, drop, drop-of-length-le}
+use lib.Dec.{T, lit≤}
+use lib.ListN.{length, getD, drop-of-length-le}
 use borrow.Author.Tests.{le-leb}
-use Rattle.laws.specs.Pick.{both}
-use Rattle.laws.specs.Search.{some, distinct}
+use Rattle.laws.specs.Search.{some}
 use Rattle.laws.proofs.Search.{is-true, is-false, some-same, distinct-same}
 use Rattle.bc6h_spec.specs.declared.Fields.{Fields}
 use Rattle.bc6h_spec.specs.Bits.{IsBlock}
-use Rattle.bc6h_spec.specs.Fields.{modeOf, fieldsOf, indexOf}
+use Rattle.bc6h_spec.specs.Fields.{modeOf, fieldsOf}
 use Rattle.bc6h_spec.specs.Block.{pixelsOf}
 use Rattle.bc6h_spec.proofs.Reading.{fields-mode}
 use Rattle.bc6.specs.declared.Pixels.{Pixels}

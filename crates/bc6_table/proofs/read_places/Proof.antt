@@ -1,9 +1,8 @@
 -- `bc6_table::read_places` meets its contract: so many bits are read, and what is gathered so far and what is to come is the whole.
 -- Assumes nothing.
-use mathlib.Core.Path.{_≡_, sym, subst}
+use mathlib.Core.Path.{sym, subst}
 use Prim.Native.Nat.{ℕ, _≤_, _<_, _-_, _+_, _*_, _/_, _%_, _^_}
 use native.Mathlib.Nat.{lt-of-lt-of-le, mod-lt}
-use native.Mathlib.Omega.{arith}
 use borrow.Author.Needs.{needs}
 use lib.Dec.{lit<, lit≤}
 use lib.ListN.{getD}

@@ -1,10 +1,9 @@
 use borrow.Author.Needs.{needs}
+use mathlib.Core.Path.{_≡_}
 use mathlib.Core.Logic.{⊎-elim}
 use Prim.Native.Nat.{_+_, _≤_, _-_}
-use mathlib.Core.Path.{_≡_, sym}
 use native.Mathlib.Omega.{arith}
 use lib.ListN.{length}
-use lib.Seq.{length-take-le}
 use Rattle.listing.proofs.print_records.Statement.{statement}
 use Rattle.listing.proofs.print_records.Tie as tie
 
@@ -24,14 +23,8 @@ loop-holds c = search needs
 sub-if1 : tie.Need-sub-if1 Inv-loop μ-loop
 sub-if1 c = search needs
 
-slice-reshare-prefix-write-all : tie.Need-slice-reshare-prefix-write-all Inv-loop μ-loop
-slice-reshare-prefix-write-all c = search needs
-
-slice-aggregate-write-all : tie.Need-slice-aggregate-write-all Inv-loop μ-loop
-slice-aggregate-write-all c = sym (length-take-le _ _ (omega arith))
-
-write-all-requires : tie.Need-write-all-requires Inv-loop μ-loop
-write-all-requires c κs = search needs
+print-requires : tie.Need-print-requires Inv-loop μ-loop
+print-requires c κs = search needs
 
 same-length : tie.Need-same-length Inv-loop μ-loop
 same-length c = search needs
@@ -54,14 +47,8 @@ loop-less c = search needs
 loop-again : tie.Need-loop-again Inv-loop μ-loop
 loop-again c = let r = room (c .before .before .before .before .before) in search needs
 
-slice-reshare-prefix-write-all-2 : tie.Need-slice-reshare-prefix-write-all-2 Inv-loop μ-loop
-slice-reshare-prefix-write-all-2 c = search needs
-
-slice-aggregate-write-all-2 : tie.Need-slice-aggregate-write-all-2 Inv-loop μ-loop
-slice-aggregate-write-all-2 c = sym (length-take-le _ _ (omega arith))
-
-write-all-requires-2 : tie.Need-write-all-requires-2 Inv-loop μ-loop
-write-all-requires-2 c κs = search needs
+print-requires-2 : tie.Need-print-requires-2 Inv-loop μ-loop
+print-requires-2 c κs = search needs
 
 same-length-2 : tie.Need-same-length-2 Inv-loop μ-loop
 same-length-2 c = search needs
@@ -77,9 +64,7 @@ print-records-spec =
     μ-loop
     loop-holds
     sub-if1
-    slice-reshare-prefix-write-all
-    slice-aggregate-write-all
-    write-all-requires
+    print-requires
     same-length
     returns
     shared-slice-read-put-record
@@ -87,8 +72,6 @@ print-records-spec =
     add-n
     loop-less
     loop-again
-    slice-reshare-prefix-write-all-2
-    slice-aggregate-write-all-2
-    write-all-requires-2
+    print-requires-2
     same-length-2
     returns-2)

@@ -1,7 +1,6 @@
 -- `trust::ramped` meets its contract. Assumes nothing.
 use borrow.Author.Needs.{needs}
 use Rattle.laws.specs.Made.{made}
-use Rattle.trust.specs.Ramp.{ramped}
 use Rattle.trust.proofs.Ramp.{ramped-bytes}
 use Rattle.trust.proofs.ramped.Statement.{statement}
 use Rattle.trust.proofs.ramped.Tie as tie

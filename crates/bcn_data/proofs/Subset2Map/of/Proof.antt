@@ -1,11 +1,11 @@
 -- `Subset2Map::of` meets its contract: the number of a row, taken apart. Assumes nothing.
 use borrow.Author.Needs.{needs}
 use mathlib.Core.Path.{_≡_}
-use Prim.Native.Nat.{ℕ, _+_, _*_, _/_, _%_, _<_}
+use Prim.Native.Nat.{ℕ, _/_, _%_, _<_}
 use native.Mathlib.Omega.{arith}
 use Rattle.bc6h_spec.specs.Regions.{mapOf, fixupOf}
-use Rattle.bc6h_spec.proofs.Partitions.{Rule, rule}
-use Rattle.bcn_data.specs.Subsets.{packedRow, subset2}
+use Rattle.bc6h_spec.proofs.Partitions.{rule}
+use Rattle.bcn_data.specs.Subsets.{packedRow}
 use Rattle.bcn_data.proofs.Subset2Map.of.Statement.{statement}
 use Rattle.bcn_data.proofs.Subset2Map.of.Tie as tie
 

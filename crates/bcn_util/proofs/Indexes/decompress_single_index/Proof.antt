@@ -1,6 +1,5 @@
 -- `Indexes::decompress_single_index` meets its contract. Assumes nothing.
 use borrow.Author.Needs.{needs}
-use native.Mathlib.Omega.{arith}
 use Rattle.bcn_util.proofs.Expand.{start-le, top-le, opens, opens-fits}
 use Rattle.bcn_util.proofs.Indexes.decompress_single_index.Statement.{statement}
 use Rattle.bcn_util.proofs.Indexes.decompress_single_index.Tie as tie

@@ -1,8 +1,5 @@
 -- `Indexes::get_index` meets its contract. Assumes nothing.
 use borrow.Author.Needs.{needs}
-use native.Mathlib.Omega.{arith}
-use mathlib.Core.Path.{ap}
-use Prim.Native.Nat.{ℕ, _%_}
 use lib.Pow.{pow-pos}
 use Rattle.bcn_util.proofs.Words.{one-shl}
 use Rattle.bcn_util.proofs.Expand.{start-le, index-fits}

@@ -1,7 +1,6 @@
 -- `Indexes::new_p1` meets its contract. Assumes nothing.
 use borrow.Author.Needs.{needs}
 use mathlib.Core.Path.{_∙_, ap}
-use native.Mathlib.Omega.{arith}
 use Rattle.laws.specs.Packed.{opened}
 use Rattle.bcn_util.proofs.Expand.{read-short}
 use Rattle.bcn_util.proofs.Indexes.new_p1.Statement.{statement}

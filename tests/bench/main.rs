@@ -4,14 +4,21 @@
 //!
 //!     bench                  the table
 //!     bench ours|rust        decodes 100,000 mixed blocks with one side, in `counted`, for a count of instructions
+#[allow(dead_code)]
 #[path = "../compare/blocks.rs"]
 mod blocks;
 
 use blocks::{Mode, Random};
 use std::hint::black_box;
-use std::time::Instant;
+
+#[repr(C)]
+struct Time {
+    seconds: i64,
+    nanoseconds: i64,
+}
 
 extern "C" {
+    fn clock_gettime(clock: i32, time: *mut Time) -> i32;
     fn knot_block_pixels(block: *const u8, block_length: usize, format: u8, out: *mut u16, out_length: usize) -> u32;
     fn knot_blocks_pixels(blocks: *const u8, blocks_length: usize, format: u8, out: *mut u16, out_length: usize, done: *mut usize) -> u32;
     fn knot_twin_list(store: *const u8, store_length: usize, marks: *mut u8, marks_length: usize) -> u64;
@@ -36,23 +43,42 @@ fn blocks_of(modes: &[&Mode], count: usize) -> Vec<[u8; 16]> {
     blocks
 }
 
-/// Blocks per second in the best of several runs; each run decodes at least a million blocks.
-fn rate(blocks: &[[u8; 16]], format: u8, decode: impl Fn(&[u8; 16], u8, &mut [u16; 48])) -> f64 {
-    let rounds = (1_000_000 / blocks.len()).max(1);
+/// The processor time of this thread, in seconds: what else the machine does counts little.
+fn now() -> f64 {
+    const CLOCK_THREAD_CPUTIME_ID: i32 = 3;
+    let mut time = Time { seconds: 0, nanoseconds: 0 };
+    unsafe { clock_gettime(CLOCK_THREAD_CPUTIME_ID, &mut time) };
+    time.seconds as f64 + time.nanoseconds as f64 * 1e-9
+}
+
+fn seconds(run: &mut dyn FnMut()) -> f64 {
+    let start = now();
+    run();
+    now() - start
+}
+
+/// The best times of two runs that take turns.
+fn best(mut a: impl FnMut(), mut b: impl FnMut()) -> (f64, f64) {
+    (0..11).fold((f64::INFINITY, f64::INFINITY), |(x, y), _| (x.min(seconds(&mut a)), y.min(seconds(&mut b))))
+}
+
+/// Decodes at least half a million blocks.
+fn decode_all(blocks: &[[u8; 16]], rounds: usize, format: u8, decode: impl Fn(&[u8; 16], u8, &mut [u16; 48])) {
     let mut out = [0; 48];
-    let best = (0..7)
-        .map(|_| {
-            let start = Instant::now();
-            for _ in 0..rounds {
-                for block in blocks {
-                    decode(black_box(block), black_box(format), &mut out);
-                    black_box(&out);
-                }
-            }
-            start.elapsed().as_secs_f64()
-        })
-        .fold(f64::INFINITY, f64::min);
-    (rounds * blocks.len()) as f64 / best
+    for _ in 0..rounds {
+        for block in blocks {
+            decode(black_box(block), black_box(format), &mut out);
+            black_box(&out);
+        }
+    }
+}
+
+/// Blocks per second, ours and the Rust's.
+fn rates(blocks: &[[u8; 16]], format: u8) -> (f64, f64) {
+    let rounds = (500_000 / blocks.len()).max(1);
+    let (a, b) = best(|| decode_all(blocks, rounds, format, ours), || decode_all(blocks, rounds, format, rust));
+    let count = (rounds * blocks.len()) as f64;
+    (count / a, count / b)
 }
 
 fn table() {
@@ -67,7 +93,7 @@ fn table() {
         for (group, modes) in &groups {
             let blocks = blocks_of(modes, count);
             for (format, name) in ["unsigned", "signed"].into_iter().enumerate() {
-                let (a, b) = (rate(&blocks, format as u8, ours), rate(&blocks, format as u8, rust));
+                let (a, b) = rates(&blocks, format as u8);
                 println!("{size:12} {group:11} {name:9} {:>14.0} {:>14.0} {:>6.2}", a, b, a / b);
             }
         }
@@ -112,17 +138,6 @@ fn record(block: [u8; 16]) -> [u8; 24] {
     record
 }
 
-/// Seconds for one run, the best of several.
-fn seconds(mut run: impl FnMut()) -> f64 {
-    (0..9)
-        .map(|_| {
-            let start = Instant::now();
-            run();
-            start.elapsed().as_secs_f64()
-        })
-        .fold(f64::INFINITY, f64::min)
-}
-
 fn twins(modes: &[&Mode]) {
     let different = blocks_of(modes, 2000);
     let equal = vec![different[0]; 2000];
@@ -130,14 +145,8 @@ fn twins(modes: &[&Mode]) {
         let store: Vec<u8> = blocks.iter().flat_map(|&block| record(block)).collect();
         let mut marks = [0; 2000];
         let mut counts = 0;
-        let list = seconds(|| counts = unsafe { knot_twin_list(store.as_ptr(), store.len(), marks.as_mut_ptr(), 2000) });
-        let mut out = [0; 48];
-        let decode = seconds(|| {
-            for block in &blocks {
-                ours(black_box(block), 0, &mut out);
-                black_box(&out);
-            }
-        });
+        let mut marked = || counts = unsafe { knot_twin_list(store.as_ptr(), store.len(), marks.as_mut_ptr(), 2000) };
+        let (list, decode) = best(&mut marked, || decode_all(&blocks, 1, 0, ours));
         println!(
             "twin list, {name} (kept {}): {:.3} ms; decoding them once {:.3} ms; {:.1} times",
             counts >> 16 & 0xFFFF,
@@ -152,13 +161,8 @@ fn twins(modes: &[&Mode]) {
 #[inline(never)]
 #[no_mangle]
 fn counted(blocks: &[[u8; 16]], decode: fn(&[u8; 16], u8, &mut [u16; 48])) {
-    let mut out = [0; 48];
-    for round in 0..100 {
-        for block in blocks {
-            decode(black_box(block), round % 2, &mut out);
-            black_box(&out);
-        }
-    }
+    decode_all(blocks, 50, 0, decode);
+    decode_all(blocks, 50, 1, decode);
 }
 
 fn count(decode: fn(&[u8; 16], u8, &mut [u16; 48])) {

@@ -110,7 +110,7 @@ fn compare_run_refusals(tally: &mut Tally) {
 }
 
 pub fn compare(extent: &Extent, tally: &mut Tally) {
-    println!("seed {}, {} random blocks a mode and format, every {}th endpoint pair", extent.seed, extent.random, extent.pair_step);
+    println!("seed {}, {} random blocks a code and format, one in {} of the endpoint pairs", extent.seed, extent.random, extent.pair_step);
     let mut runs = 0;
     for_each_class(extent, |name, walk| {
         let before = (tally.compared, runs);

@@ -1,28 +1,17 @@
+-- `knotpasture::knot_block_pixels` meets its contract. Assumes nothing.
 use borrow.Author.Needs.{needs}
+use mathlib.Core.Path.{ap}
+use Prim.Native.Nat.{ℕ, _+_, _*_}
 use Rattle.knotpasture.proofs.Words.{called}
 use Rattle.knotpasture.proofs.knot_block_pixels.Statement.{statement}
 use Rattle.knotpasture.proofs.knot_block_pixels.Tie as tie
-use Rattle.knotpasture.proofs.knot_block_pixels.Reads as reads
-use Rattle.knotpasture.proofs.knot_block_pixels.Lts as lts
-use Rattle.bc6.proofs.block_pixels.Reads as block-pixels-reads
-use Rattle.knotpasture.proofs.two_bytes.Reads as two-bytes-reads
 
--- src/lib.rt:20:9
-block-pixels-requires : tie.Need-block-pixels-requires
-block-pixels-requires c κs = search needs
-
--- src/lib.rt:21:5
-two-bytes-requires : tie.Need-two-bytes-requires
-two-bytes-requires c κs = search needs
-
--- src/lib.rt:16:1
-same-length : tie.Need-same-length
-same-length c = search needs
-
--- src/lib.rt:16:1
 returns : tie.Need-returns
-returns c = called (c .before .before .before .block-pixels .ensures) (c .two-bytes .ensures)
+returns c =
+    let p = c .before .before .before .before .block-pixels in
+    called (p .ensures) (ap (λ (low : ℕ). low + p .result .infinite * 0x10000) (c .before .two-bytes .ensures))
 
 pub knot-block-pixels-spec : {M : Type 1} → statement M
 knot-block-pixels-spec =
-    tie.close (tie.spec block-pixels-requires two-bytes-requires same-length returns)
+    tie.close
+    (tie.spec (λ c κs. search needs) (λ c κs. search needs) (λ c. search needs) (λ c. search needs) (λ c. search needs) (λ c. search needs) returns)

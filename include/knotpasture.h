@@ -29,7 +29,8 @@ enum knot_answer {
     KNOT_LONG_STORE = 5,    /* store longer than KNOT_STORE_LIMIT bytes */
     KNOT_UNEVEN_STORE = 6,  /* store length not a multiple of KNOT_RECORD_SIZE */
     KNOT_SPARE_BYTE = 7,    /* a record's spare byte is not zero */
-    KNOT_NO_RECORD = 8      /* record number not below the number of records */
+    KNOT_NO_RECORD = 8,     /* record number not below the number of records */
+    KNOT_RESERVED_BLOCK = 12 /* reserved block in the store, from the strict twin list only */
 };
 
 enum knot_format { KNOT_UNSIGNED = 0, KNOT_SIGNED = 1 };
@@ -100,6 +101,15 @@ uint64_t knot_twin_list(const uint8_t *store, size_t store_length, uint8_t *mark
 #define KNOT_KEPT_COUNT(word) ((unsigned)((word) >> 16 & 0xFFFF))
 #define KNOT_TWIN_COUNT(word) ((unsigned)((word) >> 32 & 0xFFFF))
 #define KNOT_BAD_COUNT(word) ((unsigned)((word) >> 48))
+
+/* The twin list of a store in which no record is damaged. A damaged record is one that is not refused and has a reserved mode;
+ * a store with one is refused whole. Where the number is 0, answer and marks are those of knot_twin_list.
+ *
+ * Refusals: 5, 6, 3, 12. With 12 the number of the first damaged record is in bits 16 to 31.
+ */
+uint64_t knot_strict_twin_list(const uint8_t *store, size_t store_length, uint8_t *marks, size_t marks_length);
+
+#define KNOT_DAMAGED_RECORD(word) ((unsigned)((word) >> 16 & 0xFFFF))
 
 /* Whether a block, read as unsigned, is of mode 11, 12 or 13, has a pixel at index 0 and one at index 15, and has a channel
  * whose sixteen palette values all differ. Another block of the same mode with a pixel at index 0 and one at index 15 that

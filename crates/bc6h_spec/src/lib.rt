@@ -55,8 +55,10 @@ impl Answer {
 
     pub const NO_RECORD: u8 = 8;
 
+    pub const RESERVED_BLOCK: u8 = 12;
+
     // The constants are the numbers of specs/Answers.
-    pub fn all() -> [u8; 9]
+    pub fn all() -> [u8; 10]
         ensures { λ r. ⌜ r ≡ answers ⌝ }
     {
         [
@@ -69,6 +71,7 @@ impl Answer {
             Answer::UNEVEN_STORE,
             Answer::SPARE_BYTE,
             Answer::NO_RECORD,
+            Answer::RESERVED_BLOCK,
         ]
     }
 }

@@ -3,7 +3,11 @@ use mathlib.Core.Path.{_≡_, refl, sym, ap, _∙_}
 use mathlib.Core.List.{List, [], _∷_}
 use Prim.Native.Nat.{ℕ, zero, suc, _+_, _*_, _<_, _≤_}
 use native.Mathlib.Omega.{arith}
+use lib.Dec.{eqb}
 use lib.ListN.{length}
+use borrow.Author.Tests.{eqb-true, eqb-false}
+use Rattle.laws.proofs.Tests.{cases}
+use Rattle.bc6h_spec.specs.Answers.{reservedBlock}
 use Rattle.bc6.specs.declared.Pixels.{Pixels}
 use Rattle.bc6.specs.Call.{Painted}
 use Rattle.records.specs.declared.Record.{Record}
@@ -15,7 +19,10 @@ use Rattle.records.proofs.Readings.{unrefused, refused}
 use Rattle.twins.specs.declared.TwinList.{TwinList}
 use Rattle.twins.specs.Twins.{answerAt, listRefusal, Listed}
 use Rattle.twins.proofs.Listing.{answer-number, counts-add-up, whole}
-use Rattle.knotpasture.specs.Packed.{pixelsWord, PixelsCalled, wordAt, readingWord, offsetAt, twinsWord, TwinsCalled}
+use Rattle.twins.specs.declared.StrictList.{StrictList}
+use Rattle.twins.specs.Strict.{strictRefusal, strictAnswerAt, StrictlyListed}
+use Rattle.twins.proofs.Strictness as strict
+use Rattle.knotpasture.specs.Packed.{pixelsWord, PixelsCalled, wordAt, readingWord, offsetAt, twinsWord, TwinsCalled, strictWord, StrictCalled}
 
 -- ---- the pixels call
 
@@ -61,25 +68,53 @@ module _ {store : List ℕ} {n : ℕ} {x : RecordReading} (d : Read store n x) w
   pub inside : {r : Record} → x ≡ reading.Record r → n * recordSize < storeLimit
   inside e = let k = known store n (unrefused d e) in omega arith
 
--- ---- the twin list
+-- ---- the twin lists
 
-number-alone : (number : ℕ) (store : List ℕ) → (number ≡ 0 → ⊥) → twinsWord (answerAt number store) ≡ number
-number-alone zero store h = absurd (h refl)
-number-alone (suc number) store h = omega arith
+no-counts : (number : ℕ) (store : List ℕ) → (number ≡ 0 → ⊥) → answerAt number store .kept + answerAt number store .twins + answerAt number store .bad ≤ 2000
+no-counts zero store h = absurd (h refl)
+no-counts (suc number) store h = omega arith
 
 module _ {store lent after : List ℕ} {r : TwinList} (d : Listed store lent r after) where
-  twins-called : {word : ℕ} → word ≡ twinsWord r → TwinsCalled store lent word after
+  pub twins-called : {word : ℕ} → word ≡ twinsWord r → TwinsCalled store lent word after
   twins-called e = record { answers = e ∙ ap twinsWord (d .answers); holds = d .holds }
 
-  pub list-refused : (r .answer ≡ 0 → ⊥) → TwinsCalled store lent (r .answer) after
-  list-refused h =
-      let n = answer-number d in
-      twins-called (n ∙ sym (number-alone (listRefusal (length store) (length lent)) store (λ e. h (n ∙ e))) ∙ ap twinsWord (sym (d .answers)))
+  -- no count is above the number of records, 2,000
+  few-done : r .answer ≡ 0 → r .kept + r .twins + r .bad ≤ 2000
+  few-done z = let w = whole d z in let c = counts-add-up d z in omega arith
 
-  module _ (z : r .answer ≡ 0) where
-    pub list-done : TwinsCalled store lent (r .kept * 0x10000 + r .twins * 0x100000000 + r .bad * 0x1000000000000) after
-    list-done = twins-called (omega arith)
+  pub few : r .kept + r .twins + r .bad ≤ 2000
+  few =
+      cases (eqb (r .answer) 0) (λ z. few-done (eqb-true _ _ z))
+      (λ f. rw (d .answers) (no-counts (listRefusal (length store) (length lent)) store (λ z. eqb-false _ _ f (answer-number d ∙ z))))
 
-    -- no count is above the number of records, 2,000
-    pub few : r .kept + r .twins + r .bad ≤ 2000
-    few = let w = whole d z in let c = counts-add-up d z in omega arith
+strict-no-counts : (number : ℕ) (store : List ℕ) → (number ≡ 0 → ⊥)
+    → strictAnswerAt number store .list .kept + strictAnswerAt number store .list .twins + strictAnswerAt number store .list .bad ≤ 2000
+strict-no-counts zero store h = absurd (h refl)
+strict-no-counts (suc number) store h = omega arith
+
+module _ {store lent after : List ℕ} {r : StrictList} (d : StrictlyListed store lent r after) where
+  pub strict-called : {word : ℕ} → word ≡ strictWord r → StrictCalled store lent word after
+  strict-called e = record { answers = e ∙ ap strictWord (d .answers); holds = d .holds }
+
+  pub strict-few : r .list .kept + r .list .twins + r .list .bad ≤ 2000
+  strict-few =
+      cases (eqb (r .list .answer) 0) (λ z. few (strict.list-is d (eqb-true _ _ z)))
+      (λ f. rw (d .answers)
+      (strict-no-counts (strictRefusal store (length lent)) store (λ z. eqb-false _ _ f (strict.answer-number d ∙ z))))
+
+  pub strict-number : r .list .answer ≤ reservedBlock
+  strict-number = rw (strict.answer-number d) (strict.refusal-small store (length lent))
+
+  -- and so is the number of the first damaged record
+  pub first-few : r .reserved ≤ 2000
+  first-few =
+      cases (eqb (r .list .answer) reservedBlock)
+      (λ z. let k = known store (r .reserved) (strict.told-damaged d (eqb-true _ _ z) .unrefused) in omega arith)
+      (λ f. let e = strict.told-none d (eqb-false _ _ f) in omega arith)
+
+pub one-list : {store lent : List ℕ} {r s : ℕ} {a b : List ℕ} → TwinsCalled store lent r a → TwinsCalled store lent s b → (r ≡ s) × (a ≡ b)
+one-list d e = (d .answers ∙ sym (e .answers), d .holds ∙ sym (e .holds))
+
+pub one-strict-list : {store lent : List ℕ} {r s : ℕ} {a b : List ℕ} → StrictCalled store lent r a → StrictCalled store lent s b
+    → (r ≡ s) × (a ≡ b)
+one-strict-list d e = (d .answers ∙ sym (e .answers), d .holds ∙ sym (e .holds))

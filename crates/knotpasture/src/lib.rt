@@ -3,13 +3,14 @@ use bc6h_spec::Answer;
 use bc6h_spec::Fields;
 use records::Record;
 use records::RecordReading;
+use twins::TwinList;
 ghost use mathlib.Core.Path.{_≡_};
 ghost use mathlib.Core.List.{_++_};
 ghost use Prim.Native.Nat.{_+_, _*_, _<_, _≤_};
 ghost use lib.ListN.{length, drop};
 ghost use Rattle.copies.specs.Trust.{trusted};
 ghost use Rattle.records.specs.Store.{recordRefusal, tileAt};
-ghost use Rattle.knotpasture.specs.Packed.{twoBytes, numberCount, numberAt, numbersOf, readingWord, offsetAt, PixelsCalled, FieldsCalled, TwinsCalled};
+ghost use Rattle.knotpasture.specs.Packed.{twoBytes, numberCount, numberAt, numbersOf, readingWord, offsetAt, twinsWord, PixelsCalled, FieldsCalled, TwinsCalled, StrictCalled};
 
 // Two bytes as one word, the first the lowest.
 fn two_bytes(low: u8, high: u8) -> u32
@@ -111,17 +112,30 @@ pub extern "C" fn knot_tile_at(store: &[u8], n: usize) -> u32
     records::tile_at(store, n)
 }
 
+// The number and the counts of a twin list.
+fn list_word(list: TwinList) -> u64
+    requires { ⌜ list .kept + list .twins + list .bad ≤ 2000 ⌝ }
+    ensures { λ r. ⌜ r ≡ twinsWord list ⌝ }
+{
+    (list.answer as u64)
+        + (list.kept as u64) * 0x10000
+        + (list.twins as u64) * 0x100000000
+        + (list.bad as u64) * 0x1000000000000
+}
+
 #[no_mangle]
 pub extern "C" fn knot_twin_list(store: &[u8], marks: &mut [u8]) -> u64
     ensures { λ r. ⌜ TwinsCalled (now (store .entry)) (now (marks .entry)) r (now (marks .exit)) ⌝ }
 {
-    let list = twins::twin_list(store, marks);
-    if list.answer != Answer::DONE {
-        return list.answer as u64;
-    }
-    (list.kept as u64) * 0x10000
-        + (list.twins as u64) * 0x100000000
-        + (list.bad as u64) * 0x1000000000000
+    list_word(twins::twin_list(store, marks))
+}
+
+#[no_mangle]
+pub extern "C" fn knot_strict_twin_list(store: &[u8], marks: &mut [u8]) -> u64
+    ensures { λ r. ⌜ StrictCalled (now (store .entry)) (now (marks .entry)) r (now (marks .exit)) ⌝ }
+{
+    let strict = twins::strict_twin_list(store, marks);
+    list_word(strict.list) + (strict.reserved as u64) * 0x10000
 }
 
 #[no_mangle]

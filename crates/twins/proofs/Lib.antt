@@ -2,3 +2,4 @@ pub mod Keeping
 pub mod Marking
 pub mod Listing
 pub mod Reserved
+pub mod Strictness

@@ -31,7 +31,7 @@ is-refused store n r = ne-eqb _ _ r
 
 -- ---- which records hold a picture
 
-both-true : (a b : Bool) → both a b ≡ true → (a ≡ true) × (b ≡ true)
+pub both-true : (a b : Bool) → both a b ≡ true → (a ≡ true) × (b ≡ true)
 both-true true b e = (refl, e)
 both-true false b e = absurd (true-false (sym e))
 

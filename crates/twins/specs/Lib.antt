@@ -1,3 +1,4 @@
 pub mod Twins
 pub mod Kept
 pub mod Reserved
+pub mod Strict

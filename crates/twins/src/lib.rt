@@ -9,7 +9,8 @@ ghost use Rattle.laws.specs.Made.{countOf};
 ghost use Rattle.bc6h_spec.specs.Fields.{modeOf};
 ghost use Rattle.bc6h_spec.specs.Picture.{valueCount};
 ghost use Rattle.records.specs.Store.{recordsIn, formatOf, blockOf, Unrefused};
-ghost use Rattle.twins.specs.Twins.{pictureAt, marks, Reserved, holding, showing, alike, firstTwin, marksOf, refusal, Listed};
+ghost use Rattle.twins.specs.Twins.{pictureAt, marks, Reserved, holding, showing, alike, firstTwin, marksOf, listRefusal, refusal, Listed};
+ghost use Rattle.twins.specs.Strict.{damaged, firstDamaged, strictlyRefused, StrictlyListed};
 ghost use Rattle.twins.specs.Kept.{pictureIn, kindAt, printOf, Pictured, Decoded};
 use bc6::block_pixels;
 use bc6_fields::extract_mode;
@@ -237,30 +238,98 @@ fn count_of(marks: &[u8], mark: u8) -> usize
     count
 }
 
+// Why a twin list over the store, with room for so many marks, is refused.
+fn list_refusal(store: &[u8], room: usize) -> u8
+    ensures { λ r. ⌜ r ≡ listRefusal (length (now (store .entry))) room ⌝ }
+{
+    if store.len() > Record::STORE {
+        return Answer::LONG_STORE;
+    }
+    if store.len() % Record::SIZE != 0 {
+        return Answer::UNEVEN_STORE;
+    }
+    if room < store.len() / Record::SIZE {
+        return Answer::SHORT_OUTPUT;
+    }
+    Answer::DONE
+}
+
 // Marks the records of a store, one mark a record, and counts the marks of each kind.
 pub fn twin_list(store: &[u8], marks: &mut [u8]) -> TwinList
     ensures { λ r. ⌜ Listed (now (store .entry)) (now (marks .entry)) r (now (marks .exit)) ⌝ }
 {
-    if store.len() > Record::STORE {
-        return TwinList::refused(Answer::LONG_STORE);
-    }
-    if store.len() % Record::SIZE != 0 {
-        return TwinList::refused(Answer::UNEVEN_STORE);
-    }
-    let count = store.len() / Record::SIZE;
-    if marks.len() < count {
-        return TwinList::refused(Answer::SHORT_OUTPUT);
+    let refusal = list_refusal(store, marks.len());
+    if refusal != Answer::DONE {
+        return TwinList::refused(refusal);
     }
     let mut pictures = [0u16; TwinList::VALUES];
     let mut prints = [0u64; TwinList::RECORDS];
     decode_records(store, &mut pictures, &mut prints);
     mark_records(store, &pictures, &prints, marks);
-    let made = &marks[..count];
+    let made = &marks[..store.len() / Record::SIZE];
     TwinList {
         answer: Answer::DONE,
         kept: count_of(made, Mark::KEPT),
         twins: count_of(made, Mark::TWIN),
         bad: count_of(made, Mark::BAD),
+    }
+}
+
+// Record n is not refused and has a reserved mode.
+fn is_damaged(store: &[u8], n: usize) -> bool
+    ensures { λ r. ⌜ r ≡ damaged (now (store .entry)) n ⌝ }
+{
+    let RecordReading::Record(_) = record_at(store, n) else {
+        return false;
+    };
+    mode_at(store, n) == 0
+}
+
+// The first damaged record; the number of records where there is none.
+fn first_damaged(store: &[u8]) -> usize
+    ensures { λ r. ⌜ r ≡ firstDamaged (now (store .entry)) ⌝ }
+{
+    let count = store.len() / Record::SIZE;
+    for n in 0..count {
+        if is_damaged(store, n) {
+            return n;
+        }
+    }
+    count
+}
+
+// The twin list of a store without damaged records; `reserved` is the first of them where there is one.
+pub struct StrictList {
+    pub list: TwinList,
+    pub reserved: usize,
+}
+
+impl StrictList {
+    fn refused(answer: u8, reserved: usize) -> StrictList
+        ensures { λ r. ⌜ r ≡ strictlyRefused answer reserved ⌝ }
+    {
+        StrictList {
+            list: TwinList::refused(answer),
+            reserved,
+        }
+    }
+}
+
+// The twin list of a store, which is refused whole where a record is damaged.
+pub fn strict_twin_list(store: &[u8], marks: &mut [u8]) -> StrictList
+    ensures { λ r. ⌜ StrictlyListed (now (store .entry)) (now (marks .entry)) r (now (marks .exit)) ⌝ }
+{
+    let ordinary = list_refusal(store, marks.len());
+    if ordinary != Answer::DONE {
+        return StrictList::refused(ordinary, 0);
+    }
+    let first = first_damaged(store);
+    if first < store.len() / Record::SIZE {
+        return StrictList::refused(Answer::RESERVED_BLOCK, first);
+    }
+    StrictList {
+        list: twin_list(store, marks),
+        reserved: 0,
     }
 }
 

@@ -7,7 +7,8 @@
  * The calls may run on any number of threads at once.
  *
  * An answer is one word. Its low byte is a number of this table, and 0 means done. Where several refusals apply, the order
- * that each call names decides, first met first. A refusal changes no lent byte or value.
+ * that each call names decides, first met first. A refusal changes no lent byte or value. What a word has no room for, a call
+ * puts into a slot whose pointer it is handed, which is not null; a slot is part of the answer and is 0 on a refusal.
  */
 #ifndef KNOTPASTURE_H
 #define KNOTPASTURE_H
@@ -30,6 +31,7 @@ enum knot_answer {
     KNOT_UNEVEN_STORE = 6,  /* store length not a multiple of KNOT_RECORD_SIZE */
     KNOT_SPARE_BYTE = 7,    /* a record's spare byte is not zero */
     KNOT_NO_RECORD = 8,     /* record number not below the number of records */
+    KNOT_UNEVEN_BLOCKS = 9, /* block bytes not a multiple of KNOT_BLOCK_SIZE */
     KNOT_RESERVED_BLOCK = 12 /* reserved block in the store, from the strict twin list only */
 };
 
@@ -61,6 +63,15 @@ enum {
 uint32_t knot_block_pixels(const uint8_t *block, size_t block_length, uint8_t format, uint16_t *out, size_t out_length);
 
 #define KNOT_MODE(word) ((unsigned)((word) >> 8 & 0xFF))
+
+/* The values of a run of blocks of one format, in one call: what knot_block_pixels writes for each in turn, block n's values
+ * from out[48 n] on. The rest of out stays.
+ *
+ * Answers the number; *done becomes the number of blocks, which may be 0. Refusals: 1, 9, 3 (fewer than 48 values of room a
+ * block), in this order; nothing is written, not even the first block's values, and *done becomes 0.
+ */
+uint32_t knot_blocks_pixels(const uint8_t *blocks, size_t blocks_length, uint8_t format, uint16_t *out, size_t out_length,
+                            size_t *done);
 
 /* The fields of a block, as stored, before any sign extension or transform:
  *

@@ -1,17 +1,26 @@
 //! Blocks per second, ours and the Rust's in one run, both built for release: for each format and group of modes, over 4,096
-//! blocks that stay in cache and over 64 MiB of blocks; and the twin list's two worst stores against decoding their blocks.
+//! blocks that stay in cache and over 64 MiB of blocks; the call over a run of blocks against a call for each; and the twin
+//! list's two worst stores against decoding their blocks.
 //!
 //!     bench                  the table
 //!     bench ours|rust        decodes 100,000 mixed blocks with one side, in `counted`, for a count of instructions
+#[allow(dead_code)]
 #[path = "../compare/blocks.rs"]
 mod blocks;
 
 use blocks::{Mode, Random};
 use std::hint::black_box;
-use std::time::Instant;
+
+#[repr(C)]
+struct Time {
+    seconds: i64,
+    nanoseconds: i64,
+}
 
 extern "C" {
+    fn clock_gettime(clock: i32, time: *mut Time) -> i32;
     fn knot_block_pixels(block: *const u8, block_length: usize, format: u8, out: *mut u16, out_length: usize) -> u32;
+    fn knot_blocks_pixels(blocks: *const u8, blocks_length: usize, format: u8, out: *mut u16, out_length: usize, done: *mut usize) -> u32;
     fn knot_twin_list(store: *const u8, store_length: usize, marks: *mut u8, marks_length: usize) -> u64;
 }
 
@@ -34,23 +43,42 @@ fn blocks_of(modes: &[&Mode], count: usize) -> Vec<[u8; 16]> {
     blocks
 }
 
-/// Blocks per second in the best of several runs; each run decodes at least a million blocks.
-fn rate(blocks: &[[u8; 16]], format: u8, decode: impl Fn(&[u8; 16], u8, &mut [u16; 48])) -> f64 {
-    let rounds = (1_000_000 / blocks.len()).max(1);
+/// The processor time of this thread, in seconds: what else the machine does counts little.
+fn now() -> f64 {
+    const CLOCK_THREAD_CPUTIME_ID: i32 = 3;
+    let mut time = Time { seconds: 0, nanoseconds: 0 };
+    unsafe { clock_gettime(CLOCK_THREAD_CPUTIME_ID, &mut time) };
+    time.seconds as f64 + time.nanoseconds as f64 * 1e-9
+}
+
+fn seconds(run: &mut dyn FnMut()) -> f64 {
+    let start = now();
+    run();
+    now() - start
+}
+
+/// The best times of two runs that take turns.
+fn best(mut a: impl FnMut(), mut b: impl FnMut()) -> (f64, f64) {
+    (0..11).fold((f64::INFINITY, f64::INFINITY), |(x, y), _| (x.min(seconds(&mut a)), y.min(seconds(&mut b))))
+}
+
+/// Decodes at least half a million blocks.
+fn decode_all(blocks: &[[u8; 16]], rounds: usize, format: u8, decode: impl Fn(&[u8; 16], u8, &mut [u16; 48])) {
     let mut out = [0; 48];
-    let best = (0..7)
-        .map(|_| {
-            let start = Instant::now();
-            for _ in 0..rounds {
-                for block in blocks {
-                    decode(black_box(block), black_box(format), &mut out);
-                    black_box(&out);
-                }
-            }
-            start.elapsed().as_secs_f64()
-        })
-        .fold(f64::INFINITY, f64::min);
-    (rounds * blocks.len()) as f64 / best
+    for _ in 0..rounds {
+        for block in blocks {
+            decode(black_box(block), black_box(format), &mut out);
+            black_box(&out);
+        }
+    }
+}
+
+/// Blocks per second, ours and the Rust's.
+fn rates(blocks: &[[u8; 16]], format: u8) -> (f64, f64) {
+    let rounds = (500_000 / blocks.len()).max(1);
+    let (a, b) = best(|| decode_all(blocks, rounds, format, ours), || decode_all(blocks, rounds, format, rust));
+    let count = (rounds * blocks.len()) as f64;
+    (count / a, count / b)
 }
 
 fn table() {
@@ -65,29 +93,49 @@ fn table() {
         for (group, modes) in &groups {
             let blocks = blocks_of(modes, count);
             for (format, name) in ["unsigned", "signed"].into_iter().enumerate() {
-                let (a, b) = (rate(&blocks, format as u8, ours), rate(&blocks, format as u8, rust));
+                let (a, b) = rates(&blocks, format as u8);
                 println!("{size:12} {group:11} {name:9} {:>14.0} {:>14.0} {:>6.2}", a, b, a / b);
             }
         }
     }
+    runs(&groups[0].1);
     twins(&groups[0].1);
+}
+
+/// Nanoseconds a block of mixed modes: one call for the run, and a call for each block, both into one run of values.
+fn runs(modes: &[&Mode]) {
+    println!("{:12} {:9} {:>16} {:>16} {:>6}", "run of", "format", "one call, ns", "a call each, ns", "ratio");
+    for count in [1, 64, 4096, 1_048_576] {
+        let blocks = blocks_of(modes, count);
+        let mut out = vec![0u16; 48 * count];
+        let rounds = (1_000_000 / count).max(1);
+        for (format, name) in [(0, "unsigned"), (1, "signed")] {
+            let whole = seconds(|| {
+                for _ in 0..rounds {
+                    let bytes = black_box(blocks.as_flattened());
+                    let mut done = 0;
+                    unsafe { knot_blocks_pixels(bytes.as_ptr(), bytes.len(), black_box(format), out.as_mut_ptr(), out.len(), &mut done) };
+                    assert_eq!(black_box(done), count);
+                }
+            });
+            let each = seconds(|| {
+                for _ in 0..rounds {
+                    for (block, values) in black_box(&blocks).iter().zip(out.chunks_exact_mut(48)) {
+                        unsafe { knot_block_pixels(block.as_ptr(), 16, black_box(format), values.as_mut_ptr(), 48) };
+                    }
+                    black_box(&out);
+                }
+            });
+            let cost = |seconds: f64| seconds * 1e9 / (rounds * count) as f64;
+            println!("{count:<12} {name:9} {:>16.1} {:>16.1} {:>6.2}", cost(whole), cost(each), each / whole);
+        }
+    }
 }
 
 fn record(block: [u8; 16]) -> [u8; 24] {
     let mut record = [0; 24];
     record[8..].copy_from_slice(&block);
     record
-}
-
-/// Seconds for one run, the best of several.
-fn seconds(mut run: impl FnMut()) -> f64 {
-    (0..9)
-        .map(|_| {
-            let start = Instant::now();
-            run();
-            start.elapsed().as_secs_f64()
-        })
-        .fold(f64::INFINITY, f64::min)
 }
 
 fn twins(modes: &[&Mode]) {
@@ -97,14 +145,8 @@ fn twins(modes: &[&Mode]) {
         let store: Vec<u8> = blocks.iter().flat_map(|&block| record(block)).collect();
         let mut marks = [0; 2000];
         let mut counts = 0;
-        let list = seconds(|| counts = unsafe { knot_twin_list(store.as_ptr(), store.len(), marks.as_mut_ptr(), 2000) });
-        let mut out = [0; 48];
-        let decode = seconds(|| {
-            for block in &blocks {
-                ours(black_box(block), 0, &mut out);
-                black_box(&out);
-            }
-        });
+        let mut marked = || counts = unsafe { knot_twin_list(store.as_ptr(), store.len(), marks.as_mut_ptr(), 2000) };
+        let (list, decode) = best(&mut marked, || decode_all(&blocks, 1, 0, ours));
         println!(
             "twin list, {name} (kept {}): {:.3} ms; decoding them once {:.3} ms; {:.1} times",
             counts >> 16 & 0xFFFF,
@@ -119,13 +161,8 @@ fn twins(modes: &[&Mode]) {
 #[inline(never)]
 #[no_mangle]
 fn counted(blocks: &[[u8; 16]], decode: fn(&[u8; 16], u8, &mut [u16; 48])) {
-    let mut out = [0; 48];
-    for round in 0..100 {
-        for block in blocks {
-            decode(black_box(block), round % 2, &mut out);
-            black_box(&out);
-        }
-    }
+    decode_all(blocks, 50, 0, decode);
+    decode_all(blocks, 50, 1, decode);
 }
 
 fn count(decode: fn(&[u8; 16], u8, &mut [u16; 48])) {

@@ -26,11 +26,11 @@ static const uint8_t B9[16] = {0x1E, 0, 0, 0, 0, 0, 0, 0, 0x7E, 0xA0, 0x01};
 
 enum { UNTOUCHED = 0xA55A };
 
-static uint16_t values[64];
+static uint16_t values[160];
 
 static void untouch(void)
 {
-    for (size_t k = 0; k < 64; k++) values[k] = UNTOUCHED;
+    for (size_t k = 0; k < 160; k++) values[k] = UNTOUCHED;
 }
 
 /* The values from `from` up to `to` are all `value`. */
@@ -67,6 +67,58 @@ static void pixels(void)
     CHECK(KNOT_MODE(answer) == 14 && values[0] == 0x3E00);
     answer = knot_block_pixels(B9, 16, KNOT_SIGNED, values, 64);
     CHECK(KNOT_MODE(answer) == 10 && values[21] == 0 && values[24] == 0x85D0 && values[45] == 0x85D0);
+}
+
+/* What *done then is: 99 where the call left it. */
+static size_t blocks_done;
+
+static uint32_t run(const uint8_t *blocks, size_t length, uint8_t format, size_t room)
+{
+    blocks_done = 99;
+    return knot_blocks_pixels(blocks, length, format, values, room, &blocks_done);
+}
+
+static int refused(uint32_t answer, uint32_t number)
+{
+    return answer == number && blocks_done == 0 && all(0, 160, UNTOUCHED);
+}
+
+static void runs(void)
+{
+    uint8_t blocks[49];
+    for (int k = 0; k < 16; k++) {
+        blocks[k] = B3[k];
+        blocks[16 + k] = B5[k];
+        blocks[32 + k] = B2[k];
+    }
+    blocks[48] = 0;
+
+    untouch();
+    CHECK(knot_blocks_pixels(NULL, 0, KNOT_SIGNED, NULL, 0, &blocks_done) == KNOT_DONE && blocks_done == 0);
+    CHECK(run(blocks, 0, KNOT_UNSIGNED, 160) == KNOT_DONE && blocks_done == 0 && all(0, 160, UNTOUCHED));
+    for (size_t length = 0; length <= 49; length++)
+        for (size_t room = 0; room <= 97; room += room == 0 || room == 49 ? 46 : 1)
+            CHECK(refused(run(blocks, length, 2, room), KNOT_BAD_FORMAT));
+    for (size_t room = 0; room <= 160; room++) {
+        CHECK(refused(run(blocks, 15, KNOT_UNSIGNED, room), KNOT_UNEVEN_BLOCKS));
+        CHECK(refused(run(blocks, 17, KNOT_SIGNED, room), KNOT_UNEVEN_BLOCKS));
+        CHECK(refused(run(blocks, 33, KNOT_SIGNED, room), KNOT_UNEVEN_BLOCKS));
+    }
+    CHECK(refused(run(blocks, 16, KNOT_UNSIGNED, 0), KNOT_SHORT_OUTPUT));
+    CHECK(refused(run(blocks, 16, KNOT_UNSIGNED, 47), KNOT_SHORT_OUTPUT));
+    CHECK(refused(run(blocks, 32, KNOT_UNSIGNED, 48), KNOT_SHORT_OUTPUT));
+    CHECK(refused(run(blocks, 32, KNOT_UNSIGNED, 95), KNOT_SHORT_OUTPUT));
+    CHECK(refused(run(blocks, 48, KNOT_SIGNED, 143), KNOT_SHORT_OUTPUT));
+
+    CHECK(run(blocks, 16, KNOT_UNSIGNED, 48) == KNOT_DONE && blocks_done == 1 && values[45] == 0x7BFF && all(48, 160, UNTOUCHED));
+    untouch();
+    CHECK(run(blocks, 16, KNOT_UNSIGNED, 49) == KNOT_DONE && blocks_done == 1 && values[45] == 0x7BFF && all(48, 160, UNTOUCHED));
+    untouch();
+    CHECK(run(blocks, 32, KNOT_UNSIGNED, 96) == KNOT_DONE && blocks_done == 2 && all(96, 160, UNTOUCHED));
+    CHECK(all(0, 45, 0) && values[45] == 0x7BFF && all(46, 48, 0) && values[48] == 0x3E03 && values[93] == 0x3E03 && values[95] == 0);
+    CHECK(run(blocks, 32, KNOT_UNSIGNED, 97) == KNOT_DONE && blocks_done == 2 && all(96, 160, UNTOUCHED));
+    CHECK(run(blocks, 48, KNOT_UNSIGNED, 144) == KNOT_DONE && blocks_done == 3 && all(96, 144, 0) && all(144, 160, UNTOUCHED));
+    CHECK(run(blocks, 48, KNOT_SIGNED, 145) == KNOT_DONE && blocks_done == 3 && all(144, 160, UNTOUCHED));
 }
 
 static void fields(void)
@@ -204,6 +256,7 @@ static void trusted(void)
 int main(void)
 {
     pixels();
+    runs();
     fields();
     records();
     twins();

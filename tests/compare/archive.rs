@@ -3,6 +3,7 @@ use crate::{field_numbers, for_each_class, Extent, Tally};
 
 extern "C" {
     fn knot_block_pixels(block: *const u8, block_length: usize, format: u8, out: *mut u16, out_length: usize) -> u32;
+    fn knot_blocks_pixels(blocks: *const u8, blocks_length: usize, format: u8, out: *mut u16, out_length: usize, done: *mut usize) -> u32;
     fn knot_block_fields(block: *const u8, block_length: usize, numbers: *mut u16, room: usize) -> u32;
 }
 
@@ -11,6 +12,13 @@ const UNTOUCHED: u16 = 0xA55A;
 
 fn pixels(block: &[u8], format: u8, out: &mut [u16]) -> u32 {
     unsafe { knot_block_pixels(block.as_ptr(), block.len(), format, out.as_mut_ptr(), out.len()) }
+}
+
+/// The number and the count of blocks that the call over a run answers.
+fn run_pixels(blocks: &[u8], format: u8, out: &mut [u16]) -> (u32, usize) {
+    let mut done = usize::MAX;
+    let answer = unsafe { knot_blocks_pixels(blocks.as_ptr(), blocks.len(), format, out.as_mut_ptr(), out.len(), &mut done) };
+    (answer, done)
 }
 
 fn fields(block: &[u8], numbers: &mut [u16]) -> u32 {
@@ -27,6 +35,17 @@ fn compare_pixels(block: [u8; 16], format: u8, tally: &mut Tally) {
         tally.differs("values", format, &block);
     } else if out[48..] != [UNTOUCHED; 2] {
         tally.differs("values past 48", format, &block);
+    }
+}
+
+/// A run of blocks, with room for three values more.
+fn compare_run(blocks: &[[u8; 16]], format: u8, tally: &mut Tally) {
+    let mut out = vec![UNTOUCHED; 48 * blocks.len() + 3];
+    let answer = run_pixels(blocks.as_flattened(), format, &mut out);
+    tally.compared += 1;
+    let expected = blocks.iter().flat_map(|&block| oracle::pixels(block, format == 1)).flatten().chain([UNTOUCHED; 3]);
+    if answer != (0, blocks.len()) || !out.iter().copied().eq(expected) {
+        tally.differs("a run of blocks", format, blocks.as_flattened());
     }
 }
 
@@ -66,18 +85,53 @@ fn compare_refusals(tally: &mut Tally) {
     }
 }
 
+/// The same for runs of up to 67 bytes, with every room about the 48 values of each block.
+fn compare_run_refusals(tally: &mut Tally) {
+    let bytes: Vec<u8> = (0..67).map(|k| 29 * k + 3).collect();
+    for format in 0..=255 {
+        for length in 0..=67 {
+            for room in (0..=193).filter(|room| (room + 1) % 48 < 3) {
+                let mut out = vec![UNTOUCHED; room];
+                let answer = run_pixels(&bytes[..length], format, &mut out);
+                let refusal = match (format, length % 16) {
+                    (2.., _) => 1,
+                    (_, 1..) => 9,
+                    _ if room < 3 * length => 3,
+                    _ => 0,
+                };
+                tally.compared += 1;
+                let blocks = if refusal == 0 { length / 16 } else { 0 };
+                if answer != (refusal, blocks) || out[48 * blocks..].iter().any(|&v| v != UNTOUCHED) {
+                    tally.differs(&format!("refusal {refusal} of a run, {room} values"), format, &bytes[..length]);
+                }
+            }
+        }
+    }
+}
+
 pub fn compare(extent: &Extent, tally: &mut Tally) {
-    println!("seed {}, {} random blocks a mode and format, every {}th endpoint pair", extent.seed, extent.random, extent.pair_step);
+    println!("seed {}, {} random blocks a code and format, one in {} of the endpoint pairs", extent.seed, extent.random, extent.pair_step);
+    let mut runs = 0;
     for_each_class(extent, |name, walk| {
-        let before = tally.compared;
+        let before = (tally.compared, runs);
+        let mut run = Vec::new();
         walk(&mut |block| {
             compare_pixels(block, 0, tally);
             compare_pixels(block, 1, tally);
             compare_fields(block, tally);
+            run.push(block);
+            if run.len() > runs % 100 {
+                compare_run(&run, (runs % 2) as u8, tally);
+                run.clear();
+                runs += 1;
+            }
         });
-        println!("{name}: {} blocks, as unsigned, as signed and by fields", (tally.compared - before) / 3);
+        let runs = runs - before.1;
+        let blocks = (tally.compared - before.0 - runs as u64) / 3;
+        println!("{name}: {blocks} blocks, as unsigned, as signed, by fields and in {runs} runs");
     });
     let before = tally.compared;
     compare_refusals(tally);
+    compare_run_refusals(tally);
     println!("lengths, formats and rooms: {}", tally.compared - before);
 }

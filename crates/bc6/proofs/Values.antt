@@ -23,7 +23,9 @@ use Rattle.bc6h_spec.proofs.Shown.{region-lt, mixed-in, value-unsigned, value-s
 use Rattle.bc6.specs.declared.Pixels.{Pixels}
 use Rattle.bc6.specs.Call.{refusalOf, isSigned, Painted}
 use Rattle.bc6.specs.Numbers.{interpolatedAt, lowest}
-use Rattle.bc6.proofs.Whole.{pixels-none, pixels-some, pixels-length}
+use Rattle.bc6.proofs.Whole.{pixels-none}
+use Rattle.bc6h_spec.proofs.Pixel.{block-shows}
+use Rattle.bc6h_spec.proofs.Values.{length-pixels}
 use Rattle.bc6.proofs.Calls.{written}
 
 -- ---- the values of a block
@@ -31,7 +33,7 @@ use Rattle.bc6.proofs.Calls.{written}
 module _ (s : Bool) (block : List ℕ) (j : ℕ) (h : j < 48) where
   value-at : 1 ≤ modeOf block → getD (pixelsOf s block) j 0 ≡ value s (fieldsOf block) j
   unfolding picture
-  value-at m = ap (λ (l : List ℕ). getD l j 0) (pixels-some s block m) ∙ getD-made (value s (fieldsOf block)) 48 j 0 h
+  value-at m = ap (λ (l : List ℕ). getD l j 0) (block-shows s block m) ∙ getD-made (value s (fieldsOf block)) 48 j 0 h
 
   value-none : modeOf block ≡ 0 → getD (pixelsOf s block) j 0 ≡ 0
   value-none z = ap (λ (l : List ℕ). getD l j 0) (pixels-none s block z) ∙ getD-replicate 48 j 0 0 h
@@ -61,7 +63,7 @@ module _ {block : List ℕ} {format : ℕ} {out : List ℕ} {r : Pixels} {after 
   pub wrote : getD after j 0 ≡ getD (pixelsOf (isSigned format) block) j 0
   wrote =
       ap (λ (l : List ℕ). getD l j 0) (written p ok)
-      ∙ List·getD-append (pixelsOf (isSigned format) block) (drop valueCount out) 0 j (rw (pixels-length (isSigned format) block) h)
+      ∙ List·getD-append (pixelsOf (isSigned format) block) (drop valueCount out) 0 j (rw (length-pixels (isSigned format) block) h)
 
   of-written : (s : Bool) → isSigned format ≡ s → (P : ℕ → Type 0) → P 0 → (1 ≤ modeOf block → P (value s (fieldsOf block) j)) → P (getD after j 0)
   of-written s e P base step =

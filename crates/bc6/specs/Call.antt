@@ -35,3 +35,8 @@ valuesAt (suc n) block format out = out
 pub record Painted (block : List ℕ) (format : ℕ) (out : List ℕ) (r : Pixels) (after : List ℕ) : Type 0 where
   pub answers : r ≡ answerAt (refusalOf format (length block) (length out)) block
   pub holds : after ≡ valuesAt (refusalOf format (length block) (length out)) block format out
+
+-- What is shown of a block whose input was checked: its mode, and its values in the first of the lent ones.
+pub record Shown (block : List ℕ) (signed : Bool) (out : List ℕ) (mode : ℕ) (after : List ℕ) : Type 0 where
+  pub mode-is : mode ≡ modeOf block
+  pub holds : after ≡ pixelsOf signed block ++ drop valueCount out

@@ -10,14 +10,14 @@ ghost use mathlib.Core.Path.{_≡_};
 ghost use mathlib.Core.Bool.{true, false};
 ghost use mathlib.Core.List.{_++_};
 ghost use Prim.Native.Nat.{_≤_};
-ghost use lib.ListN.{length, drop};
+ghost use lib.ListN.{length, drop, replicate};
 ghost use Rattle.laws.specs.Made.{made};
 ghost use Rattle.bc6h_spec.specs.Layout.{twoRegions};
 ghost use Rattle.bc6h_spec.specs.Fields.{Valid};
 ghost use Rattle.bc6h_spec.specs.Picture.{picture};
 ghost use Rattle.bc6h_spec.specs.Block.{pixelsOf};
 ghost use Rattle.bc6.specs.Triples.{onePixel, twoPixel, IndicesBelow, flat, inTriples};
-ghost use Rattle.bc6.specs.Call.{Painted};
+ghost use Rattle.bc6.specs.Call.{Shown, Painted};
 
 // Each pixel has the palette's colour at its index.
 fn paint_one(palette: [[u16; 3]; 16], indices: [u8; 16]) -> [[u16; 3]; 16]
@@ -113,6 +113,54 @@ fn write_values(picture: [[u16; 3]; 16], out: &mut [u16])
     }
 }
 
+// The plain form of `show_block`, by palettes and the picture, as the document reads.
+pub fn plain_block(block: &[u8], signed: bool, out: &mut [u16]) -> u8
+    requires { ⌜ (length (now block) ≡ 16) × (48 ≤ length (now out)) ⌝ }
+    ensures { λ r. ⌜ Shown (now (block .entry)) signed (now (out .entry)) r (now (out .exit)) ⌝ }
+{
+    let mode = bc6_fields::extract_mode(BitStream::new(block));
+    let picture = decode_bc6_block(block, signed);
+    write_values(picture, out);
+    mode as u8
+}
+
+// 48 zeros.
+fn write_black(out: &mut [u16])
+    requires { ⌜ 48 ≤ length (now out) ⌝ }
+    ensures { λ _. ⌜ now (out .exit) ≡ replicate 48 0 ++ drop 48 (now (out .entry)) ⌝ }
+{
+    for j in 0..48usize {
+        out[j] = 0;
+    }
+}
+
+// The values of a block, each worked out from its endpoints and index: what the pixels call writes. The mode comes back.
+pub fn show_block(block: &[u8], signed: bool, out: &mut [u16]) -> u8
+    requires { ⌜ (length (now block) ≡ 16) × (48 ≤ length (now out)) ⌝ }
+    ensures { λ r. ⌜ Shown (now (block .entry)) signed (now (out .entry)) r (now (out .exit)) ⌝ }
+{
+    let f = bc6_fields::fields_of(block);
+    let mode = f.mode;
+    if mode == 0 {
+        write_black(out);
+        return 0;
+    }
+    if mode <= 10 {
+        if signed {
+            bc6_picture::show_two_signed(f, out);
+            return mode;
+        }
+        bc6_picture::show_two_unsigned(f, out);
+        return mode;
+    }
+    if signed {
+        bc6_picture::show_one_signed(f, out);
+        return mode;
+    }
+    bc6_picture::show_one_unsigned(f, out);
+    mode
+}
+
 // What the pixels call answers.
 pub struct Pixels {
     pub answer: u8,
@@ -140,11 +188,9 @@ pub fn block_pixels(block: &[u8], format: u8, out: &mut [u16]) -> Pixels
     if out.len() < Block::VALUES {
         return Pixels::refused(Answer::SHORT_OUTPUT);
     }
-    let mode = bc6_fields::extract_mode(BitStream::new(block));
-    let picture = decode_bc6_block(block, format == 1);
-    write_values(picture, out);
+    let mode = show_block(block, format == 1, out);
     Pixels {
         answer: Answer::DONE,
-        mode: mode as u8,
+        mode,
     }
 }

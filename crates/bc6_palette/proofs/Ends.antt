@@ -63,6 +63,10 @@ module _ (s : Bool) (f : Fields) (v : Valid f) (bits : ModeBits) (told : bits �
         blue = endpoint-in s f v e 2 h (lit< tt);
       })
 
+  -- what unquantising asks of an endpoint
+  pub end-asks : (e : ℕ) (a : Colour) → e < 4 → a ≡ endOf s f e → (0 < bits .a0) × (bits .a0 ≤ 16) × OfBits s (bits .a0) a
+  end-asks e a h ea = (a0-some, a0-most, rw ea (end-in e h))
+
   -- what a palette asks of two endpoints
   pub palette-asks : (e₁ e₂ : ℕ) (a b : Colour) → e₁ < 4 → e₂ < 4 → a ≡ endOf s f e₁ → b ≡ endOf s f e₂
       → (0 < bits .a0) × (bits .a0 ≤ 16) × (OfBits s (bits .a0) a × OfBits s (bits .a0) b)
@@ -86,7 +90,7 @@ module _ (s : Bool) (f : Fields) (v : Valid f) (bits : ModeBits) (told : bits �
 
 -- ---- a palette's entry
 
-ready : (s : Bool) (p : ℕ) (c : Colour) → p ≤ 16 → OfBits s p c → OfBits s 16 (unquantizedOf s p c)
+pub ready : (s : Bool) (p : ℕ) (c : Colour) → p ≤ 16 → OfBits s p c → OfBits s 16 (unquantizedOf s p c)
 unfolding unquantizedOf
 ready s p c h r =
     record {

@@ -111,7 +111,7 @@ impl Colour {
         }
     }
 
-    fn unquantize(self, bits: u8, signed: bool) -> Self
+    pub fn unquantize(self, bits: u8, signed: bool) -> Self
         requires { ⌜ (0 < bits) × (bits ≤ 16) × OfBits signed bits self ⌝ }
         ensures { λ r. ⌜ r ≡ unquantizedOf signed bits self ⌝ }
     {

@@ -55,10 +55,12 @@ impl Answer {
 
     pub const NO_RECORD: u8 = 8;
 
+    pub const UNEVEN_BLOCKS: u8 = 9;
+
     pub const RESERVED_BLOCK: u8 = 12;
 
     // The constants are the numbers of specs/Answers.
-    pub fn all() -> [u8; 10]
+    pub fn all() -> [u8; 11]
         ensures { λ r. ⌜ r ≡ answers ⌝ }
     {
         [
@@ -71,6 +73,7 @@ impl Answer {
             Answer::UNEVEN_STORE,
             Answer::SPARE_BYTE,
             Answer::NO_RECORD,
+            Answer::UNEVEN_BLOCKS,
             Answer::RESERVED_BLOCK,
         ]
     }

@@ -10,6 +10,8 @@ use Rattle.laws.proofs.Tests.{cases}
 use Rattle.bc6h_spec.specs.Answers.{reservedBlock}
 use Rattle.bc6.specs.declared.Pixels.{Pixels}
 use Rattle.bc6.specs.Call.{Painted}
+use Rattle.bc6_blocks.specs.declared.BlocksPixels.{BlocksPixels}
+use Rattle.bc6_blocks.specs.Run.{RunPainted}
 use Rattle.records.specs.declared.Record.{Record}
 use Rattle.records.specs.declared.RecordReading.{RecordReading}
 use Rattle.records.specs.declared.RecordReading.the-variants as reading
@@ -22,7 +24,7 @@ use Rattle.twins.proofs.Listing.{answer-number, counts-add-up, whole}
 use Rattle.twins.specs.declared.StrictList.{StrictList}
 use Rattle.twins.specs.Strict.{strictRefusal, strictAnswerAt, StrictlyListed}
 use Rattle.twins.proofs.Strictness as strict
-use Rattle.knotpasture.specs.Packed.{pixelsWord, PixelsCalled, wordAt, readingWord, offsetAt, twinsWord, TwinsCalled, strictWord, StrictCalled}
+use Rattle.knotpasture.specs.Packed.{pixelsWord, PixelsCalled, RunCalled, wordAt, readingWord, offsetAt, twinsWord, TwinsCalled, strictWord, StrictCalled}
 
 -- ---- the pixels call
 
@@ -33,6 +35,21 @@ called d e = record { answers = e ∙ ap pixelsWord (d .answers); holds = d .hol
 pub one-outcome : {block : List ℕ} {format : ℕ} {out : List ℕ} {r s : ℕ} {a b : List ℕ}
     → PixelsCalled block format out r a → PixelsCalled block format out s b → (r ≡ s) × (a ≡ b)
 one-outcome d e = (d .answers ∙ sym (e .answers), d .holds ∙ sym (e .holds))
+
+-- ---- the call over a run of blocks
+
+pub run-called : {blocks : List ℕ} {format : ℕ} {out : List ℕ} {p : BlocksPixels} {after : List ℕ}
+    → RunPainted blocks format out p after → RunCalled blocks format out (p .answer) after (p .blocks)
+run-called d =
+    record {
+      answers = ap (λ (x : BlocksPixels). x .answer) (d .answers);
+      counts = ap (λ (x : BlocksPixels). x .blocks) (d .answers);
+      holds = d .holds;
+    }
+
+pub one-run : {blocks : List ℕ} {format : ℕ} {out : List ℕ} {r s m n : ℕ} {a b : List ℕ}
+    → RunCalled blocks format out r a m → RunCalled blocks format out s b n → (r ≡ s) × (m ≡ n) × (a ≡ b)
+one-run d e = (d .answers ∙ sym (e .answers), d .counts ∙ sym (e .counts), d .holds ∙ sym (e .holds))
 
 -- ---- the record calls
 

@@ -12,6 +12,7 @@ use Rattle.bc6h_spec.specs.Fields.{modeOf, fieldsOf}
 use Rattle.bc6_fields.specs.Call as fields
 use Rattle.bc6.specs.declared.Pixels.{Pixels}
 use Rattle.bc6.specs.Call.{refusalOf, answerAt, valuesAt}
+use Rattle.bc6_blocks.specs.Run.{runRefusal, runAnswer, runValues}
 use Rattle.records.specs.Store.{recordSize, headSize, tileOf, formatOf, recordRefusal}
 use Rattle.twins.specs.declared.TwinList.{TwinList}
 use Rattle.twins.specs.declared.StrictList.{StrictList}
@@ -31,6 +32,12 @@ pixelsWord p = twoBytes (p .answer) (p .mode)
 pub record PixelsCalled (block : List ℕ) (format : ℕ) (out : List ℕ) (r : ℕ) (after : List ℕ) : Type 0 where
   pub answers : r ≡ pixelsWord (answerAt (refusalOf format (length block) (length out)) block)
   pub holds : after ≡ valuesAt (refusalOf format (length block) (length out)) block format out
+
+-- The call over a run of blocks: its number, the lent values as the call leaves them, and the number of blocks in the slot.
+pub record RunCalled (blocks : List ℕ) (format : ℕ) (out : List ℕ) (r : ℕ) (after : List ℕ) (done : ℕ) : Type 0 where
+  pub answers : r ≡ runAnswer (runRefusal format (length blocks) (length out)) blocks .answer
+  pub counts : done ≡ runAnswer (runRefusal format (length blocks) (length out)) blocks .blocks
+  pub holds : after ≡ runValues (runRefusal format (length blocks) (length out)) blocks format out
 
 -- a field record as numbers: mode, twelve endpoint values, partition, pixels in region 1, sixteen indices
 abbrev pub numberCount : ℕ

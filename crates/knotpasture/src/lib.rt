@@ -10,7 +10,7 @@ ghost use Prim.Native.Nat.{_+_, _*_, _<_, _≤_};
 ghost use lib.ListN.{length, drop};
 ghost use Rattle.copies.specs.Trust.{trusted};
 ghost use Rattle.records.specs.Store.{recordRefusal, tileAt};
-ghost use Rattle.knotpasture.specs.Packed.{twoBytes, numberCount, numberAt, numbersOf, readingWord, offsetAt, twinsWord, PixelsCalled, FieldsCalled, TwinsCalled, StrictCalled};
+ghost use Rattle.knotpasture.specs.Packed.{twoBytes, numberCount, numberAt, numbersOf, readingWord, offsetAt, twinsWord, PixelsCalled, RunCalled, FieldsCalled, TwinsCalled, StrictCalled};
 
 // Two bytes as one word, the first the lowest.
 fn two_bytes(low: u8, high: u8) -> u32
@@ -25,6 +25,20 @@ pub extern "C" fn knot_block_pixels(block: &[u8], format: u8, out: &mut [u16]) -
 {
     let pixels = bc6::block_pixels(block, format, out);
     two_bytes(pixels.answer, pixels.mode)
+}
+
+#[no_mangle]
+pub extern "C" fn knot_blocks_pixels(
+    blocks: &[u8],
+    format: u8,
+    out: &mut [u16],
+    done: &mut usize,
+) -> u32
+    ensures { λ r. ⌜ RunCalled (now (blocks .entry)) format (now (out .entry)) r (now (out .exit)) (now (done .exit)) ⌝ }
+{
+    let run = bc6_blocks::blocks_pixels(blocks, format, out);
+    *done = run.blocks;
+    run.answer as u32
 }
 
 // A field record as a run of numbers.

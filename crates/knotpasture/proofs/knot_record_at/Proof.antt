@@ -2,51 +2,37 @@ use borrow.Author.Needs.{needs}
 use Rattle.knotpasture.proofs.Words.{record-word, refused-word}
 use Rattle.knotpasture.proofs.knot_record_at.Statement.{statement}
 use Rattle.knotpasture.proofs.knot_record_at.Tie as tie
-use Rattle.knotpasture.proofs.knot_record_at.Reads as reads
-use Rattle.knotpasture.proofs.knot_record_at.Lts as lts
-use Rattle.records.proofs.record_at.Reads as record-at-reads
 
--- src/lib.rt:28:9
 record-at-requires : tie.Need-record-at-requires
 record-at-requires c κs = search needs
 
--- src/lib.rt:30:31
 enum-known-reading : tie.Need-enum-known-reading
 enum-known-reading c = search needs
 
--- src/lib.rt:30:43
 cast-result : tie.Need-cast-result
 cast-result c = search needs
 
--- src/lib.rt:30:42
 mul-result : tie.Need-mul-result
 mul-result c = search needs
 
--- src/lib.rt:30:76
 cast-result-2 : tie.Need-cast-result-2
 cast-result-2 c = search needs
 
--- src/lib.rt:30:75
 mul-result-2 : tie.Need-mul-result-2
 mul-result-2 c = search needs
 
--- src/lib.rt:30:42
 add-result : tie.Need-add-result
 add-result c = search needs
 
--- src/lib.rt:31:32
 enum-known-reading-2 : tie.Need-enum-known-reading-2
 enum-known-reading-2 c = search needs
 
--- src/lib.rt:31:43
 cast-result-3 : tie.Need-cast-result-3
 cast-result-3 c = search needs
 
--- src/lib.rt:24:1
 returns : tie.Need-returns
 returns c = record-word (c .before .before .before .before .before .record-at .ensures) (c .before .before .before .reading .given .1)
 
--- src/lib.rt:24:1
 returns-2 : tie.Need-returns-2
 returns-2 c = refused-word (c .before .before .before .record-at .ensures) (c .before .reading2 .given .1)
 

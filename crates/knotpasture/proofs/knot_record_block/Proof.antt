@@ -5,22 +5,16 @@ use Rattle.records.specs.Store.{recordSize, storeLimit}
 use Rattle.knotpasture.proofs.Words.{record-offset, refused-offset, inside}
 use Rattle.knotpasture.proofs.knot_record_block.Statement.{statement}
 use Rattle.knotpasture.proofs.knot_record_block.Tie as tie
-use Rattle.knotpasture.proofs.knot_record_block.Reads as reads
-use Rattle.knotpasture.proofs.knot_record_block.Lts as lts
-use Rattle.records.proofs.record_at.Reads as record-at-reads
 
--- src/lib.rt:39:36
 record-at-requires : tie.Need-record-at-requires
 record-at-requires c κs = search needs
 
 enum-told : tie.Need-enum-told
 enum-told c = search needs
 
--- src/lib.rt:40:9
 enum-told-2 : tie.Need-enum-told-2
 enum-told-2 c = search needs
 
--- src/lib.rt:40:9
 returns : tie.Need-returns
 returns c = refused-offset (c .before .before .record-at .ensures) (c .enum-told2 .given .1)
 
@@ -30,11 +24,9 @@ within c = inside (c .before .before .record-at .ensures) (c .enum-told .given .
 mul-result : tie.Need-mul-result
 mul-result c = record { fits = omega (arith, within c) }
 
--- src/lib.rt:42:5
 add-result : tie.Need-add-result
 add-result c = record { fits = omega (arith, within c) }
 
--- src/lib.rt:35:1
 returns-2 : tie.Need-returns-2
 returns-2 c = record-offset (c .before .before .record-at .ensures) (c .enum-told .given .1)
 

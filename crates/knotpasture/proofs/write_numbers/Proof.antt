@@ -9,9 +9,6 @@ use Rattle.laws.proofs.Rows.{made-none, made-store, made-upto}
 use Rattle.knotpasture.specs.Packed.{numberAt, numbersOf}
 use Rattle.knotpasture.proofs.write_numbers.Statement.{statement}
 use Rattle.knotpasture.proofs.write_numbers.Tie as tie
-use Rattle.knotpasture.proofs.write_numbers.Reads as reads
-use Rattle.knotpasture.proofs.write_numbers.Lts as lts
-use Rattle.knotpasture.proofs.number_at.Reads as number-at-reads
 
 abbrev Inv-loop : tie.InvT-loop
 Inv-loop fields numbers₀ k₀ numbers k = (k ≤ 31) × (numbers ≡ made (numberAt fields) k ++ drop k numbers₀) × (length numbers ≡ length numbers₀)
@@ -19,39 +16,30 @@ Inv-loop fields numbers₀ k₀ numbers k = (k ≤ 31) × (numbers ≡ made (num
 abbrev μ-loop : tie.MeasureT-loop
 μ-loop fields numbers₀ k₀ numbers k = 31 - k
 
--- src/lib.rt:63:5
 loop-holds : tie.Need-loop-holds Inv-loop μ-loop
 loop-holds c = (search needs, made-none _ _, refl)
 
--- src/lib.rt:64:22
 number-at-requires : tie.Need-number-at-requires Inv-loop μ-loop
 number-at-requires c κs = search needs
 
--- src/lib.rt:64:9
 mul-numbers : tie.Need-mul-numbers Inv-loop μ-loop
 mul-numbers c = search needs
 
--- src/lib.rt:64:9
 slice-write-numbers : tie.Need-slice-write-numbers Inv-loop μ-loop
 slice-write-numbers c = search needs
 
--- src/lib.rt:63:9
 add-k : tie.Need-add-k Inv-loop μ-loop
 add-k c = search needs
 
--- src/lib.rt:63:5
 loop-less : tie.Need-loop-less Inv-loop μ-loop
 loop-less c = search needs
 
--- src/lib.rt:63:5
 loop-again : tie.Need-loop-again Inv-loop μ-loop
 loop-again c = (search needs, made-store _ _ _ _ _ _ (c .before .before .loop .inv .1) refl (c .number-at .ensures) (omega arith), simp length-set (c .before .before .loop .inv .2))
 
--- src/lib.rt:59:1
 same-length : tie.Need-same-length Inv-loop μ-loop
 same-length c = search needs
 
--- src/lib.rt:59:1
 returns : tie.Need-returns Inv-loop μ-loop
 unfolding numbersOf
 returns c = made-upto _ _ _ _ _ (c .before .loop .inv .1) (omega arith) (omega arith)

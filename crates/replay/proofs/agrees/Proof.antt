@@ -4,74 +4,54 @@ use Rattle.replay.specs.Entries.{blockIn}
 use Rattle.replay.proofs.Replayed.{other-number, other-mode, by-values}
 use Rattle.replay.proofs.agrees.Statement.{statement}
 use Rattle.replay.proofs.agrees.Tie as tie
-use Rattle.replay.proofs.agrees.Reads as reads
-use Rattle.replay.proofs.agrees.Lts as lts
-use Rattle.bc6.proofs.block_pixels.Reads as block-pixels-reads
-use Rattle.replay.proofs.same_values.Reads as same-values-reads
 
--- src/main.rt:62:17
 sub-block : tie.Need-sub-block
 sub-block c = search needs
 
--- src/main.rt:62:17
 part-block-start : tie.Need-part-block-start
 part-block-start c = search needs
 
--- src/main.rt:62:17
 part-block-end : tie.Need-part-block-end
 part-block-end c = search needs
 
--- src/main.rt:63:43
 shared-slice-read-block-pixels : tie.Need-shared-slice-read-block-pixels
 shared-slice-read-block-pixels c = search needs
 
--- src/main.rt:63:53
 slice-aggregate-block-pixels : tie.Need-slice-aggregate-block-pixels
 slice-aggregate-block-pixels c = search needs
 
--- src/main.rt:63:9
 block-pixels-requires : tie.Need-block-pixels-requires
 block-pixels-requires c κs = search needs
 
--- src/main.rt:64:25
 shared-slice-read-if1 : tie.Need-shared-slice-read-if1
 shared-slice-read-if1 c = search needs
 
--- src/main.rt:65:9
 returns : tie.Need-returns
 unfolding blockIn
 returns c = other-number (c .before .before .before .before .before .before .before .before .before .args .entry .now) _ _ (c .before .before .before .before .block-pixels .ensures) (c .if1 .taken)
 
--- src/main.rt:67:23
 shared-slice-read-if2 : tie.Need-shared-slice-read-if2
 shared-slice-read-if2 c = search needs
 
--- src/main.rt:68:9
 returns-2 : tie.Need-returns-2
 unfolding blockIn
 returns-2 c = other-mode (c .before .before .before .before .before .before .before .before .before .before .before .before .args .entry .now) _ _ (c .before .before .before .before .before .before .before .block-pixels .ensures) (c .before .before .before .if1 .left) (c .if2 .taken)
 
--- src/main.rt:70:17
 slice-aggregate-same-values : tie.Need-slice-aggregate-same-values
 slice-aggregate-same-values c = search needs
 
--- src/main.rt:70:26
 sub-same-values : tie.Need-sub-same-values
 sub-same-values c = search needs
 
--- src/main.rt:70:26
 part-same-values-start : tie.Need-part-same-values-start
 part-same-values-start c = search needs
 
--- src/main.rt:70:26
 part-same-values-end : tie.Need-part-same-values-end
 part-same-values-end c = search needs
 
--- src/main.rt:70:5
 same-values-requires : tie.Need-same-values-requires
 same-values-requires c κs = search needs
 
--- src/main.rt:57:1
 returns-3 : tie.Need-returns-3
 unfolding blockIn
 returns-3 c =

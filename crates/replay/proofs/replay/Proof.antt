@@ -7,9 +7,6 @@ use Rattle.replay.specs.Entries.{agreeing}
 use Rattle.replay.proofs.Replayed.{counts-most, one-more}
 use Rattle.replay.proofs.replay.Statement.{statement}
 use Rattle.replay.proofs.replay.Tie as tie
-use Rattle.replay.proofs.replay.Reads as reads
-use Rattle.replay.proofs.replay.Lts as lts
-use Rattle.replay.proofs.replay_one.Reads as replay-one-reads
 
 abbrev Inv-loop : tie.InvT-loop
 Inv-loop list entries count₀ n₀ count n = (n ≤ entries) × (count ≤ n) × (count ≡ agreeing list n)
@@ -17,12 +14,10 @@ Inv-loop list entries count₀ n₀ count n = (n ≤ entries) × (count ≤ n) �
 abbrev μ-loop : tie.MeasureT-loop
 μ-loop list entries count₀ n₀ count n = entries - n
 
--- src/main.rt:114:5
 loop-holds : tie.Need-loop-holds Inv-loop μ-loop
 unfolding agreeing
 loop-holds c = (search needs, search needs, refl)
 
--- src/main.rt:115:18
 replay-one-requires : tie.Need-replay-one-requires Inv-loop μ-loop
 replay-one-requires c κs = search needs
 
@@ -32,15 +27,12 @@ small c = counts-most (c .before .before .before .before .args .list .now) (c .b
 add-count : tie.Need-add-count Inv-loop μ-loop
 add-count c = record { fits = omega (arith, small c) }
 
--- src/main.rt:114:9
 add-n : tie.Need-add-n Inv-loop μ-loop
 add-n c = search needs
 
--- src/main.rt:114:5
 loop-less : tie.Need-loop-less Inv-loop μ-loop
 loop-less c = search needs
 
--- src/main.rt:114:5
 loop-again : tie.Need-loop-again Inv-loop μ-loop
 loop-again c = (
   search needs,
@@ -48,7 +40,6 @@ loop-again c = (
   one-more (c .before .before .before .before .args .list .now) (c .before .before .loop .n) (c .before .before .loop .inv .2) (c .replay-one .ensures),
 )
 
--- src/main.rt:109:1
 returns : tie.Need-returns Inv-loop μ-loop
 returns c =
     let whole : c .before .loop .n ≡ length (c .before .before .before .args .list .now) / 115 = omega arith in

@@ -7,9 +7,6 @@ use Rattle.replay.specs.Entries.{valueIn}
 use Rattle.replay.proofs.Replayed.{not-same, all-same}
 use Rattle.replay.proofs.same_values.Statement.{statement}
 use Rattle.replay.proofs.same_values.Tie as tie
-use Rattle.replay.proofs.same_values.Reads as reads
-use Rattle.replay.proofs.same_values.Lts as lts
-use Rattle.replay.proofs.value_at.Reads as value-at-reads
 
 abbrev Inv-loop : tie.InvT-loop
 Inv-loop values bytes k₀ k = (k ≤ 48) × ((i : ℕ) → i < k → getD values i 0 ≡ valueIn bytes i)
@@ -17,42 +14,33 @@ Inv-loop values bytes k₀ k = (k ≤ 48) × ((i : ℕ) → i < k → getD value
 abbrev μ-loop : tie.MeasureT-loop
 μ-loop values bytes k₀ k = 48 - k
 
--- src/main.rt:48:5
 loop-holds : tie.Need-loop-holds Inv-loop μ-loop
 loop-holds c = (search needs, below-none _)
 
--- src/main.rt:49:12
 mul-if1 : tie.Need-mul-if1 Inv-loop μ-loop
 mul-if1 c = search needs
 
--- src/main.rt:49:12
 shared-slice-read-if1 : tie.Need-shared-slice-read-if1 Inv-loop μ-loop
 shared-slice-read-if1 c = search needs
 
--- src/main.rt:49:25
 value-at-requires : tie.Need-value-at-requires Inv-loop μ-loop
 value-at-requires c κs = search needs
 
--- src/main.rt:50:13
 returns : tie.Need-returns Inv-loop μ-loop
 returns c =
     let s = c .before .before .before .before .before .before .before .args in
     not-same (s .values .now) (s .bytes .now) (c .before .before .before .before .loop .k) (search needs)
     (λ e. c .if1 .taken (e ∙ sym (c .before .value-at .ensures)))
 
--- src/main.rt:48:9
 add-k : tie.Need-add-k Inv-loop μ-loop
 add-k c = search needs
 
--- src/main.rt:48:5
 loop-less : tie.Need-loop-less Inv-loop μ-loop
 loop-less c = search needs
 
--- src/main.rt:48:5
 loop-again : tie.Need-loop-again Inv-loop μ-loop
 loop-again c = (search needs, below-more _ _ (c .before .before .before .before .loop .inv .1) (c .if1 .left ∙ c .before .value-at .ensures))
 
--- src/main.rt:44:1
 returns-2 : tie.Need-returns-2 Inv-loop μ-loop
 returns-2 c =
     let s = c .before .before .before .before in

@@ -2,47 +2,34 @@ use borrow.Author.Needs.{needs}
 use Rattle.replay.specs.Entries.{valueIn}
 use Rattle.replay.proofs.value_at.Statement.{statement}
 use Rattle.replay.proofs.value_at.Tie as tie
-use Rattle.replay.proofs.value_at.Reads as reads
-use Rattle.replay.proofs.value_at.Lts as lts
-use Rattle.replay.proofs.wide.Reads as wide-reads
 
--- src/main.rt:41:16
 mul-wide : tie.Need-mul-wide
 mul-wide c = search needs
 
--- src/main.rt:41:10
 shared-slice-read-wide : tie.Need-shared-slice-read-wide
 shared-slice-read-wide c = search needs
 
--- src/main.rt:41:5
 wide-requires : tie.Need-wide-requires
 wide-requires c κs = search needs
 
--- src/main.rt:41:37
 mul-wide-2 : tie.Need-mul-wide-2
 mul-wide-2 c = search needs
 
--- src/main.rt:41:37
 add-wide : tie.Need-add-wide
 add-wide c = search needs
 
--- src/main.rt:41:31
 shared-slice-read-wide-2 : tie.Need-shared-slice-read-wide-2
 shared-slice-read-wide-2 c = search needs
 
--- src/main.rt:41:26
 wide-requires-2 : tie.Need-wide-requires-2
 wide-requires-2 c κs = search needs
 
--- src/main.rt:41:26
 mul-result : tie.Need-mul-result
 mul-result c = search needs
 
--- src/main.rt:41:5
 add-result : tie.Need-add-result
 add-result c = search needs
 
--- src/main.rt:37:1
 returns : tie.Need-returns
 unfolding valueIn
 returns c = search needs

@@ -1,0 +1,40 @@
+-- `bc6::plain_block` meets its contract: the picture, laid out flat. Assumes nothing.
+use borrow.Author.Needs.{needs}
+use mathlib.Core.Path.{_∙_, ap}
+use Prim.Native.Nat.{_≤_}
+use native.Mathlib.Omega.{arith}
+use Rattle.bc6h_spec.specs.Fields.{modeIn, modeOf}
+use Rattle.bc6h_spec.proofs.Modes.{mode-range}
+use Rattle.bc6h_spec.proofs.Values.{length-pixels}
+use Rattle.bc6.specs.Triples.{flat}
+use Rattle.bc6.proofs.Flat.{flat-triples}
+use Rattle.bc6.proofs.Whole.{shown-values}
+use Rattle.bc6.proofs.plain_block.Statement.{statement}
+use Rattle.bc6.proofs.plain_block.Tie as tie
+
+cast-result : tie.Need-cast-result
+cast-result c =
+    let m = c .before .before .before .before .before in
+    let h : m .extract-mode .result ≤ 14 = rw (m .extract-mode .ensures) (mode-range _) in
+    record { fits = omega arith }
+
+returns : tie.Need-returns
+unfolding modeOf
+returns c =
+    let w = c .before .before in
+    let d = w .before .before in
+    let m = d .before in
+    shown-values _ _ _ _ _ _ (m .extract-mode .ensures ∙ ap modeIn (m .before .new .ensures))
+    (ap flat (d .decode-bc6-block .ensures) ∙ flat-triples _ (length-pixels _ _)) (w .write-values .ensures)
+
+pub plain-block-spec : {M : Type 1} → statement M
+plain-block-spec =
+    tie.close
+    (tie.spec
+    (λ c κs. search needs)
+    (λ c κs. search needs)
+    (λ c κs. search needs)
+    (λ c κs. search needs)
+    cast-result
+    (λ c. search needs)
+    returns)

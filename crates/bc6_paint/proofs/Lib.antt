@@ -1,0 +1,3 @@
+pub mod Biased
+pub mod Pixels
+pub mod Link

@@ -1,0 +1,51 @@
+-- `bc6_picture::show_one_signed` meets its contract: the parts, joined. Assumes nothing.
+use borrow.Author.Needs.{needs}
+use mathlib.Core.Path.{ap}
+use mathlib.Core.Bool.{true}
+use lib.Dec.{lit<}
+use Rattle.bc6_palette.proofs.Ends.{a0-is, end-asks}
+use Rattle.bc6_paint.proofs.Link.{tone-is, indices-16, one-picture, painted-as}
+use Rattle.bc6_picture.proofs.show_one_signed.Statement.{statement}
+use Rattle.bc6_picture.proofs.show_one_signed.Tie as tie
+
+signed-end-requires : tie.Need-signed-end-requires
+signed-end-requires c κs =
+    let i = c in
+    let s = i .before .before .before .before .before in
+    end-asks true (s .args .f) (s .pre .0 .0) _ (i .before .before .before .of .ensures) 0 _ (lit< tt) (i .before .before .first .ensures)
+
+signed-end-requires-2 : tie.Need-signed-end-requires-2
+signed-end-requires-2 c κs =
+    let i = c .before in
+    let s = i .before .before .before .before .before in
+    end-asks true (s .args .f) (s .pre .0 .0) _ (i .before .before .before .of .ensures) 1 _ (lit< tt) (i .before .other .ensures)
+
+paint-one-signed-requires : tie.Need-paint-one-signed-requires
+paint-one-signed-requires c κs =
+    let s = c .before .before .before .before .before .before .before .before in
+    (indices-16 true (s .args .f) (s .pre .0 .0) (s .pre .0 .1), s .pre .1)
+
+returns : tie.Need-returns
+returns c =
+    let r = c .before .before in
+    let i = r .before .before .before .before in
+    let s = i .before .before .before .before .before in
+    let p = a0-is true (s .args .f) (s .pre .0 .0) _ (i .before .before .before .of .ensures) in
+    let e =
+    one-picture true (s .args .f) (s .pre .0 .0) (s .pre .0 .1) _ _
+    (tone-is true (s .args .f) 0 _ _ _ p (i .before .before .first .ensures) (r .before .before .before .signed-end .ensures))
+    (tone-is true (s .args .f) 1 _ _ _ p (i .before .other .ensures) (r .before .before .signed-end2 .ensures)) in
+    painted-as (r .paint-one-signed .ensures) e
+
+pub show-one-signed-spec : {M : Type 1} → statement M
+show-one-signed-spec =
+    tie.close
+    (tie.spec
+    (λ c κs. search needs)
+    (λ c κs. search needs)
+    (λ c κs. search needs)
+    signed-end-requires
+    signed-end-requires-2
+    paint-one-signed-requires
+    (λ c. search needs)
+    returns)

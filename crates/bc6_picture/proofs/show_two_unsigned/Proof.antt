@@ -1,0 +1,73 @@
+-- `bc6_picture::show_two_unsigned` meets its contract: the parts, joined. Assumes nothing.
+use borrow.Author.Needs.{needs}
+use mathlib.Core.Path.{ap}
+use mathlib.Core.Bool.{false}
+use lib.Dec.{lit<}
+use Rattle.bcn_data.specs.declared.Subset2Map.{Subset2Map}
+use Rattle.bc6_palette.proofs.Ends.{a0-is, end-asks}
+use Rattle.bc6_paint.proofs.Link.{tone-is, indices-8, two-picture, written-as}
+use Rattle.bc6_picture.proofs.show_two_unsigned.Statement.{statement}
+use Rattle.bc6_picture.proofs.show_two_unsigned.Tie as tie
+
+unsigned-end-requires : tie.Need-unsigned-end-requires
+unsigned-end-requires c κs =
+    let i = c in
+    let s = i .before .before .before .before .before .before .before .before .before in
+    end-asks false (s .args .f) (s .pre .0 .0) _ (i .before .before .before .before .before .before .before .of .ensures) 0 _ (lit< tt) (i .before .before .before .before .before .before .first .ensures)
+
+unsigned-end-requires-2 : tie.Need-unsigned-end-requires-2
+unsigned-end-requires-2 c κs =
+    let i = c .before in
+    let s = i .before .before .before .before .before .before .before .before .before in
+    end-asks false (s .args .f) (s .pre .0 .0) _ (i .before .before .before .before .before .before .before .of .ensures) 1 _ (lit< tt) (i .before .before .before .before .before .other .ensures)
+
+unsigned-end-requires-3 : tie.Need-unsigned-end-requires-3
+unsigned-end-requires-3 c κs =
+    let i = c .before .before in
+    let s = i .before .before .before .before .before .before .before .before .before in
+    end-asks false (s .args .f) (s .pre .0 .0) _ (i .before .before .before .before .before .before .before .of .ensures) 2 _ (lit< tt) (i .before .before .before .before .other2 .ensures)
+
+unsigned-end-requires-4 : tie.Need-unsigned-end-requires-4
+unsigned-end-requires-4 c κs =
+    let i = c .before .before .before in
+    let s = i .before .before .before .before .before .before .before .before .before in
+    end-asks false (s .args .f) (s .pre .0 .0) _ (i .before .before .before .before .before .before .before .of .ensures) 3 _ (lit< tt) (i .before .before .before .other3 .ensures)
+
+paint-two-unsigned-requires : tie.Need-paint-two-unsigned-requires
+paint-two-unsigned-requires c κs =
+    let s = c .before .before .before .before .before .before .before .before .before .before .before .before .before .before in
+    (indices-8 false (s .args .f) (s .pre .0 .0) (s .pre .0 .1), s .pre .1)
+
+returns : tie.Need-returns
+returns c =
+    let r = c .before .before in
+    let i = r .before .before .before .before .before .before in
+    let s = i .before .before .before .before .before .before .before .before .before in
+    let p = a0-is false (s .args .f) (s .pre .0 .0) _ (i .before .before .before .before .before .before .before .of .ensures) in
+    let e =
+    two-picture false (s .args .f) (s .pre .0 .0) (s .pre .0 .1) _ _ _ _ _
+    (tone-is false (s .args .f) 0 _ _ _ p (i .before .before .before .before .before .before .first .ensures) (r .before .before .before .before .before .unsigned-end .ensures))
+    (tone-is false (s .args .f) 1 _ _ _ p (i .before .before .before .before .before .other .ensures) (r .before .before .before .before .unsigned-end2 .ensures))
+    (tone-is false (s .args .f) 2 _ _ _ p (i .before .before .before .before .other2 .ensures) (r .before .before .before .unsigned-end3 .ensures))
+    (tone-is false (s .args .f) 3 _ _ _ p (i .before .before .before .other3 .ensures) (r .before .before .unsigned-end4 .ensures))
+    (ap (λ (m : Subset2Map). m .«subset_indexes») (i .before .of2 .ensures)) in
+    written-as _ _ (s .args .out .now) _ (r .paint-two-unsigned .ensures) e
+
+pub show-two-unsigned-spec : {M : Type 1} → statement M
+show-two-unsigned-spec =
+    tie.close
+    (tie.spec
+    (λ c κs. search needs)
+    (λ c κs. search needs)
+    (λ c κs. search needs)
+    (λ c κs. search needs)
+    (λ c κs. search needs)
+    (λ c. search needs)
+    (λ c κs. search needs)
+    unsigned-end-requires
+    unsigned-end-requires-2
+    unsigned-end-requires-3
+    unsigned-end-requires-4
+    paint-two-unsigned-requires
+    (λ c. search needs)
+    returns)

@@ -55,8 +55,14 @@ impl Answer {
 
     pub const NO_RECORD: u8 = 8;
 
+    pub const UNEVEN_BLOCKS: u8 = 9;
+
+    pub const INVALID_RECORD: u8 = 10;
+
+    pub const BAD_BUFFER: u8 = 11;
+
     // The constants are the numbers of specs/Answers.
-    pub fn all() -> [u8; 9]
+    pub fn all() -> [u8; 12]
         ensures { λ r. ⌜ r ≡ answers ⌝ }
     {
         [
@@ -69,6 +75,9 @@ impl Answer {
             Answer::UNEVEN_STORE,
             Answer::SPARE_BYTE,
             Answer::NO_RECORD,
+            Answer::UNEVEN_BLOCKS,
+            Answer::INVALID_RECORD,
+            Answer::BAD_BUFFER,
         ]
     }
 }

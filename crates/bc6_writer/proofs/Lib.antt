@@ -1,0 +1,9 @@
+pub mod Below
+pub mod Validity
+pub mod Sizes
+pub mod Verdict
+pub mod Scattering
+pub mod Packing
+pub mod Joining
+pub mod Calls
+pub mod Undone

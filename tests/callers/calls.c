@@ -94,6 +94,63 @@ static void fields(void)
     CHECK(KNOT_MODE(answer) == 10 && values[0] == KNOT_UNSIGNED && values[8] == 0x3F && values[11] == 0 && values[14] == 13 && values[15] == 8);
 }
 
+static uint8_t written[18];
+
+static int untouched_bytes(void)
+{
+    for (size_t k = 0; k < 18; k++)
+        if (written[k] != 0xA5) return 0;
+    return 1;
+}
+
+/* The numbers of a block, one of them changed, are refused and nothing is written. */
+static void refused_with(const uint8_t *block, size_t place, uint16_t number)
+{
+    knot_block_fields(block, 16, KNOT_UNSIGNED, values, 32);
+    values[place] = number;
+    CHECK(knot_write_block(values, 32, written, 16) == KNOT_INVALID_RECORD && untouched_bytes());
+}
+
+static void writing(void)
+{
+    for (size_t k = 0; k < 18; k++) written[k] = 0xA5;
+    /* the order 1, 10, 11 */
+    knot_block_fields(B3, 16, KNOT_SIGNED, values, 32);
+    values[0] = 2, values[1] = 0;
+    CHECK(knot_write_block(values, 32, written, 15) == KNOT_BAD_FORMAT);
+    values[0] = 256;
+    CHECK(knot_write_block(values, 32, written, 16) == KNOT_BAD_FORMAT);
+    values[0] = 1;
+    CHECK(knot_write_block(values, 32, written, 15) == KNOT_INVALID_RECORD);
+    CHECK(knot_write_block(NULL, 0, NULL, 0) == KNOT_INVALID_RECORD);
+    values[1] = 11;
+    CHECK(knot_write_block(values, 31, written, 16) == KNOT_INVALID_RECORD);
+    CHECK(knot_write_block(values, 33, written, 16) == KNOT_INVALID_RECORD);
+    for (size_t room = 0; room <= 18; room++)
+        CHECK(room == 16 || knot_write_block(values, 32, written, room) == KNOT_BAD_BUFFER);
+    CHECK(untouched_bytes());
+    refused_with(B3, 1, 0);         /* mode */
+    refused_with(B3, 1, 15);
+    refused_with(B3, 1, 11 + 256);
+    refused_with(B3, 2, 1024);      /* an endpoint past its width */
+    refused_with(B3, 8, 1);         /* a third endpoint in one region */
+    refused_with(B3, 14, 1);        /* a partition in one region */
+    refused_with(B3, 15, 1);        /* a region count in one region */
+    refused_with(B3, 16, 8);        /* pixel 0's top bit */
+    refused_with(B3, 17, 16);       /* an index past its width */
+    refused_with(B9, 14, 32);       /* partition */
+    refused_with(B9, 15, 7);        /* region count */
+    refused_with(B9, 31, 4);        /* the fix-up pixel's top bit */
+
+    const uint8_t *blocks[] = {B1, B3, B4, B5, B6, B9};
+    for (size_t n = 0; n < sizeof blocks / sizeof *blocks; n++) {
+        for (size_t k = 0; k < 18; k++) written[k] = 0xA5;
+        CHECK(KNOT_ANSWER(knot_block_fields(blocks[n], 16, n % 2, values, 32)) == KNOT_DONE);
+        CHECK(knot_write_block(values, 32, written, 16) == KNOT_DONE && written[16] == 0xA5 && written[17] == 0xA5);
+        for (size_t k = 0; k < 16; k++) CHECK(written[k] == blocks[n][k]);
+    }
+}
+
 static uint8_t store[48001];
 static uint8_t marks[2001];
 
@@ -172,6 +229,7 @@ int main(void)
 {
     pixels();
     fields();
+    writing();
     records();
     twins();
     trusted();

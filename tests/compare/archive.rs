@@ -3,6 +3,7 @@ use crate::{field_numbers, for_each_class, Extent, Tally};
 
 extern "C" {
     fn knot_block_pixels(block: *const u8, block_length: usize, format: u8, out: *mut u16, out_length: usize) -> u32;
+    fn knot_write_block(numbers: *const u16, numbers_length: usize, out: *mut u8, out_length: usize) -> u32;
     fn knot_block_fields(block: *const u8, block_length: usize, format: u8, numbers: *mut u16, room: usize) -> u32;
 }
 
@@ -38,6 +39,14 @@ fn compare_fields(block: [u8; 16], format: u8, tally: &mut Tally) {
     let written = if number == 0 { expected } else { [UNTOUCHED; 32] };
     if answer != u32::from(number) | u32::from(expected[1]) << 8 || numbers[..32] != written || numbers[32] != UNTOUCHED {
         tally.differs("fields", format, &block);
+    }
+    if number == 0 {
+        let mut again = [0; 16];
+        let answer = unsafe { knot_write_block(numbers.as_ptr(), 32, again.as_mut_ptr(), 16) };
+        tally.compared += 1;
+        if answer != 0 || again != block {
+            tally.differs("fields written back", format, &block);
+        }
     }
 }
 
@@ -75,7 +84,7 @@ pub fn compare(extent: &Extent, tally: &mut Tally) {
             compare_pixels(block, 1, tally);
             compare_fields(block, block[15] % 2, tally);
         });
-        println!("{name}: {} blocks, as unsigned, as signed and by fields", (tally.compared - before) / 3);
+        println!("{name}: {} comparisons: blocks as unsigned, as signed, by fields and written back from them", tally.compared - before);
     });
     let before = tally.compared;
     compare_refusals(tally);

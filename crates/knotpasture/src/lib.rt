@@ -7,9 +7,12 @@ ghost use mathlib.Core.Path.{_≡_};
 ghost use mathlib.Core.List.{_++_};
 ghost use Prim.Native.Nat.{_+_, _*_, _<_, _≤_};
 ghost use lib.ListN.{length, drop};
+ghost use Rattle.laws.specs.Made.{made};
+ghost use Rattle.bc6_writer.specs.Call.{Written};
 ghost use Rattle.copies.specs.Trust.{trusted};
 ghost use Rattle.records.specs.Store.{recordRefusal, tileAt};
 ghost use Rattle.knotpasture.specs.Packed.{twoBytes, numberCount, numberAt, numbersOf, readingWord, offsetAt, PixelsCalled, FieldsCalled, TwinsCalled};
+ghost use Rattle.knotpasture.specs.Numbers.{byteIn, endpointIn, indexIn, fieldsIn};
 
 // Two bytes as one word, the first the lowest.
 fn two_bytes(low: u8, high: u8) -> u32
@@ -132,4 +135,56 @@ pub extern "C" fn knot_is_trusted(block: &[u8]) -> bool
     ensures { λ r. ⌜ r ≡ trusted (now (block .entry)) ⌝ }
 {
     trust::is_trusted(block)
+}
+
+// A number of a field record that one byte holds; 255, which no valid record has, stands for what it cannot hold.
+fn byte_in(number: u16) -> u8
+    ensures { λ r. ⌜ r ≡ byteIn number ⌝ }
+{
+    if number < 255 { number as u8 } else { 255 }
+}
+
+fn endpoints_in(numbers: &[u16]) -> [u16; 12]
+    requires { ⌜ length (now numbers) ≡ numberCount ⌝ }
+    ensures { λ r. ⌜ r ≡ made (endpointIn (now (numbers .entry))) 12 ⌝ }
+{
+    let mut endpoints = [0u16; 12];
+    for k in 0..12usize {
+        endpoints[k] = numbers[k + 2];
+    }
+    endpoints
+}
+
+fn indices_in(numbers: &[u16]) -> [u8; 16]
+    requires { ⌜ length (now numbers) ≡ numberCount ⌝ }
+    ensures { λ r. ⌜ r ≡ made (indexIn (now (numbers .entry))) 16 ⌝ }
+{
+    let mut indices = [0u8; 16];
+    for k in 0..16usize {
+        indices[k] = byte_in(numbers[k + 16]);
+    }
+    indices
+}
+
+fn fields_in(numbers: &[u16]) -> Fields
+    ensures { λ r. ⌜ r ≡ fieldsIn (now (numbers .entry)) ⌝ }
+{
+    if numbers.len() != Numbers::COUNT {
+        return Fields::none();
+    }
+    Fields {
+        format: byte_in(numbers[0]),
+        mode: byte_in(numbers[1]),
+        endpoints: endpoints_in(numbers),
+        partition: byte_in(numbers[14]),
+        region1: byte_in(numbers[15]),
+        indices: indices_in(numbers),
+    }
+}
+
+#[no_mangle]
+pub extern "C" fn knot_write_block(numbers: &[u16], out: &mut [u8]) -> u32
+    ensures { λ r. ⌜ Written (fieldsIn (now (numbers .entry))) (now (out .entry)) r (now (out .exit)) ⌝ }
+{
+    bc6_writer::write_block(fields_in(numbers), out) as u32
 }

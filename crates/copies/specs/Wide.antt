@@ -1,15 +1,19 @@
--- The words of the wider theorem, region by region, in either format: document 02's T-07. Assumes nothing.
+-- Demand 3 on more tiles, in words: two-region modes, and two signed blocks; document 02's T-07. Assumes nothing.
 use mathlib.Core.Path.{_≡_}
-use mathlib.Core.Logic.{_≢_}
+use mathlib.Core.Logic.{_⊎_, _≢_}
 use mathlib.Core.Bool.{Bool, true}
+use mathlib.Core.List.{List}
 use Prim.Native.Nat.{ℕ, _-_, _*_, _^_, _≤_, _<_}
+use lib.Dec.{eqb}
 use lib.IntN.{pos, negℤ}
 use Rattle.laws.specs.Pick.{pick}
 use Rattle.bc6h_spec.specs.declared.Fields.{Fields}
+use Rattle.bc6h_spec.specs.Bits.{IsBlock}
 use Rattle.bc6h_spec.specs.Layout.{twoRegions, precision}
 use Rattle.bc6h_spec.specs.Regions.{regionOf}
-use Rattle.bc6h_spec.specs.Fields.{indexOf}
+use Rattle.bc6h_spec.specs.Fields.{modeOf, fieldsOf, indexOf}
 use Rattle.bc6h_spec.specs.Picture.{endpoint, palette}
+use Rattle.bc6h_spec.specs.Block.{pixelsOf}
 
 -- how many regions a mode has, and the last index of its palettes
 abbrev pub regions : ℕ → ℕ
@@ -31,9 +35,39 @@ pub record Differs (signed : Bool) (f : Fields) (r : ℕ) : Type 0 where
   pub is-channel : channel < 3
   pub all-differ : (i j : ℕ) → i ≤ lastIndex (f .mode) → j ≤ lastIndex (f .mode) → palette signed f r channel i ≡ palette signed f r channel j → i ≡ j
 
--- each region reaches both ends of its palette; and of two signed blocks, "no endpoint, after the transform, is −2^(p−1)"
+-- every region has a pixel at index n
+abbrev pub AllReach : Fields → ℕ → Type 0
+AllReach f n = (r : ℕ) → r < regions (f .mode) → Reaches f r n
+
+-- in a signed block "no endpoint, after the transform, is −2^(p−1)"
+abbrev pub NoLeast : Bool → Fields → Type 0
+NoLeast signed f = signed ≡ true → (e c : ℕ) → e < 2 * regions (f .mode) → c < 3
+    → endpoint signed f e c ≢ negℤ (pos (2 ^ (precision (f .mode) - 1)))
+
+-- "in each block each region has a pixel at index 0 and one at 7", at 15 where there is one region
 pub record Spanning (signed : Bool) (f : Fields) : Type 0 where
-  pub lowest : (r : ℕ) → r < regions (f .mode) → Reaches f r 0
-  pub highest : (r : ℕ) → r < regions (f .mode) → Reaches f r (lastIndex (f .mode))
-  pub not-least : signed ≡ true → (e c : ℕ) → e < 2 * regions (f .mode) → c < 3
-      → endpoint signed f e c ≢ negℤ (pos (2 ^ (precision (f .mode) - 1)))
+  pub lowest : AllReach f 0
+  pub highest : AllReach f (lastIndex (f .mode))
+  pub not-least : NoLeast signed f
+
+-- "0 (unsigned) nor 1 (signed)"
+abbrev pub isSigned : ℕ → Bool
+isSigned format = eqb format 1
+
+-- what is asked of each of the two blocks; "Mode 14 remains left out."
+pub record Suited (format : ℕ) (block : List ℕ) : Type 0 where
+  pub bytes : IsBlock block
+  pub mode-from : 1 ≤ modeOf block
+  pub mode-to : modeOf block ≤ 13
+  pub spanning : Spanning (isSigned format) (fieldsOf block)
+
+-- "for each region at least one of the two blocks has a channel whose eight palette values differ"
+abbrev pub RegionsDiffer : ℕ → List ℕ → ℕ → List ℕ → Type 0
+RegionsDiffer format x other y =
+    (r : ℕ) → r < regions (modeOf x) → Differs (isSigned format) (fieldsOf x) r ⊎ Differs (isSigned other) (fieldsOf y) r
+
+-- The theorem, whole. "never one of each format"; "same mode and same partition"
+abbrev pub Copies : Type 0
+Copies = (format other : ℕ) (x y : List ℕ) → Suited format x → Suited other y → format ≡ other
+    → modeOf x ≡ modeOf y → fieldsOf x .partition ≡ fieldsOf y .partition → RegionsDiffer format x other y
+    → pixelsOf (isSigned format) x ≡ pixelsOf (isSigned other) y → x ≡ y

@@ -3,7 +3,7 @@ use crate::{field_numbers, for_each_class, Extent, Tally};
 
 extern "C" {
     fn knot_block_pixels(block: *const u8, block_length: usize, format: u8, out: *mut u16, out_length: usize) -> u32;
-    fn knot_block_fields(block: *const u8, block_length: usize, numbers: *mut u16, room: usize) -> u32;
+    fn knot_block_fields(block: *const u8, block_length: usize, format: u8, numbers: *mut u16, room: usize) -> u32;
 }
 
 /// What stands in lent values before a call, to see which are written.
@@ -13,8 +13,8 @@ fn pixels(block: &[u8], format: u8, out: &mut [u16]) -> u32 {
     unsafe { knot_block_pixels(block.as_ptr(), block.len(), format, out.as_mut_ptr(), out.len()) }
 }
 
-fn fields(block: &[u8], numbers: &mut [u16]) -> u32 {
-    unsafe { knot_block_fields(block.as_ptr(), block.len(), numbers.as_mut_ptr(), numbers.len()) }
+fn fields(block: &[u8], format: u8, numbers: &mut [u16]) -> u32 {
+    unsafe { knot_block_fields(block.as_ptr(), block.len(), format, numbers.as_mut_ptr(), numbers.len()) }
 }
 
 fn compare_pixels(block: [u8; 16], format: u8, tally: &mut Tally) {
@@ -30,14 +30,14 @@ fn compare_pixels(block: [u8; 16], format: u8, tally: &mut Tally) {
     }
 }
 
-fn compare_fields(block: [u8; 16], tally: &mut Tally) {
-    let mut numbers = [UNTOUCHED; 32];
-    let answer = fields(&block, &mut numbers);
-    let (number, expected) = field_numbers(block);
+fn compare_fields(block: [u8; 16], format: u8, tally: &mut Tally) {
+    let mut numbers = [UNTOUCHED; 33];
+    let answer = fields(&block, format, &mut numbers);
+    let (number, expected) = field_numbers(block, format);
     tally.compared += 1;
-    let written = if number == 0 { expected } else { [UNTOUCHED; 31] };
-    if answer != u32::from(number) | u32::from(expected[0]) << 8 || numbers[..31] != written || numbers[31] != UNTOUCHED {
-        tally.differs("fields", 0, &block);
+    let written = if number == 0 { expected } else { [UNTOUCHED; 32] };
+    if answer != u32::from(number) | u32::from(expected[1]) << 8 || numbers[..32] != written || numbers[32] != UNTOUCHED {
+        tally.differs("fields", format, &block);
     }
 }
 
@@ -73,7 +73,7 @@ pub fn compare(extent: &Extent, tally: &mut Tally) {
         walk(&mut |block| {
             compare_pixels(block, 0, tally);
             compare_pixels(block, 1, tally);
-            compare_fields(block, tally);
+            compare_fields(block, block[15] % 2, tally);
         });
         println!("{name}: {} blocks, as unsigned, as signed and by fields", (tally.compared - before) / 3);
     });

@@ -1,6 +1,5 @@
 -- What `block_pixels` answers, and what the lent values then are. Assumes nothing.
 use mathlib.Core.Path.{_≡_}
-use mathlib.Core.Bool.{Bool}
 use mathlib.Core.List.{List, _++_}
 use Prim.Native.Nat.{ℕ, zero, suc}
 use lib.Dec.{eqb, ltb}
@@ -9,17 +8,13 @@ use Rattle.laws.specs.Pick.{pick}
 use Rattle.bc6h_spec.specs.Answers.{done, badFormat, badBlock, shortOutput}
 use Rattle.bc6h_spec.specs.Bits.{blockSize}
 use Rattle.bc6h_spec.specs.Fields.{modeOf}
-use Rattle.bc6h_spec.specs.Picture.{valueCount}
+use Rattle.bc6h_spec.specs.Picture.{valueCount, isSigned}
 use Rattle.bc6h_spec.specs.Block.{pixelsOf}
 use Rattle.bc6.specs.declared.Pixels.{Pixels}
 
 -- "pixels of a block: 1, 2, 3": the first check that is met, from the format, the block's length and the room
 unfoldable pub refusalOf : ℕ → ℕ → ℕ → ℕ
 refusalOf format size room = pick (ltb 1 format) badFormat (pick (eqb size blockSize) (pick (ltb room valueCount) shortOutput done) badBlock)
-
--- "0 (unsigned) nor 1 (signed)"
-abbrev pub isSigned : ℕ → Bool
-isSigned format = eqb format 1
 
 -- "It answers the mode number. A reserved mode is done, with mode number 0; a refusal has mode number 0 too."
 abbrev pub answerAt : ℕ → List ℕ → Pixels

@@ -14,8 +14,8 @@ ghost use lib.ListN.{length, drop};
 ghost use Rattle.laws.specs.Made.{made};
 ghost use Rattle.bc6h_spec.specs.Layout.{twoRegions};
 ghost use Rattle.bc6h_spec.specs.Fields.{Valid};
-ghost use Rattle.bc6h_spec.specs.Picture.{picture};
-ghost use Rattle.bc6h_spec.specs.Block.{pixelsOf};
+ghost use Rattle.bc6h_spec.specs.Picture.{pictureAs};
+ghost use Rattle.bc6h_spec.specs.Block.{formatNumber, pixelsOf};
 ghost use Rattle.bc6.specs.Triples.{onePixel, twoPixel, IndicesBelow, flat, inTriples};
 ghost use Rattle.bc6.specs.Call.{Painted};
 
@@ -58,7 +58,7 @@ fn paint_two(
 
 fn decode_one(f: Fields, signed: bool) -> [[u16; 3]; 16]
     requires { ⌜ Valid f × (twoRegions (f .mode) ≡ false) ⌝ }
-    ensures { λ r. ⌜ r ≡ inTriples (picture signed f) ⌝ }
+    ensures { λ r. ⌜ r ≡ inTriples (pictureAs signed f) ⌝ }
 {
     let bits = ModeBits::of(f.mode);
     let a = Colour::first(f, bits, signed);
@@ -70,7 +70,7 @@ fn decode_one(f: Fields, signed: bool) -> [[u16; 3]; 16]
 
 fn decode_two(f: Fields, signed: bool) -> [[u16; 3]; 16]
     requires { ⌜ Valid f × (twoRegions (f .mode) ≡ true) ⌝ }
-    ensures { λ r. ⌜ r ≡ inTriples (picture signed f) ⌝ }
+    ensures { λ r. ⌜ r ≡ inTriples (pictureAs signed f) ⌝ }
 {
     let bits = ModeBits::of(f.mode);
     let a = Colour::first(f, bits, signed);
@@ -84,12 +84,18 @@ fn decode_two(f: Fields, signed: bool) -> [[u16; 3]; 16]
     paint_two(palette0, palette1, partition, indices)
 }
 
+fn format_number(signed: bool) -> u8
+    ensures { λ r. ⌜ r ≡ formatNumber signed ⌝ }
+{
+    if signed { 1 } else { 0 }
+}
+
 // The sixteen triples of a block; a reserved mode shows zeros.
 pub fn decode_bc6_block(block: &[u8], signed: bool) -> [[u16; 3]; 16]
     requires { ⌜ length (now block) ≡ 16 ⌝ }
     ensures { λ r. ⌜ r ≡ inTriples (pixelsOf signed (now (block .entry))) ⌝ }
 {
-    let f = bc6_fields::fields_of(block);
+    let f = bc6_fields::fields_of(block, format_number(signed));
     let mode = f.mode;
     if mode == 0 {
         let black = Colour::black();

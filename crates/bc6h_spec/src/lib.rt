@@ -10,6 +10,7 @@ ghost use Rattle.bc6h_spec.specs.Picture.{valueCount};
 
 // The fields of a block, as stored: endpoint e's channel c is endpoints[3 * e + c].
 pub struct Fields {
+    pub format: u8,
     pub mode: u8,
     pub endpoints: [u16; 12],
     pub partition: u8,
@@ -22,6 +23,7 @@ impl Fields {
         ensures { λ r. ⌜ r ≡ noFields ⌝ }
     {
         Fields {
+            format: 0,
             mode: 0,
             endpoints: [0; 12],
             partition: 0,
@@ -55,8 +57,14 @@ impl Answer {
 
     pub const NO_RECORD: u8 = 8;
 
+    pub const UNEVEN_BLOCKS: u8 = 9;
+
+    pub const INVALID_RECORD: u8 = 10;
+
+    pub const BAD_BUFFER: u8 = 11;
+
     // The constants are the numbers of specs/Answers.
-    pub fn all() -> [u8; 9]
+    pub fn all() -> [u8; 12]
         ensures { λ r. ⌜ r ≡ answers ⌝ }
     {
         [
@@ -69,6 +77,9 @@ impl Answer {
             Answer::UNEVEN_STORE,
             Answer::SPARE_BYTE,
             Answer::NO_RECORD,
+            Answer::UNEVEN_BLOCKS,
+            Answer::INVALID_RECORD,
+            Answer::BAD_BUFFER,
         ]
     }
 }

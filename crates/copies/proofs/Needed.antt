@@ -20,11 +20,10 @@ use Rattle.bc6h_spec.specs.Layout.{transformed, rows, row1, row2, row3, row4, r
 use Rattle.bc6h_spec.specs.Regions.{partitions, regionOf, region1Of}
 use Rattle.bc6h_spec.specs.Fields.{modeIn, modeOf, gathered, fieldsAt, fieldsOf, indexOf}
 use Rattle.bc6h_spec.specs.Half.{signExtend, keep, transform, unquantizeU, unquantizeM, unquantized, interpolated, finishU, scaled, finishS, finished}
-use Rattle.bc6h_spec.specs.Picture.{firstEnd, delta, otherEnd, endpoint, between, palette, value, picture}
+use Rattle.bc6h_spec.specs.Picture.{firstEnd, delta, otherEnd, endpoint, between, palette, value, isSigned, pictureAs, picture}
 use Rattle.bc6h_spec.specs.Block.{pixelsOf}
 use Rattle.bc6h_spec.proofs.Blocks.{B3}
 use Rattle.copies.specs.Words.{PixelAt, ChannelDiffers, paletteValue}
-use Rattle.copies.specs.Wide.{isSigned}
 use Rattle.copies.specs.Trust.{Trusted, isBlock, reaches, channelDiffers, differs, hasLeast, regionTrusted, fieldsTrusted, trusted}
 use Rattle.copies.proofs.Demand3.{demand3}
 use Rattle.copies.proofs.Trust.{block-sound, sound}
@@ -60,11 +59,11 @@ modes a b =
     }
 
 abbrev at? : ℕ → List ℕ → Bool
-at? n block = some (λ pixel. eqb (indexOf (fieldsOf block) pixel) n) 16
+at? n block = some (λ pixel. eqb (indexOf (fieldsOf 0 block) pixel) n) 16
 
 pub at-shown : (n : ℕ) (block : List ℕ) → T (at? n block) → PixelAt block n
 at-shown n block t =
-    let r : Found (λ pixel. eqb (indexOf (fieldsOf block) pixel) n) 16 = some-found (λ pixel. eqb (indexOf (fieldsOf block) pixel) n) 16 t in
+    let r : Found (λ pixel. eqb (indexOf (fieldsOf 0 block) pixel) n) 16 = some-found (λ pixel. eqb (indexOf (fieldsOf 0 block) pixel) n) 16 t in
     record { pixel = r .place; is-pixel = r .inside; at-index = eqb→eq _ _ (r .there) }
 
 abbrev index : ℕ → Premise
@@ -138,7 +137,7 @@ against =
 all-fool : T (every (fools? premises unsigned) against)
 unfolding made countOf transformed rows row1 row2 row3 row4 row5 row6 row7 row8 row9 row10 row11 row12 row13 row14
     partitions regionOf region1Of modeIn modeOf gathered before unpacked fieldsAt fieldsOf signExtend keep transform unquantizeU unquantizeM unquantized interpolated finishU scaled finishS finished
-    firstEnd delta otherEnd endpoint between palette value picture pixelsOf some
+    firstEnd delta otherEnd endpoint between palette value pictureAs picture pixelsOf some
 all-fool = tt
 
 -- demand 3 without any one of its premises
@@ -146,11 +145,11 @@ pub needed : (k : ℕ) → k < 7 → Claim (Without premises unsigned (getD agai
 needed = all-refuted premises unsigned against (record { against = 0; pair = longer }) all-fool
 
 -- the signed pair's first ends: −2 ^ (p − 1) and its neighbour
-least-end : endpoint true (fieldsOf (least .x)) 0 0 ≡ negsuc 511
+least-end : endpoint true (fieldsOf 1 (least .x)) 0 0 ≡ negsuc 511
 unfolding made countOf rows row11 partitions regionOf region1Of modeIn modeOf gathered before unpacked fieldsAt fieldsOf signExtend firstEnd endpoint
 least-end = refl
 
-neighbour : endpoint true (fieldsOf (least .y)) 0 0 ≡ negsuc 510
+neighbour : endpoint true (fieldsOf 1 (least .y)) 0 0 ≡ negsuc 510
 unfolding made countOf rows row11 partitions regionOf region1Of modeIn modeOf gathered before unpacked fieldsAt fieldsOf signExtend firstEnd endpoint
 neighbour = refl
 

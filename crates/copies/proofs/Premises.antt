@@ -10,8 +10,8 @@ use Rattle.laws.specs.Pick.{both, either}
 use Rattle.laws.specs.Every.{below, every, same}
 use Rattle.laws.proofs.Tests.{both-left, both-right, either-right, below-at, same-eq}
 use Rattle.laws.proofs.Search.{every-at, same-self}
+use Rattle.bc6h_spec.specs.Picture.{isSigned}
 use Rattle.bc6h_spec.specs.Block.{pixelsOf}
-use Rattle.copies.specs.Wide.{isSigned}
 
 -- two blocks, each in its format
 pub record Pair : Type 0 where

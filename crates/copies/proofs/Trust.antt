@@ -21,10 +21,10 @@ use Rattle.bc6h_spec.specs.Bits.{blockSize, IsBlock}
 use Rattle.bc6h_spec.specs.Layout.{precision}
 use Rattle.bc6h_spec.specs.Regions.{regionOf}
 use Rattle.bc6h_spec.specs.Fields.{modeOf, fieldsOf, indexOf}
-use Rattle.bc6h_spec.specs.Picture.{endpoint, palette}
+use Rattle.bc6h_spec.specs.Picture.{isSigned, endpoint, palette}
 use Rattle.bc6h_spec.specs.Block.{pixelsOf}
 use Rattle.bc6h_spec.proofs.Reading.{fields-mode}
-use Rattle.copies.specs.Wide.{regions, lastIndex, isSigned, Reaches, Differs, NoLeast, Spanning, Suited, RegionsDiffer}
+use Rattle.copies.specs.Wide.{regions, lastIndex, Reaches, Differs, NoLeast, Spanning, Suited, RegionsDiffer}
 use Rattle.copies.specs.Trust.{Trusted, isBlock, isCovered, isAt, reaches, channelDiffers, differs, isLeast, leastAt, hasLeast, regionTrusted, fieldsTrusted, trusted}
 use Rattle.copies.proofs.Wide.{copies}
 
@@ -152,11 +152,11 @@ module _ (signed : Bool) (f : Fields) where
 
 -- ---- the whole test
 
-in-fields : (block : List ℕ) (r : ℕ) → r < regions (modeOf block) → r < regions (fieldsOf block .mode)
-in-fields block r = subst (λ (m : ℕ). r < regions m) (sym (fields-mode block))
+in-fields : (format : ℕ) (block : List ℕ) (r : ℕ) → r < regions (modeOf block) → r < regions (fieldsOf format block .mode)
+in-fields format block r = subst (λ (m : ℕ). r < regions m) (sym (fields-mode format block))
 
-in-block : (block : List ℕ) (r : ℕ) → r < regions (fieldsOf block .mode) → r < regions (modeOf block)
-in-block block r = subst (λ (m : ℕ). r < regions m) (fields-mode block)
+in-block : (format : ℕ) (block : List ℕ) (r : ℕ) → r < regions (fieldsOf format block .mode) → r < regions (modeOf block)
+in-block format block r = subst (λ (m : ℕ). r < regions m) (fields-mode format block)
 
 pub sound : (format : ℕ) (block : List ℕ) → T (trusted format block) → Trusted format block
 unfolding trusted
@@ -164,48 +164,48 @@ sound format block t =
     let t1 = both-right (leb format 1) _ t in
     let t2 = both-right (isBlock block) _ t1 in
     let covered = both-left (isCovered (modeOf block)) _ t2 in
-    let fields = fields-sound (isSigned format) (fieldsOf block) (both-right (isCovered (modeOf block)) _ t2) in
+    let fields = fields-sound (isSigned format) (fieldsOf format block) (both-right (isCovered (modeOf block)) _ t2) in
     record {
-      known-format = leb→le _ _ (both-left (leb format 1) _ t);
       suited =
           record {
+            known-format = leb→le _ _ (both-left (leb format 1) _ t);
             bytes = block-sound block (both-left (isBlock block) _ t1);
             mode-from = leb→le _ _ (both-left (leb 1 (modeOf block)) _ covered);
             mode-to = leb→le _ _ (both-right (leb 1 (modeOf block)) _ covered);
             spanning = fields .spans;
           };
-      differs = λ r h. fields .all-differ r (in-fields block r h);
+      differs = λ r h. fields .all-differ r (in-fields format block r h);
     }
 
 pub complete : (format : ℕ) (block : List ℕ) → Trusted format block → T (trusted format block)
 unfolding trusted
 complete format block r =
-    both-hold (leb format 1) _ (le→leb _ _ (r .known-format))
+    both-hold (leb format 1) _ (le→leb _ _ (r .suited .known-format))
     (both-hold (isBlock block) _ (block-complete block (r .suited .bytes))
     (both-hold (isCovered (modeOf block)) _
     (both-hold (leb 1 (modeOf block)) (leb (modeOf block) 13) (le→leb _ _ (r .suited .mode-from)) (le→leb _ _ (r .suited .mode-to)))
-    (fields-complete (isSigned format) (fieldsOf block)
-    (record { spans = r .suited .spanning; all-differ = λ n h. r .differs n (in-block block n h) }))))
+    (fields-complete (isSigned format) (fieldsOf format block)
+    (record { spans = r .suited .spanning; all-differ = λ n h. r .differs n (in-block format block n h) }))))
 
 -- ---- what trust is for
 
 -- both blocks trusted, of one format, one mode and one partition: every premise holds
 pub trusted-copies : (format : ℕ) (x y : List ℕ) → T (trusted format x) → T (trusted format y) → modeOf x ≡ modeOf y
-    → fieldsOf x .partition ≡ fieldsOf y .partition → pixelsOf (isSigned format) x ≡ pixelsOf (isSigned format) y → x ≡ y
+    → fieldsOf format x .partition ≡ fieldsOf format y .partition → pixelsOf (isSigned format) x ≡ pixelsOf (isSigned format) y → x ≡ y
 trusted-copies format x y tx ty m q =
     copies format format x y (sound format x tx .suited) (sound format y ty .suited) refl m q (λ r h. inl (sound format x tx .differs r h))
 
 -- and no pair is lost by asking trust of both: a pair that meets the premises and shows one picture is trusted, each block by itself
-pub none-lost : (format : ℕ) (x y : List ℕ) → format ≤ 1 → Suited format x → Suited format y → modeOf x ≡ modeOf y
-    → fieldsOf x .partition ≡ fieldsOf y .partition → RegionsDiffer format x format y
+pub none-lost : (format : ℕ) (x y : List ℕ) → Suited format x → Suited format y → modeOf x ≡ modeOf y
+    → fieldsOf format x .partition ≡ fieldsOf format y .partition → RegionsDiffer format x format y
     → pixelsOf (isSigned format) x ≡ pixelsOf (isSigned format) y → T (trusted format x) × T (trusted format y)
-none-lost format x y k sx sy m q d e = (t, subst (λ (b : List ℕ). T (trusted format b)) one t)
+none-lost format x y sx sy m q d e = (t, subst (λ (b : List ℕ). T (trusted format b)) one t)
   where
     one : x ≡ y
     one = copies format format x y sx sy refl m q d e
 
-    at : (r : ℕ) → r < regions (modeOf x) → Differs (isSigned format) (fieldsOf x) r
-    at r h = ⊎-elim (λ a. a) (λ b. subst (λ (l : List ℕ). Differs (isSigned format) (fieldsOf l) r) (sym one) b) (d r h)
+    at : (r : ℕ) → r < regions (modeOf x) → Differs (isSigned format) (fieldsOf format x) r
+    at r h = ⊎-elim (λ a. a) (λ b. subst (λ (l : List ℕ). Differs (isSigned format) (fieldsOf format l) r) (sym one) b) (d r h)
 
     t : T (trusted format x)
-    t = complete format x (record { known-format = k; suited = sx; differs = at })
+    t = complete format x (record { suited = sx; differs = at })

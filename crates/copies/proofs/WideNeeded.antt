@@ -1,11 +1,11 @@
 -- Why each clause of the wider theorem stands: leave any one of them out, and two different blocks show one picture. Where a clause
 -- speaks of regions or of both forms there is a pair for each. Assumes nothing.
-use mathlib.Core.Path.{_≡_}
+use mathlib.Core.Path.{_≡_, subst}
 use mathlib.Core.Logic.{_⊎_, inl, inr, ⊎-elim}
 use mathlib.Core.Bool.{Bool, not}
 use mathlib.Core.List.{List, [], _∷_}
-use Prim.Native.Nat.{ℕ, _<_}
-use lib.Dec.{T, eqb, eqb→eq, lit<}
+use Prim.Native.Nat.{ℕ, _≤_, _<_}
+use lib.Dec.{T, eqb, leb, eqb→eq, leb→le, lit<}
 use lib.ListN.{length, getD}
 use Rattle.laws.specs.Pick.{both, either}
 use Rattle.laws.specs.Every.{below, every}
@@ -19,9 +19,9 @@ use Rattle.bc6h_spec.specs.Layout.{transformed, rows, row1, row2, row3, row4, r
 use Rattle.bc6h_spec.specs.Regions.{partitions, regionOf, region1Of}
 use Rattle.bc6h_spec.specs.Fields.{modeIn, modeOf, gathered, fieldsAt, fieldsOf}
 use Rattle.bc6h_spec.specs.Half.{signExtend, keep, transform, unquantizeU, unquantizeM, unquantized, interpolated, finishU, scaled, finishS, finished}
-use Rattle.bc6h_spec.specs.Picture.{firstEnd, delta, otherEnd, endpoint, between, palette, value, picture}
+use Rattle.bc6h_spec.specs.Picture.{firstEnd, delta, otherEnd, endpoint, between, palette, value, isSigned, pictureAs, picture}
 use Rattle.bc6h_spec.specs.Block.{pixelsOf}
-use Rattle.copies.specs.Wide.{regions, lastIndex, isSigned, AllReach, Differs, NoLeast, RegionsDiffer, Suited}
+use Rattle.copies.specs.Wide.{regions, lastIndex, AllReach, Differs, NoLeast, RegionsDiffer, Suited}
 use Rattle.copies.specs.Trust.{reaches, channelDiffers, differs, leastAt, hasLeast}
 use Rattle.copies.proofs.Wide.{copies}
 use Rattle.copies.proofs.Trust.{reaches-sound, differs-sound, not-least-sound}
@@ -31,16 +31,21 @@ use Rattle.copies.proofs.Pairs.{longer, two-modes, in-mode-14, without-
 
 -- ---- the clauses, one by one
 
--- "never one of each format"
+-- both unsigned or both signed, "never one of each format"
 abbrev one-format : Premise
-one-format = record { Met = λ p. p .format ≡ p .other; test = λ p. eqb (p .format) (p .other); shows = λ p t. eqb→eq _ _ t }
+one-format =
+    record {
+      Met = λ p. (p .format ≤ 1) × (p .format ≡ p .other);
+      test = λ p. both (leb (p .format) 1) (eqb (p .format) (p .other));
+      shows = λ p t. (leb→le _ _ (both-left (leb (p .format) 1) _ t), eqb→eq _ _ (both-right (leb (p .format) 1) _ t));
+    }
 
 -- "same partition"
 abbrev one-partition : Premise
 one-partition =
     record {
-      Met = λ p. fieldsOf (p .x) .partition ≡ fieldsOf (p .y) .partition;
-      test = λ p. eqb (fieldsOf (p .x) .partition) (fieldsOf (p .y) .partition);
+      Met = λ p. fieldsOf (p .format) (p .x) .partition ≡ fieldsOf (p .other) (p .y) .partition;
+      test = λ p. eqb (fieldsOf (p .format) (p .x) .partition) (fieldsOf (p .other) (p .y) .partition);
       shows = λ p t. eqb→eq _ _ t;
     }
 
@@ -48,11 +53,11 @@ one-partition =
 abbrev each : (Met : ℕ → Fields → Type 0) (test : ℕ → Fields → Bool) → ((format : ℕ) (f : Fields) → T (test format f) → Met format f) → Premise
 each Met test shows =
     record {
-      Met = λ p. Met (p .format) (fieldsOf (p .x)) × Met (p .other) (fieldsOf (p .y));
-      test = λ p. both (test (p .format) (fieldsOf (p .x))) (test (p .other) (fieldsOf (p .y)));
+      Met = λ p. Met (p .format) (fieldsOf (p .format) (p .x)) × Met (p .other) (fieldsOf (p .other) (p .y));
+      test = λ p. both (test (p .format) (fieldsOf (p .format) (p .x))) (test (p .other) (fieldsOf (p .other) (p .y)));
       shows = λ p t. (
-        shows (p .format) (fieldsOf (p .x)) (both-left (test (p .format) (fieldsOf (p .x))) _ t),
-        shows (p .other) (fieldsOf (p .y)) (both-right (test (p .format) (fieldsOf (p .x))) _ t),
+        shows (p .format) (fieldsOf (p .format) (p .x)) (both-left (test (p .format) (fieldsOf (p .format) (p .x))) _ t),
+        shows (p .other) (fieldsOf (p .other) (p .y)) (both-right (test (p .format) (fieldsOf (p .format) (p .x))) _ t),
       );
     }
 
@@ -76,12 +81,12 @@ no-least =
     (λ format f t. not-least-sound (isSigned format) f t)
 
 abbrev differ? : Pair → ℕ → Bool
-differ? p r = either (differs (isSigned (p .format)) (fieldsOf (p .x)) r) (differs (isSigned (p .other)) (fieldsOf (p .y)) r)
+differ? p r = either (differs (isSigned (p .format)) (fieldsOf (p .format) (p .x)) r) (differs (isSigned (p .other)) (fieldsOf (p .other) (p .y)) r)
 
 pub differ-shown : (p : Pair) → T (below (differ? p) (regions (modeOf (p .x)))) → RegionsDiffer (p .format) (p .x) (p .other) (p .y)
 differ-shown p t r h =
-    ⊎-elim (λ a. inl (differs-sound (isSigned (p .format)) (fieldsOf (p .x)) r a)) (λ a. inr (differs-sound (isSigned (p .other)) (fieldsOf (p .y)) r a))
-    (either-cases (differs (isSigned (p .format)) (fieldsOf (p .x)) r) _ (below-at (differ? p) (regions (modeOf (p .x))) r t h))
+    ⊎-elim (λ a. inl (differs-sound (isSigned (p .format)) (fieldsOf (p .format) (p .x)) r a)) (λ a. inr (differs-sound (isSigned (p .other)) (fieldsOf (p .other) (p .y)) r a))
+    (either-cases (differs (isSigned (p .format)) (fieldsOf (p .format) (p .x)) r) _ (below-at (differ? p) (regions (modeOf (p .x))) r t h))
 
 -- "for each region at least one of the two blocks has a channel whose eight palette values differ"
 abbrev regions-differ : Premise
@@ -103,18 +108,20 @@ together : Claim All
 together p met =
     copies (p .format) (p .other) (p .x) (p .y)
     (record {
+      known-format = met 1 (lit< tt) .0;
       bytes = met 0 (lit< tt) .0;
       mode-from = met 4 (lit< tt) .0 .0;
       mode-to = met 4 (lit< tt) .0 .1;
       spanning = record { lowest = met 5 (lit< tt) .0; highest = met 6 (lit< tt) .0; not-least = met 8 (lit< tt) .0 };
     })
     (record {
+      known-format = subst (λ (f : ℕ). f ≤ 1) (met 1 (lit< tt) .1) (met 1 (lit< tt) .0);
       bytes = met 0 (lit< tt) .1;
       mode-from = met 4 (lit< tt) .1 .0;
       mode-to = met 4 (lit< tt) .1 .1;
       spanning = record { lowest = met 5 (lit< tt) .1; highest = met 6 (lit< tt) .1; not-least = met 8 (lit< tt) .1 };
     })
-    (met 1 (lit< tt)) (met 2 (lit< tt)) (met 3 (lit< tt)) (met 7 (lit< tt))
+    (met 1 (lit< tt) .1) (met 2 (lit< tt)) (met 3 (lit< tt)) (met 7 (lit< tt))
 
 -- ---- one table, one theorem
 
@@ -138,7 +145,7 @@ against =
 all-fool : T (every (fools? clauses no-least) against)
 unfolding made countOf transformed rows row1 row2 row3 row4 row5 row6 row7 row8 row9 row10 row11 row12 row13 row14
     partitions regionOf region1Of modeIn modeOf gathered before unpacked fieldsAt fieldsOf signExtend keep transform unquantizeU unquantizeM unquantized interpolated finishU scaled finishS finished
-    firstEnd delta otherEnd endpoint between palette value picture pixelsOf some reaches channelDiffers differs leastAt hasLeast
+    firstEnd delta otherEnd endpoint between palette value pictureAs picture pixelsOf some reaches channelDiffers differs leastAt hasLeast
 all-fool = tt
 
 -- the theorem without any one of its clauses, by each pair

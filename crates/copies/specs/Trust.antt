@@ -4,7 +4,7 @@
 -- copy. Assumes nothing.
 use mathlib.Core.Bool.{Bool, true, false, not}
 use mathlib.Core.List.{List}
-use Prim.Native.Nat.{ℕ, suc, _-_, _*_, _^_, _≤_, _<_}
+use Prim.Native.Nat.{ℕ, suc, _-_, _*_, _^_, _<_}
 use lib.Dec.{eqb, ltb, leb}
 use lib.IntN.{ℤ, pos, negsuc}
 use lib.ListN.{length}
@@ -16,14 +16,13 @@ use Rattle.bc6h_spec.specs.Bits.{blockSize}
 use Rattle.bc6h_spec.specs.Layout.{precision}
 use Rattle.bc6h_spec.specs.Regions.{regionOf}
 use Rattle.bc6h_spec.specs.Fields.{modeOf, fieldsOf, indexOf}
-use Rattle.bc6h_spec.specs.Picture.{endpoint, palette}
-use Rattle.copies.specs.Wide.{regions, lastIndex, isSigned, Differs, Suited}
+use Rattle.bc6h_spec.specs.Picture.{isSigned, endpoint, palette}
+use Rattle.copies.specs.Wide.{regions, lastIndex, Differs, Suited}
 
 -- in words
 pub record Trusted (format : ℕ) (block : List ℕ) : Type 0 where
-  pub known-format : format ≤ 1
   pub suited : Suited format block
-  pub differs : (r : ℕ) → r < regions (modeOf block) → Differs (isSigned format) (fieldsOf block) r
+  pub differs : (r : ℕ) → r < regions (modeOf block) → Differs (isSigned format) (fieldsOf format block) r
 
 -- as a test that computes, clause by clause
 abbrev pub isBlock : List ℕ → Bool
@@ -69,4 +68,4 @@ trusted format block =
     both (leb format 1)
     (both (isBlock block)
     (both (isCovered (modeOf block))
-    (fieldsTrusted (isSigned format) (fieldsOf block))))
+    (fieldsTrusted (isSigned format) (fieldsOf format block))))

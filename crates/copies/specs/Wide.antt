@@ -4,7 +4,6 @@ use mathlib.Core.Logic.{_⊎_, _≢_}
 use mathlib.Core.Bool.{Bool, true}
 use mathlib.Core.List.{List}
 use Prim.Native.Nat.{ℕ, _-_, _*_, _^_, _≤_, _<_}
-use lib.Dec.{eqb}
 use lib.IntN.{pos, negℤ}
 use Rattle.laws.specs.Pick.{pick}
 use Rattle.bc6h_spec.specs.declared.Fields.{Fields}
@@ -12,7 +11,7 @@ use Rattle.bc6h_spec.specs.Bits.{IsBlock}
 use Rattle.bc6h_spec.specs.Layout.{twoRegions, precision}
 use Rattle.bc6h_spec.specs.Regions.{regionOf}
 use Rattle.bc6h_spec.specs.Fields.{modeOf, fieldsOf, indexOf}
-use Rattle.bc6h_spec.specs.Picture.{endpoint, palette}
+use Rattle.bc6h_spec.specs.Picture.{isSigned, endpoint, palette}
 use Rattle.bc6h_spec.specs.Block.{pixelsOf}
 
 -- how many regions a mode has, and the last index of its palettes
@@ -50,24 +49,21 @@ pub record Spanning (signed : Bool) (f : Fields) : Type 0 where
   pub highest : AllReach f (lastIndex (f .mode))
   pub not-least : NoLeast signed f
 
--- "0 (unsigned) nor 1 (signed)"
-abbrev pub isSigned : ℕ → Bool
-isSigned format = eqb format 1
-
 -- what is asked of each of the two blocks; "Mode 14 remains left out."
 pub record Suited (format : ℕ) (block : List ℕ) : Type 0 where
+  pub known-format : format ≤ 1
   pub bytes : IsBlock block
   pub mode-from : 1 ≤ modeOf block
   pub mode-to : modeOf block ≤ 13
-  pub spanning : Spanning (isSigned format) (fieldsOf block)
+  pub spanning : Spanning (isSigned format) (fieldsOf format block)
 
 -- "for each region at least one of the two blocks has a channel whose eight palette values differ"
 abbrev pub RegionsDiffer : ℕ → List ℕ → ℕ → List ℕ → Type 0
 RegionsDiffer format x other y =
-    (r : ℕ) → r < regions (modeOf x) → Differs (isSigned format) (fieldsOf x) r ⊎ Differs (isSigned other) (fieldsOf y) r
+    (r : ℕ) → r < regions (modeOf x) → Differs (isSigned format) (fieldsOf format x) r ⊎ Differs (isSigned other) (fieldsOf other y) r
 
 -- The theorem, whole. "never one of each format"; "same mode and same partition"
 abbrev pub Copies : Type 0
 Copies = (format other : ℕ) (x y : List ℕ) → Suited format x → Suited other y → format ≡ other
-    → modeOf x ≡ modeOf y → fieldsOf x .partition ≡ fieldsOf y .partition → RegionsDiffer format x other y
+    → modeOf x ≡ modeOf y → fieldsOf format x .partition ≡ fieldsOf other y .partition → RegionsDiffer format x other y
     → pixelsOf (isSigned format) x ≡ pixelsOf (isSigned other) y → x ≡ y

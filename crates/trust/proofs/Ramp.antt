@@ -23,13 +23,13 @@ use Rattle.bc6h_spec.specs.Layout.{row, twoRegions}
 use Rattle.bc6h_spec.specs.Regions.{partitions, mapOf, regionOf}
 use Rattle.bc6h_spec.specs.Fields.{modeIn, modeOf, gathered, indexIn, fieldsAt, fieldsOf, indexOf}
 use Rattle.bc6h_spec.specs.Picture.{palette}
-use Rattle.bc6h_spec.specs.Block.{pixelsOf}
+use Rattle.bc6h_spec.specs.Block.{formatNumber, pixelsOf}
 use Rattle.bc6h_spec.proofs.Bytes.{number-lt}
 use Rattle.bc6h_spec.proofs.Gather.{low-only}
 use Rattle.bc6h_spec.proofs.Joined.{number-joined}
 use Rattle.bc6h_spec.proofs.Modes.{low-mode}
 use Rattle.bc6h_spec.proofs.Once.{row-once}
-use Rattle.bc6h_spec.proofs.Pixel.{block-shows, pixel-shows, same-palette}
+use Rattle.bc6h_spec.proofs.Pixel.{shows-as, pixel-shows, same-palette}
 use Rattle.bc6h_spec.proofs.Reading.{at-index, fields-are, fields-mode, mode-le}
 use Rattle.bc6h_spec.proofs.Split.{endpoint-low, partition-next}
 use Rattle.trust.specs.Ramp.{rampedOne, rampedTwo}
@@ -108,7 +108,7 @@ module _ (block : List ℕ) (b : IsBlock block) (n : ℕ) (h : n ≤ 15) where
 -- what another block shares with this one
 pub record Recast (block other : List ℕ) : Type 0 where
   pub same-mode : modeOf other ≡ modeOf block
-  pub same-endpoints : fieldsOf other .endpoints ≡ fieldsOf block .endpoints
+  pub same-endpoints : (format : ℕ) → fieldsOf format other .endpoints ≡ fieldsOf format block .endpoints
 
 module _ (block other : List ℕ) (low : 1 ≤ modeOf block) (c : Recast block other) where
   other-low : 1 ≤ modeOf other
@@ -116,18 +116,21 @@ module _ (block other : List ℕ) (low : 1 ≤ modeOf block) (c : Recast block o
 
   -- it shows, at a pixel, its region's palette at its index
   recast-shows : (signed : Bool) (k j r i : ℕ) → k < 16 → j < 3
-      → regionOf (fieldsOf other .mode) (fieldsOf other .partition) k ≡ r → indexOf (fieldsOf other) k ≡ i
-      → getD (pixelsOf signed other) (3 * k + j) 0 ≡ palette signed (fieldsOf block) r j i
+      → regionOf (fieldsOf (formatNumber signed) other .mode) (fieldsOf (formatNumber signed) other .partition) k ≡ r
+      → indexOf (fieldsOf (formatNumber signed) other) k ≡ i
+      → getD (pixelsOf signed other) (3 * k + j) 0 ≡ palette signed (fieldsOf (formatNumber signed) block) r j i
   recast-shows signed k j r i hk hj er ei =
-      ap (λ (l : List ℕ). getD l (3 * k + j) 0) (block-shows signed other other-low)
-      ∙ pixel-shows signed (fieldsOf other) k j hk hj
-      ∙ ap₂ (λ (x y : ℕ). palette signed (fieldsOf other) x j y) er ei
-      ∙ same-palette signed (fieldsOf other) (fieldsOf block) (fields-mode other ∙ c .same-mode ∙ sym (fields-mode block)) (c .same-endpoints) r j i
+      let n = formatNumber signed in
+      ap (λ (l : List ℕ). getD l (3 * k + j) 0) (shows-as signed other other-low)
+      ∙ pixel-shows signed (fieldsOf n other) k j hk hj
+      ∙ ap₂ (λ (x y : ℕ). palette signed (fieldsOf n other) x j y) er ei
+      ∙ same-palette signed (fieldsOf n other) (fieldsOf n block) (fields-mode n other ∙ c .same-mode ∙ sym (fields-mode n block)) (c .same-endpoints n) r j i
 
 -- the fields of another block of the same mode
-fields-of-other : (block other : List ℕ) → 1 ≤ modeOf block → modeOf other ≡ modeOf block → fieldsOf other ≡ fieldsAt (modeOf block) (numberOf other)
-fields-of-other block other low e =
-    fields-are other (subst (λ (m : ℕ). 1 ≤ m) (sym e) low) ∙ ap (λ (m : ℕ). fieldsAt m (numberOf other)) e
+fields-of-other : (format : ℕ) (block other : List ℕ) → 1 ≤ modeOf block → modeOf other ≡ modeOf block
+    → fieldsOf format other ≡ fieldsAt format (modeOf block) (numberOf other)
+fields-of-other format block other low e =
+    fields-are format other (subst (λ (m : ℕ). 1 ≤ m) (sym e) low) ∙ ap (λ (m : ℕ). fieldsAt format m (numberOf other)) e
 
 recast : (block other : List ℕ) → 1 ≤ modeOf block → numberOf other % 32 ≡ numberOf block % 32
     → ((p : ℕ) → p < 12 → gathered (row (modeOf block)) (numberOf other) p ≡ gathered (row (modeOf block)) (numberOf block) p) → Recast block other
@@ -135,10 +138,10 @@ unfolding modeOf fieldsAt
 recast block other low e g =
     record {
       same-mode = mode-same;
-      same-endpoints =
-          ap (λ (f : Fields). f .endpoints) (fields-of-other block other low mode-same)
+      same-endpoints = λ format.
+          ap (λ (f : Fields). f .endpoints) (fields-of-other format block other low mode-same)
           ∙ made-same _ _ 12 g
-          ∙ sym (ap (λ (f : Fields). f .endpoints) (fields-are block low));
+          ∙ sym (ap (λ (f : Fields). f .endpoints) (fields-are format block low));
     }
   where
     mode-same : modeOf other ≡ modeOf block
@@ -174,22 +177,22 @@ module _ (block : List ℕ) (b : IsBlock block) (from : 11 ≤ modeOf block) whe
       (subst (λ (n : ℕ). numberOf (rampedOne block) % 2 ^ n ≡ numberOf block % 2 ^ n) (sym row-size) one-low)
       ∙ low-only (row (modeOf block)) (numberOf block) p)
 
-  one-index : (k : ℕ) → k < 16 → indexOf (fieldsOf (rampedOne block)) k ≡ k
-  one-index k h =
-      ap (λ (f : Fields). indexOf f k) (fields-of-other block (rampedOne block) (omega arith) (one-recast .same-mode))
-      ∙ at-index (modeOf block) (numberOf (rampedOne block)) (omega arith) (mode-le block) k h
+  one-index : (format k : ℕ) → k < 16 → indexOf (fieldsOf format (rampedOne block)) k ≡ k
+  one-index format k h =
+      ap (λ (f : Fields). indexOf f k) (fields-of-other format block (rampedOne block) (omega arith) (one-recast .same-mode))
+      ∙ at-index format (modeOf block) (numberOf (rampedOne block)) (omega arith) (mode-le block) k h
       ∙ rw one (ap (λ (n : ℕ). indexIn 4 (0 ∷ []) n k) one-high ∙ eqb→eq _ _ (below-at in-order? 16 k in-order h))
 
-  one-region : (k : ℕ) → regionOf (fieldsOf (rampedOne block) .mode) (fieldsOf (rampedOne block) .partition) k ≡ 0
+  one-region : (format k : ℕ) → regionOf (fieldsOf format (rampedOne block) .mode) (fieldsOf format (rampedOne block) .partition) k ≡ 0
   unfolding regionOf
-  one-region k =
-      ap (λ (t : Bool). pick t (bit (mapOf (fieldsOf (rampedOne block) .partition)) k) 0)
-      (ap twoRegions (fields-mode (rampedOne block) ∙ one-recast .same-mode) ∙ one)
+  one-region format k =
+      ap (λ (t : Bool). pick t (bit (mapOf (fieldsOf format (rampedOne block) .partition)) k) 0)
+      (ap twoRegions (fields-mode format (rampedOne block) ∙ one-recast .same-mode) ∙ one)
 
   pub one-shown : (signed : Bool) (i c : ℕ) → i < 16 → c < 3
-      → getD (pixelsOf signed (rampedOne block)) (3 * i + c) 0 ≡ palette signed (fieldsOf block) 0 c i
+      → getD (pixelsOf signed (rampedOne block)) (3 * i + c) 0 ≡ palette signed (fieldsOf (formatNumber signed) block) 0 c i
   one-shown signed i c hi hc =
-      recast-shows block (rampedOne block) (omega arith) one-recast signed i c 0 i hi hc (one-region i) (one-index i hi)
+      recast-shows block (rampedOne block) (omega arith) one-recast signed i c 0 i hi hc (one-region (formatNumber signed) i) (one-index (formatNumber signed) i hi)
 
 -- ---- two regions
 
@@ -218,29 +221,29 @@ module _ (block : List ℕ) (b : IsBlock block) (from : 1 ≤ modeOf block) (to 
       recast block (rampedTwo block) from (omega (arith, two-low)) (λ p h.
       endpoint-low (modeOf block) from to (numberOf (rampedTwo block)) (numberOf block) p h two-low)
 
-  fields-two : fieldsOf (rampedTwo block) ≡ fieldsAt (modeOf block) (numberOf (rampedTwo block))
-  fields-two = fields-of-other block (rampedTwo block) from (two-recast .same-mode)
+  fields-two : (format : ℕ) → fieldsOf format (rampedTwo block) ≡ fieldsAt format (modeOf block) (numberOf (rampedTwo block))
+  fields-two format = fields-of-other format block (rampedTwo block) from (two-recast .same-mode)
 
   thirteen : gathered (row (modeOf block)) (numberOf (rampedTwo block)) 13 ≡ 13
   thirteen = partition-next (modeOf block) from to (numberOf (rampedTwo block)) 13 indices8 two-next (lit< tt)
 
-  two-index : (k : ℕ) → k < 16 → indexOf (fieldsOf (rampedTwo block)) k ≡ indexAt k
+  two-index : (format k : ℕ) → k < 16 → indexOf (fieldsOf format (rampedTwo block)) k ≡ indexAt k
   unfolding partitions
-  two-index k h =
-      ap (λ (f : Fields). indexOf f k) fields-two
-      ∙ at-index (modeOf block) (numberOf (rampedTwo block)) from (mode-le block) k h
+  two-index format k h =
+      ap (λ (f : Fields). indexOf f k) (fields-two format)
+      ∙ at-index format (modeOf block) (numberOf (rampedTwo block)) from (mode-le block) k h
       ∙ rw (two, thirteen)
       (ap (λ (n : ℕ). indexIn 3 (0 ∷ 15 ∷ []) n k) two-high
       ∙ eqb→eq _ _ (both-left (eqb (indexIn 3 (0 ∷ 15 ∷ []) indices8 k) (indexAt k)) _ (below-at there-and-back? 16 k there-and-back h)))
 
-  two-region : (k : ℕ) → k < 16 → regionOf (fieldsOf (rampedTwo block) .mode) (fieldsOf (rampedTwo block) .partition) k ≡ regionAt k
+  two-region : (format k : ℕ) → k < 16 → regionOf (fieldsOf format (rampedTwo block) .mode) (fieldsOf format (rampedTwo block) .partition) k ≡ regionAt k
   unfolding regionOf fieldsAt
-  two-region k h =
-      ap (λ (f : Fields). pick (twoRegions (f .mode)) (bit (mapOf (f .partition)) k) 0) fields-two
+  two-region format k h =
+      ap (λ (f : Fields). pick (twoRegions (f .mode)) (bit (mapOf (f .partition)) k) 0) (fields-two format)
       ∙ rw (two, thirteen)
       (eqb→eq _ _ (both-right (eqb (indexIn 3 (0 ∷ 15 ∷ []) indices8 k) (indexAt k)) _ (below-at there-and-back? 16 k there-and-back h)))
 
   pub two-shown : (signed : Bool) (k c : ℕ) → k < 16 → c < 3
-      → getD (pixelsOf signed (rampedTwo block)) (3 * k + c) 0 ≡ palette signed (fieldsOf block) (regionAt k) c (indexAt k)
+      → getD (pixelsOf signed (rampedTwo block)) (3 * k + c) 0 ≡ palette signed (fieldsOf (formatNumber signed) block) (regionAt k) c (indexAt k)
   two-shown signed k c hk hc =
-      recast-shows block (rampedTwo block) from two-recast signed k c (regionAt k) (indexAt k) hk hc (two-region k hk) (two-index k hk)
+      recast-shows block (rampedTwo block) from two-recast signed k c (regionAt k) (indexAt k) hk hc (two-region (formatNumber signed) k hk) (two-index (formatNumber signed) k hk)

@@ -16,13 +16,14 @@ use Rattle.bc6h_spec.specs.declared.Fields.{Fields}
 use Rattle.bc6h_spec.specs.Bits.{IsBlock}
 use Rattle.bc6h_spec.specs.Layout.{twoRegions}
 use Rattle.bc6h_spec.specs.Fields.{modeOf, fieldsOf, Valid}
-use Rattle.bc6h_spec.specs.Picture.{palette}
-use Rattle.bc6h_spec.specs.Block.{pixelsOf}
+use Rattle.bc6h_spec.specs.Picture.{isSigned, palette}
+use Rattle.bc6h_spec.specs.Block.{formatNumber, pixelsOf}
+use Rattle.bc6h_spec.proofs.Formats.{number-again}
 use Rattle.bc6h_spec.proofs.Reading.{fields-mode, fields-valid}
 use Rattle.bc6.specs.declared.Pixels.{Pixels}
 use Rattle.bc6.specs.Call.{Painted}
 use Rattle.bc6.proofs.Calls.{done-when, written}
-use Rattle.copies.specs.Wide.{regions, lastIndex, isSigned}
+use Rattle.copies.specs.Wide.{regions, lastIndex}
 use Rattle.copies.specs.Trust.{Trusted, isBlock, isCovered, reaches, channelDiffers, differs, hasLeast, regionTrusted, fieldsTrusted, trusted}
 use Rattle.copies.proofs.Trust.{block-complete, sound, not-least-complete}
 use Rattle.trust.specs.Ramp.{rampedOne, rampedTwo, ramped, entry, entriesDiffer, regionPasses, allPass}
@@ -61,7 +62,7 @@ alone false = refl
 
 module _ (signed : Bool) (block : List ℕ) (b : IsBlock block) (palettes : List ℕ) where
   abbrev f : Fields
-  f = fieldsOf block
+  f = fieldsOf (formatNumber signed) block
 
   module _ (from : 11 ≤ f .mode) (shown : palettes ≡ pixelsOf signed (rampedOne block)) where
     one : twoRegions (f .mode) ≡ false
@@ -72,7 +73,7 @@ module _ (signed : Bool) (block : List ℕ) (b : IsBlock block) (palettes : List
         let z : 0 + i ≡ i = omega arith in
         ap (λ (l : List ℕ). getD l (3 * (0 + i) + c) 0) shown
         ∙ ap (λ (k : ℕ). getD (pixelsOf signed (rampedOne block)) (3 * k + c) 0) z
-        ∙ one-shown block b (omega (arith, fields-mode block)) signed i c hi hc
+        ∙ one-shown block b (omega (arith, fields-mode (formatNumber signed) block)) signed i c hi hc
 
     one-passes : allPass f palettes ≡ below (regionTrusted signed f) (regions (f .mode))
     unfolding allPass
@@ -91,7 +92,7 @@ module _ (signed : Bool) (block : List ℕ) (b : IsBlock block) (palettes : List
     two-entry : (c : ℕ) → c < 3 → (k : ℕ) → k < 16 → getD palettes (3 * k + c) 0 ≡ palette signed f (regionAt k) c (indexAt k)
     two-entry c hc k hk =
         ap (λ (l : List ℕ). getD l (3 * k + c) 0) shown
-        ∙ two-shown block b (omega (arith, fields-mode block)) (omega (arith, fields-mode block)) signed k c hk hc
+        ∙ two-shown block b (omega (arith, fields-mode (formatNumber signed) block)) (omega (arith, fields-mode (formatNumber signed) block)) signed k c hk hc
 
     lower : (c : ℕ) → c < 3 → (i : ℕ) → i < 8 → entry palettes 0 c i ≡ palette signed f 0 c i
     lower c hc i hi =
@@ -128,14 +129,14 @@ module _ (format : ℕ) (block : List ℕ) where
 
   -- "false for any other format or length"
   pub other-format : 1 < format → false ≡ trusted format block
-  other-format h = refused (λ t. omega (arith, t .known-format))
+  other-format h = refused (λ t. omega (arith, t .suited .known-format))
 
   pub other-length : (length block ≡ 16 → ⊥) → false ≡ trusted format block
   other-length h = refused (λ t. h (t .suited .bytes .sixteen))
 
-  module _ (f : Fields) (e : f ≡ fieldsOf block) where
+  module _ (f : Fields) (e : f ≡ fieldsOf format block) where
     mode-is : f .mode ≡ modeOf block
-    mode-is = ap (λ (g : Fields). g .mode) e ∙ fields-mode block
+    mode-is = ap (λ (g : Fields). g .mode) e ∙ fields-mode format block
 
     pub reserved : f .mode ≡ 0 → false ≡ trusted format block
     reserved h = refused (λ t. omega (arith, mode-is, t .suited .mode-from))
@@ -143,14 +144,14 @@ module _ (format : ℕ) (block : List ℕ) where
     pub mode-above : 13 < f .mode → false ≡ trusted format block
     mode-above h = refused (λ t. omega (arith, mode-is, t .suited .mode-to))
 
-    pub valid : (f .mode ≡ 0 → ⊥) → Valid f
-    valid n = subst Valid (sym e) (fields-valid block (omega (arith, mode-is)))
+    pub valid : format ≤ 1 → (f .mode ≡ 0 → ⊥) → Valid f
+    valid k n = subst Valid (sym e) (fields-valid format block k (omega (arith, mode-is)))
 
-    ambiguous-is : both (isSigned format) (hasLeast f) ≡ both (isSigned format) (hasLeast (fieldsOf block))
+    ambiguous-is : both (isSigned format) (hasLeast f) ≡ both (isSigned format) (hasLeast (fieldsOf format block))
     ambiguous-is = ap (λ (g : Fields). both (isSigned format) (hasLeast g)) e
 
     pub ambiguous : (r : Bool) → r ≡ both (isSigned format) (hasLeast f) → r ≡ true → false ≡ trusted format block
-    ambiguous r q z = refused (λ t. T-not (both (isSigned format) (hasLeast (fieldsOf block))) (not-least-complete (isSigned format) (fieldsOf block) (t .suited .spanning .not-least)) (holds (sym (q ∙ ambiguous-is) ∙ z)))
+    ambiguous r q z = refused (λ t. T-not (both (isSigned format) (hasLeast (fieldsOf format block))) (not-least-complete (isSigned format) (fieldsOf format block) (t .suited .spanning .not-least)) (holds (sym (q ∙ ambiguous-is) ∙ z)))
 
     -- where no check refuses, the palettes decide
     module _ (palettes : List ℕ) (shown : palettes ≡ pixelsOf (isSigned format) (ramped (leb (f .mode) 10) block)) (sixteen : length block ≡ 16)
@@ -161,18 +162,28 @@ module _ (format : ℕ) (block : List ℕ) where
       covered : isCovered (modeOf block) ≡ true
       covered = rw (le-leb 1 (modeOf block) (omega (arith, mode-is))) (le-leb (modeOf block) 13 (omega (arith, mode-is)))
 
-      passes-is : allPass f palettes ≡ below (regionTrusted (isSigned format) (fieldsOf block)) (regions (fieldsOf block .mode))
+      abbrev again : ℕ
+      again = formatNumber (isSigned format)
+
+      as-told : again ≡ format
+      as-told = number-again format known
+
+      passes-is : allPass f palettes ≡ below (regionTrusted (isSigned format) (fieldsOf format block)) (regions (fieldsOf format block .mode))
       unfolding ramped
       passes-is =
-          ap (λ (g : Fields). allPass g palettes) e
-          ∙ cases (leb (fieldsOf block .mode) 10)
-          (λ t. two-passes (isSigned format) block is-block palettes (omega (arith, mode-is, fields-mode block)) (leb→le _ _ (holds t))
+          subst (λ (n : ℕ). allPass f palettes ≡ below (regionTrusted (isSigned format) (fieldsOf n block)) (regions (fieldsOf n block .mode))) as-told
+          (ap (λ (g : Fields). allPass g palettes) f-again
+          ∙ cases (leb (fieldsOf again block .mode) 10)
+          (λ t. two-passes (isSigned format) block is-block palettes (omega (arith, mode-is, fields-mode again block)) (leb→le _ _ (holds t))
           (shown-at ∙ ap (λ (u : Bool). pixelsOf (isSigned format) (pick u (rampedTwo block) (rampedOne block))) t))
           (λ t. one-passes (isSigned format) block is-block palettes (leb-false _ _ t)
-          (shown-at ∙ ap (λ (u : Bool). pixelsOf (isSigned format) (pick u (rampedTwo block) (rampedOne block))) t))
+          (shown-at ∙ ap (λ (u : Bool). pixelsOf (isSigned format) (pick u (rampedTwo block) (rampedOne block))) t)))
         where
-          shown-at : palettes ≡ pixelsOf (isSigned format) (pick (leb (fieldsOf block .mode) 10) (rampedTwo block) (rampedOne block))
-          shown-at = shown ∙ ap (λ (g : Fields). pixelsOf (isSigned format) (pick (leb (g .mode) 10) (rampedTwo block) (rampedOne block))) e
+          f-again : f ≡ fieldsOf again block
+          f-again = e ∙ ap (λ (n : ℕ). fieldsOf n block) (sym as-told)
+
+          shown-at : palettes ≡ pixelsOf (isSigned format) (pick (leb (fieldsOf again block .mode) 10) (rampedTwo block) (rampedOne block))
+          shown-at = shown ∙ ap (λ (g : Fields). pixelsOf (isSigned format) (pick (leb (g .mode) 10) (rampedTwo block) (rampedOne block))) f-again
 
       pub decided : (a r : Bool) → a ≡ both (isSigned format) (hasLeast f) → a ≡ false → r ≡ allPass f palettes → r ≡ trusted format block
       unfolding trusted fieldsTrusted

@@ -16,7 +16,7 @@ ghost use Rattle.bc6h_spec.specs.Fields.{Valid};
 ghost use Rattle.bc6h_spec.specs.Block.{pixelsOf};
 ghost use Rattle.bc6_palette.specs.Colours.{OfBits};
 ghost use Rattle.laws.specs.Pick.{both};
-ghost use Rattle.copies.specs.Wide.{regions, isSigned};
+ghost use Rattle.bc6h_spec.specs.Picture.{isSigned};
 ghost use Rattle.copies.specs.Trust.{isAt, reaches, isLeast, hasLeast, trusted};
 ghost use Rattle.trust.specs.Ramp.{rampedOne, rampedTwo, ramped, entry, entriesDiffer, regionPasses, allPass};
 ghost use Rattle.trust.specs.Least.{leastOf, endCount};
@@ -272,7 +272,7 @@ pub fn is_trusted(block: &[u8], format: u8) -> bool
     if block.len() != Block::SIZE {
         return false;
     }
-    let fields = bc6_fields::fields_of(block);
+    let fields = bc6_fields::fields_of(block, format);
     let mode = fields.mode;
     if mode == 0 {
         return false;

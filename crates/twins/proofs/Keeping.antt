@@ -7,9 +7,9 @@ use native.Mathlib.Omega.{arith}
 use lib.ListN.{length, getD, take, drop, set, length-take, length-drop, take-append-drop}
 use lib.Seq.{take-all, take-at, drop-at, take-append-le, drop-append-le, length-take-le, getD-set-same, getD-set-other}
 use borrow.Author.Count.{below-none, below-more}
-use Rattle.bc6h_spec.specs.Picture.{valueCount}
+use Rattle.bc6h_spec.specs.Picture.{valueCount, isSigned}
 use Rattle.bc6.specs.declared.Pixels.{Pixels}
-use Rattle.bc6.specs.Call.{isSigned, Painted}
+use Rattle.bc6.specs.Call.{Painted}
 use Rattle.bc6h_spec.proofs.Values.{length-pixels}
 use Rattle.bc6.proofs.Calls.{written, done-when}
 use Rattle.records.specs.Store.{formatOf, blockOf, recordRefusal, Unrefused, partAt}

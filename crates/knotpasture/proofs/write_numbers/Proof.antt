@@ -14,10 +14,10 @@ use Rattle.knotpasture.proofs.write_numbers.Lts as lts
 use Rattle.knotpasture.proofs.number_at.Reads as number-at-reads
 
 abbrev Inv-loop : tie.InvT-loop
-Inv-loop fields numbers₀ k₀ numbers k = (k ≤ 31) × (numbers ≡ made (numberAt fields) k ++ drop k numbers₀) × (length numbers ≡ length numbers₀)
+Inv-loop fields numbers₀ k₀ numbers k = (k ≤ 32) × (numbers ≡ made (numberAt fields) k ++ drop k numbers₀) × (length numbers ≡ length numbers₀)
 
 abbrev μ-loop : tie.MeasureT-loop
-μ-loop fields numbers₀ k₀ numbers k = 31 - k
+μ-loop fields numbers₀ k₀ numbers k = 32 - k
 
 -- src/lib.rt:63:5
 loop-holds : tie.Need-loop-holds Inv-loop μ-loop

@@ -22,7 +22,7 @@ returns-4 c = mode-above _ _ _ (c .before .before .fields-of .ensures) (c .if4 .
 is-ambiguous-requires : tie.Need-is-ambiguous-requires
 is-ambiguous-requires c κs =
     let f = c .before .before in
-    valid (f .before .before .before .before .args .format) _ _ (f .fields-of .ensures) (c .before .if3 .left)
+    valid (f .before .before .before .before .args .format) _ _ (f .fields-of .ensures) (search needs) (c .before .if3 .left)
 
 returns-5 : tie.Need-returns-5
 returns-5 c = ambiguous _ _ _ (c .before .before .before .before .fields-of .ensures) _ (c .before .is-ambiguous .ensures) (c .if5 .taken)
@@ -33,7 +33,7 @@ palettes-of-requires c κs = search needs
 all-pass-requires : tie.Need-all-pass-requires
 all-pass-requires c κs =
     let f = c .before .before .before .before .before .before in
-    valid (f .before .before .before .before .args .format) _ _ (f .fields-of .ensures) (c .before .before .before .before .before .if3 .left) .partition-fits
+    valid (f .before .before .before .before .args .format) _ _ (f .fields-of .ensures) (search needs) (c .before .before .before .before .before .if3 .left) .partition-fits
 
 returns-6 : tie.Need-returns-6
 returns-6 c =

@@ -35,8 +35,8 @@ enum knot_answer {
 enum knot_format { KNOT_UNSIGNED = 0, KNOT_SIGNED = 1 };
 
 enum knot_mark {
-    KNOT_KEPT = 0, /* no earlier record decodes to the same values */
-    KNOT_TWIN = 1, /* an earlier record that is not refused decodes to the same 48 values */
+    KNOT_KEPT = 0, /* neither of the other two; so is every reserved record that is not refused */
+    KNOT_TWIN = 1, /* an earlier record that is not refused has the same format and the same 48 values, and neither is reserved */
     KNOT_BAD = 2   /* knot_record_at refuses the record */
 };
 

@@ -157,8 +157,12 @@ static void twins(void)
 
     for (size_t n = 0; n < 2000; n++) put_record(n, 1, n % 2, B1);
     answer = knot_twin_list(store, 48000, marks, 2000);
-    CHECK(KNOT_KEPT_COUNT(answer) == 1 && KNOT_TWIN_COUNT(answer) == 1999 && KNOT_BAD_COUNT(answer) == 0);
-    CHECK(marks[0] == KNOT_KEPT && marks[1999] == KNOT_TWIN && marks[2000] == 9);
+    CHECK(KNOT_KEPT_COUNT(answer) == 2 && KNOT_TWIN_COUNT(answer) == 1998 && KNOT_BAD_COUNT(answer) == 0);
+    CHECK(marks[0] == KNOT_KEPT && marks[1] == KNOT_KEPT && marks[2] == KNOT_TWIN && marks[1999] == KNOT_TWIN && marks[2000] == 9);
+
+    for (size_t n = 0; n < 2000; n++) put_record(n, 1, n % 2, B2);
+    answer = knot_twin_list(store, 48000, marks, 2000);
+    CHECK(KNOT_KEPT_COUNT(answer) == 2000 && marks[0] == KNOT_KEPT && marks[1] == KNOT_KEPT && marks[1999] == KNOT_KEPT);
 }
 
 static void trusted(void)

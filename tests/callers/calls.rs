@@ -104,6 +104,9 @@ fn store() {
     let mut marks = [9; 5];
     assert_eq!(knot::twin_list(&store, &mut marks), Ok([2, 1, 1]));
     assert_eq!(marks, [0, 1, 0, 2, 9]);
+    let black = [record(7, 0, B1), record(8, 0, B2), record(9, 1, B1), record(10, 0, B1), record(11, 1, B2)].concat();
+    assert_eq!(knot::twin_list(&black, &mut marks), Ok([4, 1, 0]));
+    assert_eq!(marks, [0, 0, 0, 1, 0]);
     assert_eq!(knot::twin_list(&store, &mut marks[..3]), Err(3));
     assert_eq!(knot::twin_list(&store[1..], &mut marks), Err(6));
     assert_eq!(knot::twin_list(&[0; 48001], &mut marks), Err(5));

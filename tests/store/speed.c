@@ -1,4 +1,4 @@
-/* Times the twin list over the two worst stores against decoding their blocks once, in one run, and measures its stack.
+/* Times the twin list over the worst stores against decoding their blocks once, in one run, and measures its stack.
  *
  * A ratio is of the fastest of many rounds, taken in turn. The stack is that of a thread whose stack was filled with a pattern:
  * what of the pattern is gone was used.
@@ -97,6 +97,13 @@ int main(void) {
     ratio("2,000 different records, one region", different);
     ratio("2,000 different records, two regions", hard);
     ratio("2,000 equal records, one region", equal);
+    for (int n = 0; n < RECORDS; n++) {
+        uint8_t *record = equal + KNOT_RECORD_SIZE * n;
+        memset(record + 8, 0, KNOT_BLOCK_SIZE);
+        record[8] = n < RECORDS / 2 ? 0x13 : 0;
+        record[4] = n < 3 * RECORDS / 4 ? KNOT_UNSIGNED : KNOT_SIGNED;
+    }
+    ratio("1,000 reserved records, 1,000 black ones in two formats", equal);
     for (int n = 1; n < RECORDS; n++) memcpy(hard + KNOT_RECORD_SIZE * n, hard, KNOT_RECORD_SIZE);
     ratio("2,000 equal records, two regions", hard);
     printf("stack of the twin list: %zu bytes\n", used(listed, different) - used(nothing, different));

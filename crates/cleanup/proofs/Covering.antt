@@ -93,7 +93,6 @@ covered-shows store n earlier e =
     let y = sound (blockOf store earlier) (both-left (trusted (blockOf store earlier)) _ rest) in
     record {
       unsigned = eqb→eq _ _ (both-left (eqb (formatOf store n) 0) _ formats);
-      earlier-unsigned = eqb→eq _ _ (both-right (eqb (formatOf store n) 0) _ formats);
       eligible = x .eligible;
       earlier-eligible = y .eligible;
       one-mode = eqb→eq _ _ (both-right (trusted (blockOf store earlier)) _ rest);

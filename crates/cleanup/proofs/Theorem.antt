@@ -16,16 +16,17 @@ unsigned-picture : (store : List ℕ) (n : ℕ) → formatOf store n ≡ 0 → p
 unfolding pictureAt
 unsigned-picture store n e = ap (λ (f : ℕ). pixelsOf (isSigned f) (blockOf store n)) e
 
--- two records that decode to the same 48 values
+-- two records of one format that decode to the same 48 values
 pub alike-copy : {store : List ℕ} {n earlier : ℕ} → Alike store n earlier → earlier < n → Covered store n earlier → Copy store n earlier
 alike-copy {store} {n} {earlier} a l c =
     record {
       before = l;
       unrefused = a .unrefused;
       earlier-unrefused = a .earlier-unrefused;
+      same-format = sym (a .same-format);
       same-bytes =
           demand3 (blockOf store n) (blockOf store earlier) (c .eligible) (c .earlier-eligible) (c .one-mode) (c .differs)
-          (sym (unsigned-picture store n (c .unsigned)) ∙ sym (a .same-values) ∙ unsigned-picture store earlier (c .earlier-unsigned));
+          (sym (unsigned-picture store n (c .unsigned)) ∙ sym (a .same-values) ∙ unsigned-picture store earlier (a .same-format ∙ c .unsigned));
     }
 
 pub clean-up : CleanUp

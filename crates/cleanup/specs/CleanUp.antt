@@ -15,20 +15,20 @@ use Rattle.records.specs.Store.{recordsIn, formatOf, blockOf, Unrefused}
 use Rattle.twins.specs.declared.TwinList.{TwinList}
 use Rattle.twins.specs.Twins.{twinMark, isRecord, firstTwin, Listed}
 
--- both records unsigned, their blocks of one mode, and demand 3's premises met
+-- the record unsigned, the two blocks of one mode, and demand 3's premises met; that the other is unsigned too, the mark says
 pub record Covered (store : List ℕ) (n earlier : ℕ) : Type 0 where
   pub unsigned : formatOf store n ≡ 0
-  pub earlier-unsigned : formatOf store earlier ≡ 0
   pub eligible : Eligible (blockOf store n)
   pub earlier-eligible : Eligible (blockOf store earlier)
   pub one-mode : modeOf (blockOf store n) ≡ modeOf (blockOf store earlier)
   pub differs : ChannelDiffers false (blockOf store n) ⊎ ChannelDiffers false (blockOf store earlier)
 
--- an earlier record, not refused, with the same sixteen block bytes
+-- an earlier record, not refused, of the same format and with the same sixteen block bytes
 pub record Copy (store : List ℕ) (n earlier : ℕ) : Type 0 where
   pub before : earlier < n
   pub unrefused : Unrefused store n
   pub earlier-unrefused : Unrefused store earlier
+  pub same-format : formatOf store n ≡ formatOf store earlier
   pub same-bytes : blockOf store n ≡ blockOf store earlier
 
 -- Whatever the twin list did: a record that it marked as a twin, and that is covered together with the first record that it equals,

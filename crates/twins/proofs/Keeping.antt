@@ -7,6 +7,9 @@ use native.Mathlib.Omega.{arith}
 use lib.ListN.{length, getD, take, drop, set, length-take, length-drop, take-append-drop}
 use lib.Seq.{take-all, take-at, drop-at, take-append-le, drop-append-le, length-take-le, getD-set-same, getD-set-other}
 use borrow.Author.Count.{below-none, below-more}
+use borrow.Author.Tests.{eq-eqb, ne-eqb}
+use Rattle.bc6h_spec.specs.Bits.{blockSize, numberOf}
+use Rattle.bc6h_spec.specs.Fields.{modeIn, modeOf}
 use Rattle.bc6h_spec.specs.Picture.{valueCount, isSigned}
 use Rattle.bc6.specs.declared.Pixels.{Pixels}
 use Rattle.bc6.specs.Call.{Painted}
@@ -15,8 +18,8 @@ use Rattle.bc6.proofs.Calls.{written, done-when}
 use Rattle.records.specs.Store.{formatOf, blockOf, recordRefusal, Unrefused, partAt}
 use Rattle.records.proofs.Refusals.{known, block-length}
 use Rattle.records.proofs.Readings.{part-of}
-use Rattle.twins.specs.Twins.{pictureAt}
-use Rattle.twins.specs.Kept.{pictureIn, printUpto, printOf, Decoded}
+use Rattle.twins.specs.Twins.{pictureAt, Reserved}
+use Rattle.twins.specs.Kept.{pictureIn, noPicture, kindAt, printUpto, printOf, Decoded}
 
 pub picture-length : (store : List ℕ) (n : ℕ) → length (pictureAt store n) ≡ valueCount
 unfolding pictureAt
@@ -43,13 +46,32 @@ pub whole-picture : (store : List ℕ) (n : ℕ) (more : List ℕ) {after : List
 whole-picture store n more {after} e l =
     sym (take-all valueCount after (omega arith)) ∙ ap (take valueCount) e ∙ take-at (pictureAt store n) more valueCount (picture-length store n)
 
+-- ---- the mode and the kind
+
+pub part-length : (store : List ℕ) (n : ℕ) {block : List ℕ} → Unrefused store n → block ≡ partAt (recordRefusal store n) store n
+    → length block ≡ blockSize
+part-length store n u b = ap length (b ∙ part-of store n u) ∙ block-length (known store n u)
+
+pub part-mode : (store : List ℕ) (n : ℕ) {block : List ℕ} {number mode : ℕ} → Unrefused store n → block ≡ partAt (recordRefusal store n) store n
+    → number ≡ numberOf block → mode ≡ modeIn number → mode ≡ modeOf (blockOf store n)
+unfolding modeOf
+part-mode store n u b e m = m ∙ ap modeIn (e ∙ ap numberOf (b ∙ part-of store n u))
+
+pub kind-reserved : (store : List ℕ) (n : ℕ) → Reserved store n → noPicture ≡ kindAt store n
+unfolding kindAt
+kind-reserved store n e = rw (eq-eqb _ _ e)
+
+pub kind-format : (store : List ℕ) (n : ℕ) → (Reserved store n → ⊥) → formatOf store n ≡ kindAt store n
+unfolding kindAt
+kind-format store n e = rw (ne-eqb _ _ e)
+
 -- ---- the fingerprint, a pixel more
 
-pub print-more : (picture : List ℕ) (pixel print red green blue : ℕ) → print ≡ printUpto picture pixel
+pub print-more : (kind : ℕ) (picture : List ℕ) (pixel print red green blue : ℕ) → print ≡ printUpto kind picture pixel
     → red ≡ getD picture (pixel * 3) 0 → green ≡ getD picture (pixel * 3 + 1) 0 → blue ≡ getD picture (pixel * 3 + 2) 0
-    → print % 0x10000000000 * 0x9E3779 + red + green * 0x1000 + blue * 0x1000000 ≡ printUpto picture (pixel + 1)
+    → print % 0x10000000000 * 0x9E3779 + red + green * 0x1000 + blue * 0x1000000 ≡ printUpto kind picture (pixel + 1)
 unfolding printUpto
-print-more picture pixel print red green blue p r g b = rw (add-one pixel, p, r, g, b)
+print-more kind picture pixel print red green blue p r g b = rw (add-one pixel, p, r, g, b)
 
 -- ---- a picture that is put at its place: it is there, and those before it stay
 
@@ -91,7 +113,7 @@ module _ {store : List ℕ} {n : ℕ} {pictures prints : List ℕ} (d : Decoded 
     pub here : pictureIn (take (n * valueCount) pictures ++ (part ++ rest)) n ≡ pictureAt store n
     here = rw put (placed-here pictures n room (pictureAt store n) (more ++ rest) (picture-length store n))
 
-    pub decoded-more : print ≡ printOf (pictureAt store n) → Decoded store (n + 1) (take (n * valueCount) pictures ++ (part ++ rest)) (set prints n print)
+    pub decoded-more : print ≡ printOf (kindAt store n) (pictureAt store n) → Decoded store (n + 1) (take (n * valueCount) pictures ++ (part ++ rest)) (set prints n print)
     decoded-more p = record {
       pictured =
           record { at = below-more _ _ (λ k h u. placed-before pictures n room (part ++ rest) k h ∙ d .pictured .at k h u) (λ u. here) };

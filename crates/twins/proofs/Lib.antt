@@ -1,3 +1,4 @@
 pub mod Keeping
 pub mod Marking
 pub mod Listing
+pub mod Reserved

@@ -1,6 +1,6 @@
 -- Laws of twins and marks: what the computing definitions mean, and that the mark is the one that the words ask. Assumes nothing.
 use mathlib.Core.Path.{_≡_, refl, sym, _∙_, ap, ap₂}
-use mathlib.Core.Bool.{Bool, true, false}
+use mathlib.Core.Bool.{Bool, true, false, not}
 use mathlib.Core.List.{List, _++_}
 use Prim.Native.Nat.{ℕ, _≤_, _<_}
 use native.Mathlib.Omega.{arith}
@@ -14,11 +14,12 @@ use Rattle.laws.proofs.Tests.{cases}
 use Rattle.laws.proofs.Firsts.{first-end, first-at, first-passes, first-least, first-never}
 use Rattle.laws.proofs.Sameness.{true-false, not-so, same-so, same-means}
 use Rattle.bc6h_spec.specs.Answers.{done}
+use Rattle.bc6h_spec.specs.Fields.{modeOf}
 use Rattle.bc6h_spec.specs.Picture.{valueCount}
-use Rattle.records.specs.Store.{recordsIn, recordRefusal, Unrefused}
-use Rattle.twins.specs.Twins.{pictureAt, Alike, Twin, Marked, keptMark, twinMark, badMark, isRecord, showing, alike, firstTwin, markAt}
-use Rattle.twins.specs.Kept.{pictureIn, printOf, Pictured, Decoded}
-use Rattle.twins.proofs.Keeping.{whole-picture}
+use Rattle.records.specs.Store.{recordsIn, formatOf, blockOf, recordRefusal, Unrefused}
+use Rattle.twins.specs.Twins.{pictureAt, Reserved, Alike, Twin, Marked, keptMark, twinMark, badMark, isRecord, isReserved, holding, showing, alike, firstTwin, markAt}
+use Rattle.twins.specs.Kept.{pictureIn, kindAt, printOf, Pictured, Decoded}
+use Rattle.twins.proofs.Keeping.{whole-picture, kind-format}
 
 -- ---- which records are refused
 
@@ -28,63 +29,134 @@ is-record store n u = eq-eqb _ _ u
 pub is-refused : (store : List ℕ) (n : ℕ) → (Unrefused store n → ⊥) → isRecord store n ≡ false
 is-refused store n r = ne-eqb _ _ r
 
--- ---- alike
+-- ---- which records hold a picture
 
 both-true : (a b : Bool) → both a b ≡ true → (a ≡ true) × (b ≡ true)
 both-true true b e = (refl, e)
 both-true false b e = absurd (true-false (sym e))
 
-module _ (store : List ℕ) (n : ℕ) (values : List ℕ) where
-  pub showing-refused : (Unrefused store n → ⊥) → showing store n values ≡ false
-  unfolding showing
-  showing-refused r = rw (is-refused store n r)
+not-means : (b : Bool) → not b ≡ true → b ≡ false
+not-means true e = absurd (true-false (sym e))
+not-means false e = refl
 
-  pub showing-record : Unrefused store n → showing store n values ≡ same (pictureAt store n) values
+-- record n is not refused, of the format and not reserved
+pub record Holds (store : List ℕ) (n format : ℕ) : Type 0 where
+  pub unrefused : Unrefused store n
+  pub of-format : formatOf store n ≡ format
+  pub unreserved : Reserved store n → ⊥
+
+module _ (store : List ℕ) (n format : ℕ) where
+  pub holding-refused : (Unrefused store n → ⊥) → holding store n format ≡ false
+  unfolding holding
+  holding-refused r = rw (is-refused store n r)
+
+  pub holding-other : Unrefused store n → (formatOf store n ≡ format → ⊥) → holding store n format ≡ false
+  unfolding holding
+  holding-other u f = rw (is-record store n u, ne-eqb _ _ f)
+
+  pub holding-mode : {mode : ℕ} → Unrefused store n → formatOf store n ≡ format → mode ≡ modeOf (blockOf store n)
+      → not (eqb mode 0) ≡ holding store n format
+  unfolding holding
+  holding-mode u f m = rw (is-record store n u, eq-eqb _ _ f, m)
+
+  pub holding-reserved : Reserved store n → holding store n format ≡ false
+  unfolding holding
+  holding-reserved z =
+      cases (isRecord store n)
+      (λ a. cases (eqb (formatOf store n) format) (λ b. rw (a, b, eq-eqb _ _ z)) (λ b. rw (a, b)))
+      (λ a. rw a)
+
+  pub holding-so : Holds store n format → holding store n format ≡ true
+  unfolding holding
+  holding-so h = rw (is-record store n (h .unrefused), eq-eqb _ _ (h .of-format), ne-eqb _ _ (h .unreserved))
+
+  pub holding-means : holding store n format ≡ true → Holds store n format
+  unfolding holding
+  holding-means t =
+      let a = both-true (isRecord store n) _ t in
+      let b = both-true (eqb (formatOf store n) format) _ (a .1) in
+      record {
+        unrefused = eqb-true _ _ (a .0);
+        of-format = eqb-true _ _ (b .0);
+        unreserved = eqb-false _ _ (not-means (isReserved store n) (b .1));
+      }
+
+-- ---- alike
+
+module _ (store : List ℕ) (n format : ℕ) (values : List ℕ) where
+  pub showing-none : holding store n format ≡ false → showing store n format values ≡ false
   unfolding showing
-  showing-record u = rw (is-record store n u)
+  showing-none e = rw e
+
+  pub showing-picture : holding store n format ≡ true → showing store n format values ≡ same (pictureAt store n) values
+  unfolding showing
+  showing-picture e = rw e
 
 module _ (store : List ℕ) (n earlier : ℕ) where
-  pub alike-showing : Unrefused store n → alike store n earlier ≡ showing store earlier (pictureAt store n)
+  pub alike-showing : Unrefused store n → (Reserved store n → ⊥)
+      → alike store n earlier ≡ showing store earlier (formatOf store n) (pictureAt store n)
   unfolding alike
-  alike-showing u = rw (is-record store n u)
-
-  pub alike-pictures : Unrefused store n → Unrefused store earlier → alike store n earlier ≡ same (pictureAt store earlier) (pictureAt store n)
-  alike-pictures u v = alike-showing u ∙ showing-record store earlier (pictureAt store n) v
+  alike-showing u z = rw (holding-so store n (formatOf store n) (record { unrefused = u; of-format = refl; unreserved = z }))
 
   pub alike-refused : (Unrefused store n → ⊥) → alike store n earlier ≡ false
   unfolding alike
-  alike-refused r = rw (is-refused store n r)
+  alike-refused r = rw (holding-refused store n (formatOf store n) r)
+
+  pub alike-reserved : Reserved store n → alike store n earlier ≡ false
+  unfolding alike
+  alike-reserved z = rw (holding-reserved store n (formatOf store n) z)
 
   pub alike-means : alike store n earlier ≡ true → Alike store n earlier
   unfolding alike showing
   alike-means t =
-      let a = both-true (isRecord store n) _ t in
-      let b = both-true (isRecord store earlier) _ (a .1) in
+      let a = both-true (holding store n (formatOf store n)) _ t in
+      let b = both-true (holding store earlier (formatOf store n)) _ (a .1) in
+      let h = holding-means store n (formatOf store n) (a .0) in
+      let k = holding-means store earlier (formatOf store n) (b .0) in
       record {
-        unrefused = eqb-true _ _ (a .0);
-        earlier-unrefused = eqb-true _ _ (b .0);
+        unrefused = h .unrefused;
+        earlier-unrefused = k .unrefused;
+        same-format = k .of-format;
+        unreserved = h .unreserved;
+        earlier-unreserved = k .unreserved;
         same-values = same-means _ _ (b .1);
       }
 
   pub alike-so : Alike store n earlier → alike store n earlier ≡ true
-  alike-so a = alike-pictures (a .unrefused) (a .earlier-unrefused) ∙ same-so _ _ (a .same-values)
+  alike-so a =
+      alike-showing (a .unrefused) (a .unreserved)
+      ∙ showing-picture store earlier (formatOf store n) (pictureAt store n)
+      (holding-so store earlier (formatOf store n)
+      (record { unrefused = a .earlier-unrefused; of-format = a .same-format; unreserved = a .earlier-unreserved }))
+      ∙ same-so _ _ (a .same-values)
 
-  -- by the pictures that were kept
-  pub alike-kept : {pictures a b : List ℕ} {r : Bool} → Pictured store (recordsIn store) pictures → Unrefused store n → Unrefused store earlier
-      → n < recordsIn store → earlier < n → a ≡ pictureIn pictures earlier → b ≡ pictureIn pictures n → r ≡ same a b → r ≡ alike store n earlier
-  alike-kept p u v h l ea eb e =
-      e ∙ ap₂ same (ea ∙ p .at earlier (omega arith) v) (eb ∙ p .at n h u) ∙ sym (alike-pictures u v)
+  -- by the pictures that were kept, of a record that holds one of the format
+  module _ {format : ℕ} (u : Unrefused store n) (f : format ≡ formatOf store n) (z : Reserved store n → ⊥) where
+    pub other-kept : holding store earlier format ≡ false → false ≡ alike store n earlier
+    other-kept e = sym (alike-showing u z ∙ showing-none store earlier (formatOf store n) (pictureAt store n) (rw f at e))
+
+    pub alike-kept : {pictures a b : List ℕ} {r : Bool} → Pictured store (recordsIn store) pictures → holding store earlier format ≡ true
+        → n < recordsIn store → earlier < n → a ≡ pictureIn pictures earlier → b ≡ pictureIn pictures n → r ≡ same a b → r ≡ alike store n earlier
+    alike-kept p t h l ea eb e =
+        let k : holding store earlier (formatOf store n) ≡ true = rw f at t in
+        let v = holding-means store earlier (formatOf store n) k .unrefused in
+        e ∙ ap₂ same (ea ∙ p .at earlier (omega arith) v) (eb ∙ p .at n h u)
+        ∙ sym (alike-showing u z ∙ showing-picture store earlier (formatOf store n) (pictureAt store n) k)
 
 -- by pictures that were decoded for it
-pub shown-record : (store : List ℕ) (n : ℕ) (more values : List ℕ) {shown : List ℕ} {r : Bool} → Unrefused store n → shown ≡ pictureAt store n ++ more
-    → length shown ≡ valueCount → r ≡ same shown values → r ≡ showing store n values
-shown-record store n more values u e l s =
-    s ∙ ap (λ (x : List ℕ). same x values) (whole-picture store n more e l) ∙ sym (showing-record store n values u)
+pub shown-picture : (store : List ℕ) (n format : ℕ) (more values : List ℕ) {shown : List ℕ} {r : Bool} → holding store n format ≡ true
+    → shown ≡ pictureAt store n ++ more → length shown ≡ valueCount → r ≡ same shown values → r ≡ showing store n format values
+shown-picture store n format more values t e l s =
+    s ∙ ap (λ (x : List ℕ). same x values) (whole-picture store n more e l) ∙ sym (showing-picture store n format values t)
 
-pub alike-shown : (store : List ℕ) (n earlier : ℕ) (more : List ℕ) {picture : List ℕ} {r : Bool} → Unrefused store n → picture ≡ pictureAt store n ++ more
-    → length picture ≡ valueCount → r ≡ showing store earlier picture → alike store n earlier ≡ r
-alike-shown store n earlier more u e l s =
-    alike-showing store n earlier u ∙ sym (s ∙ ap (showing store earlier) (whole-picture store n more e l))
+pub alike-shown : (store : List ℕ) (n earlier : ℕ) (more : List ℕ) {format : ℕ} {picture : List ℕ} {r : Bool} → Unrefused store n
+    → format ≡ formatOf store n → (Reserved store n → ⊥) → picture ≡ pictureAt store n ++ more → length picture ≡ valueCount
+    → r ≡ showing store earlier format picture → alike store n earlier ≡ r
+alike-shown store n earlier more u f z e l s =
+    alike-showing store n earlier u z ∙ sym (s ∙ ap₂ (showing store earlier) f (whole-picture store n more e l))
+
+same-kind : (store : List ℕ) (n earlier : ℕ) → Alike store n earlier → kindAt store earlier ≡ kindAt store n
+same-kind store n earlier a = sym (kind-format store earlier (a .earlier-unreserved)) ∙ a .same-format ∙ kind-format store n (a .unreserved)
 
 -- a record with another fingerprint is passed by
 pub alike-other : {store pictures prints : List ℕ} → Decoded store (recordsIn store) pictures prints → (n earlier : ℕ) → n < recordsIn store → earlier < n
@@ -93,13 +165,18 @@ alike-other {store} d n earlier h l other =
     not-so _
     (λ t. let a = alike-means store n earlier t in
     other
-    (d .print earlier (omega arith) (a .earlier-unrefused) ∙ ap printOf (a .same-values) ∙ sym (d .print n h (a .unrefused))))
+    (d .print earlier (omega arith) (a .earlier-unrefused) ∙ ap₂ printOf (same-kind store n earlier a) (a .same-values)
+    ∙ sym (d .print n h (a .unrefused))))
 
 -- ---- twins
 
 pub no-twin : (store : List ℕ) (n : ℕ) → (Unrefused store n → ⊥) → firstTwin store n ≡ n
 unfolding firstTwin
 no-twin store n r = first-never (alike store n) (λ k. alike-refused store n k r) n
+
+pub reserved-no-twin : (store : List ℕ) (n : ℕ) → Reserved store n → firstTwin store n ≡ n
+unfolding firstTwin
+reserved-no-twin store n z = first-never (alike store n) (λ k. alike-reserved store n k z) n
 
 pub first-alike : (store : List ℕ) (n : ℕ) → firstTwin store n < n → Alike store n (firstTwin store n)
 unfolding firstTwin
@@ -136,6 +213,9 @@ module _ (store : List ℕ) (n : ℕ) where
   pub mark-kept : Unrefused store n → n ≤ firstTwin store n → keptMark ≡ markAt store n
   unfolding markAt
   mark-kept u h = rw (is-record store n u, le-ltb _ _ h)
+
+  pub mark-reserved : Unrefused store n → Reserved store n → keptMark ≡ markAt store n
+  mark-reserved u z = mark-kept u (let e = reserved-no-twin store n z in omega arith)
 
   pub mark-small : markAt store n ≤ 2
   unfolding markAt

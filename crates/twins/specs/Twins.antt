@@ -1,6 +1,6 @@
 -- What a twin is, in words and by computing; the marks and counts of a store. Assumes nothing.
 use mathlib.Core.Path.{_≡_}
-use mathlib.Core.Bool.{Bool}
+use mathlib.Core.Bool.{Bool, not}
 use mathlib.Core.List.{List, [], _∷_, _++_}
 use Prim.Native.Nat.{ℕ, zero, suc, _/_, _%_, _<_}
 use lib.Dec.{eqb, ltb}
@@ -10,6 +10,7 @@ use Rattle.laws.specs.Every.{same}
 use Rattle.laws.specs.Made.{made, countOf}
 use Rattle.laws.specs.First.{firstBelow}
 use Rattle.bc6h_spec.specs.Answers.{done, shortOutput, longStore, unevenStore}
+use Rattle.bc6h_spec.specs.Fields.{modeOf}
 use Rattle.bc6h_spec.specs.Picture.{isSigned}
 use Rattle.bc6h_spec.specs.Block.{pixelsOf}
 use Rattle.records.specs.Store.{recordSize, storeLimit, recordsIn, formatOf, blockOf, recordRefusal, Unrefused}
@@ -21,13 +22,20 @@ use Rattle.twins.specs.declared.TwinList.{TwinList}
 unfoldable pub pictureAt : List ℕ → ℕ → List ℕ
 pictureAt store n = pixelsOf (isSigned (formatOf store n)) (blockOf store n)
 
--- two unrefused records that decode to the same 48 values
+-- "a reserved block shows zeros but holds no picture"
+abbrev pub Reserved : List ℕ → ℕ → Type 0
+Reserved store n = modeOf (blockOf store n) ≡ 0
+
+-- two unrefused records "of the same format, with the same 48 values, and neither of the two reserved"
 pub record Alike (store : List ℕ) (n earlier : ℕ) : Type 0 where
   pub unrefused : Unrefused store n
   pub earlier-unrefused : Unrefused store earlier
+  pub same-format : formatOf store earlier ≡ formatOf store n
+  pub unreserved : Reserved store n → ⊥
+  pub earlier-unreserved : Reserved store earlier → ⊥
   pub same-values : pictureAt store earlier ≡ pictureAt store n
 
--- "A record is a twin when an earlier unrefused record decodes to the same 48 values."
+-- "A twin is now an earlier unrefused record of the same format, with the same 48 values, and neither of the two reserved." (02, T-04)
 pub record Twin (store : List ℕ) (n : ℕ) : Type 0 where
   pub earlier : ℕ
   pub before : earlier < n
@@ -56,12 +64,19 @@ pub record Marked (store : List ℕ) (n mark : ℕ) : Type 0 where
 abbrev pub isRecord : List ℕ → ℕ → Bool
 isRecord store n = eqb (recordRefusal store n) done
 
--- record n is not refused and decodes to the values
-unfoldable pub showing : List ℕ → ℕ → List ℕ → Bool
-showing store n values = both (isRecord store n) (same (pictureAt store n) values)
+abbrev pub isReserved : List ℕ → ℕ → Bool
+isReserved store n = eqb (modeOf (blockOf store n)) 0
+
+-- record n holds a picture of the format: it is not refused, of that format and not reserved
+unfoldable pub holding : List ℕ → ℕ → ℕ → Bool
+holding store n format = both (isRecord store n) (both (eqb (formatOf store n) format) (not (isReserved store n)))
+
+-- .. and decodes to the values
+unfoldable pub showing : List ℕ → ℕ → ℕ → List ℕ → Bool
+showing store n format values = both (holding store n format) (same (pictureAt store n) values)
 
 unfoldable pub alike : List ℕ → ℕ → ℕ → Bool
-alike store n earlier = both (isRecord store n) (showing store earlier (pictureAt store n))
+alike store n earlier = both (holding store n (formatOf store n)) (showing store earlier (formatOf store n) (pictureAt store n))
 
 -- "The search stops at the first such record": its number, or n where there is none
 unfoldable pub firstTwin : List ℕ → ℕ → ℕ

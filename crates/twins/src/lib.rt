@@ -1,4 +1,4 @@
-// The twin list: which records of a store show the same picture as an earlier one.
+// The twin list: which records of a store hold the same picture, in the same format, as an earlier one.
 
 ghost use mathlib.Core.Path.{_≡_};
 ghost use mathlib.Core.List.{[], _∷_, _++_};
@@ -6,13 +6,16 @@ ghost use Prim.Native.Nat.{_+_, _*_, _≤_, _<_};
 ghost use lib.ListN.{length, drop};
 ghost use Rattle.laws.specs.Every.{same};
 ghost use Rattle.laws.specs.Made.{countOf};
+ghost use Rattle.bc6h_spec.specs.Fields.{modeOf};
 ghost use Rattle.bc6h_spec.specs.Picture.{valueCount};
-ghost use Rattle.records.specs.Store.{recordsIn, formatOf, Unrefused};
-ghost use Rattle.twins.specs.Twins.{pictureAt, marks, showing, alike, firstTwin, marksOf, refusal, Listed};
-ghost use Rattle.twins.specs.Kept.{pictureIn, printOf, Pictured, Decoded};
+ghost use Rattle.records.specs.Store.{recordsIn, formatOf, blockOf, Unrefused};
+ghost use Rattle.twins.specs.Twins.{pictureAt, marks, Reserved, holding, showing, alike, firstTwin, marksOf, refusal, Listed};
+ghost use Rattle.twins.specs.Kept.{pictureIn, kindAt, printOf, Pictured, Decoded};
 use bc6::block_pixels;
+use bc6_fields::extract_mode;
 use bc6h_spec::Answer;
 use bc6h_spec::Block;
+use bcn_util::BitStream;
 use records::Record;
 use records::RecordReading;
 use records::record_at;
@@ -52,6 +55,9 @@ impl TwinList {
 
     pub const VALUES: usize = TwinList::RECORDS * Block::VALUES;
 
+    // The kind of a record that holds no picture; that of another is its format.
+    const NO_PICTURE: u64 = 2;
+
     fn refused(answer: u8) -> TwinList
         ensures { λ r. ⌜ r ≡ refusal answer ⌝ }
     {
@@ -82,12 +88,12 @@ fn wide(value: u16) -> u64
     value as u64
 }
 
-// A number that pictures with other values seldom share, from the three values of each pixel in turn.
-fn fingerprint(picture: &[u16]) -> u64
+// A number that records of another kind or with other values seldom share, from the three values of each pixel in turn.
+fn fingerprint(kind: u64, picture: &[u16]) -> u64
     requires { ⌜ length (now picture) ≡ valueCount ⌝ }
-    ensures { λ r. ⌜ r ≡ printOf (now (picture .entry)) ⌝ }
+    ensures { λ r. ⌜ r ≡ printOf kind (now (picture .entry)) ⌝ }
 {
-    let mut print: u64 = 0;
+    let mut print: u64 = kind;
     for pixel in 0..16usize {
         let at = pixel * 3;
         let low = wide(picture[at]);
@@ -118,6 +124,39 @@ fn decode_record(store: &[u8], n: usize, format: u8, out: &mut [u16])
     block_pixels(record_block(store, n), format, out);
 }
 
+// The mode of record n, which is not refused; 0 for a reserved one.
+fn mode_at(store: &[u8], n: usize) -> usize
+    requires { ⌜ Unrefused (now store) n ⌝ }
+    ensures { λ r. ⌜ r ≡ modeOf (blockOf (now (store .entry)) n) ⌝ }
+{
+    extract_mode(BitStream::new(record_block(store, n)))
+}
+
+// Record n is not refused, of the format and not reserved.
+fn holds_picture(store: &[u8], n: usize, format: u8) -> bool
+    ensures { λ r. ⌜ r ≡ holding (now (store .entry)) n format ⌝ }
+{
+    let RecordReading::Record(found) = record_at(store, n) else {
+        return false;
+    };
+    if found.format != format {
+        return false;
+    }
+    mode_at(store, n) != 0
+}
+
+// The kind of record n, which is not refused and of the format.
+fn kind_at(store: &[u8], n: usize, format: u8) -> u64
+    requires { ⌜ Unrefused (now store) n ⌝ }
+    requires { ⌜ format ≡ formatOf (now store) n ⌝ }
+    ensures { λ r. ⌜ r ≡ kindAt (now (store .entry)) n ⌝ }
+{
+    if mode_at(store, n) == 0 {
+        return TwinList::NO_PICTURE;
+    }
+    format as u64
+}
+
 // Decodes each record once: its picture, and the picture's fingerprint, at the record's number.
 fn decode_records(store: &[u8], pictures: &mut [u16], prints: &mut [u64])
     requires { ⌜ recordsIn (now store) * valueCount ≤ length (now pictures) ⌝ }
@@ -131,21 +170,24 @@ fn decode_records(store: &[u8], pictures: &mut [u16], prints: &mut [u64])
         };
         let start = n * Block::VALUES;
         decode_record(store, n, found.format, &mut pictures[start..]);
-        prints[n] = fingerprint(picture_in(pictures, n));
+        let kind = kind_at(store, n, found.format);
+        prints[n] = fingerprint(kind, picture_in(pictures, n));
     }
 }
 
-// Record `earlier` is not refused and its picture is that of record n, which is not refused either.
-fn kept_alike(store: &[u8], pictures: &[u16], n: usize, earlier: usize) -> bool
+// Record `earlier` holds the picture of record n, which holds one of the format.
+fn kept_alike(store: &[u8], pictures: &[u16], n: usize, format: u8, earlier: usize) -> bool
     requires { ⌜ Unrefused (now store) n ⌝ }
+    requires { ⌜ format ≡ formatOf (now store) n ⌝ }
+    requires { ⌜ (Reserved (now store) n → ⊥) ⌝ }
     requires { ⌜ (n < recordsIn (now store)) × (earlier < n) ⌝ }
     requires { ⌜ recordsIn (now store) * valueCount ≤ length (now pictures) ⌝ }
     requires { ⌜ Pictured (now store) (recordsIn (now store)) (now pictures) ⌝ }
     ensures { λ r. ⌜ r ≡ alike (now (store .entry)) n earlier ⌝ }
 {
-    let RecordReading::Record(_) = record_at(store, earlier) else {
+    if !holds_picture(store, earlier, format) {
         return false;
-    };
+    }
     same_picture(picture_in(pictures, earlier), picture_in(pictures, n))
 }
 
@@ -159,17 +201,21 @@ fn mark_records(store: &[u8], pictures: &[u16], prints: &[u64], marks: &mut [u8]
 {
     let count = store.len() / Record::SIZE;
     for n in 0..count {
-        let RecordReading::Record(_) = record_at(store, n) else {
+        let RecordReading::Record(found) = record_at(store, n) else {
             marks[n] = Mark::BAD;
             continue;
         };
+        if mode_at(store, n) == 0 {
+            marks[n] = Mark::KEPT;
+            continue;
+        }
         let print = prints[n];
         let mut mark = Mark::KEPT;
         'search: for earlier in 0..n {
             if prints[earlier] != print {
                 continue 'search;
             }
-            if kept_alike(store, pictures, n, earlier) {
+            if kept_alike(store, pictures, n, found.format, earlier) {
                 mark = Mark::TWIN;
                 break 'search;
             }
@@ -218,16 +264,16 @@ pub fn twin_list(store: &[u8], marks: &mut [u8]) -> TwinList
     }
 }
 
-// Record n is not refused and shows the picture.
-fn shows(store: &[u8], n: usize, picture: &[u16]) -> bool
+// Record n holds the picture, in the format.
+fn shows(store: &[u8], n: usize, format: u8, picture: &[u16]) -> bool
     requires { ⌜ length (now picture) ≡ valueCount ⌝ }
-    ensures { λ r. ⌜ r ≡ showing (now (store .entry)) n (now (picture .entry)) ⌝ }
+    ensures { λ r. ⌜ r ≡ showing (now (store .entry)) n format (now (picture .entry)) ⌝ }
 {
-    let RecordReading::Record(found) = record_at(store, n) else {
+    if !holds_picture(store, n, format) {
         return false;
-    };
+    }
     let mut shown = [0u16; Block::VALUES];
-    decode_record(store, n, found.format, &mut shown);
+    decode_record(store, n, format, &mut shown);
     same_picture(&shown, picture)
 }
 
@@ -238,10 +284,13 @@ pub fn first_twin(store: &[u8], n: usize) -> usize
     let RecordReading::Record(found) = record_at(store, n) else {
         return n;
     };
+    if mode_at(store, n) == 0 {
+        return n;
+    }
     let mut picture = [0u16; Block::VALUES];
     decode_record(store, n, found.format, &mut picture);
     for earlier in 0..n {
-        if shows(store, earlier, &picture) {
+        if shows(store, earlier, found.format, &picture) {
             return earlier;
         }
     }

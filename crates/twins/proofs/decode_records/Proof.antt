@@ -1,5 +1,5 @@
 use borrow.Author.Needs.{needs}
-use mathlib.Core.Path.{_≡_, refl, ap, _∙_}
+use mathlib.Core.Path.{_≡_, refl, ap, ap₂, _∙_}
 use Prim.Native.Nat.{_≤_, _-_}
 use native.Mathlib.Omega.{arith}
 use lib.ListN.{length, length-set}
@@ -55,6 +55,9 @@ part-decode-record-end c = search needs
 decode-record-requires : tie.Need-decode-record-requires Inv-loop μ-loop
 decode-record-requires c κs = let r = c .before .before .before .before .record-at .ensures in let e = c .before .before .found .given .1 in (unrefused r e, (format-is r e, search needs))
 
+kind-at-requires : tie.Need-kind-at-requires Inv-loop μ-loop
+kind-at-requires c κs = let r = c .before .before .before .before .before .before .before .record-at .ensures in let e = c .before .before .before .before .before .found .given .1 in (unrefused r e, format-is r e)
+
 picture-in-requires : tie.Need-picture-in-requires Inv-loop μ-loop
 picture-in-requires c κs = search needs
 
@@ -74,7 +77,7 @@ loop-less-2 : tie.Need-loop-less-2 Inv-loop μ-loop
 loop-less-2 c = search needs
 
 loop-again-2 : tie.Need-loop-again-2 Inv-loop μ-loop
-loop-again-2 c = let i = c .before .before .before .before .before .before .before .before .before .before .before .before .loop .inv in let e = c .before .before .before .before .before .decode-record .ensures in (search needs, search needs, simp length-set (i .2), decoded-more (i .3) _ _ _ _ e (search needs) (search needs) (c .fingerprint .ensures ∙ ap printOf (c .before .picture-in .ensures ∙ here (i .3) _ _ _ 0 e (search needs) (search needs))))
+loop-again-2 c = let i = c .before .before .before .before .before .before .before .before .before .before .before .before .before .loop .inv in let e = c .before .before .before .before .before .before .decode-record .ensures in (search needs, search needs, simp length-set (i .2), decoded-more (i .3) _ _ _ _ e (search needs) (search needs) (c .fingerprint .ensures ∙ ap₂ printOf (c .before .before .before .kind-at .ensures) (c .before .picture-in .ensures ∙ here (i .3) _ _ _ 0 e (search needs) (search needs))))
 
 same-length : tie.Need-same-length Inv-loop μ-loop
 same-length c = search needs
@@ -104,6 +107,7 @@ decode-records-spec =
     part-decode-record-start
     part-decode-record-end
     decode-record-requires
+    kind-at-requires
     picture-in-requires
     fingerprint-requires
     mul-prints

@@ -8,10 +8,10 @@ use Rattle.twins.proofs.fingerprint.Statement.{statement}
 use Rattle.twins.proofs.fingerprint.Tie as tie
 
 abbrev Inv-loop : tie.InvT-loop
-Inv-loop picture print₀ pixel₀ print pixel = (pixel ≤ 16) × (print ≡ printUpto picture pixel)
+Inv-loop kind picture print₀ pixel₀ print pixel = (pixel ≤ 16) × (print ≡ printUpto kind picture pixel)
 
 abbrev μ-loop : tie.MeasureT-loop
-μ-loop picture print₀ pixel₀ print pixel = 16 - pixel
+μ-loop kind picture print₀ pixel₀ print pixel = 16 - pixel
 
 loop-holds : tie.Need-loop-holds Inv-loop μ-loop
 unfolding printUpto
@@ -78,7 +78,7 @@ loop-less : tie.Need-loop-less Inv-loop μ-loop
 loop-less c = search needs
 
 loop-again : tie.Need-loop-again Inv-loop μ-loop
-loop-again c = (search needs, print-more _ _ _ _ _ _ (c .before .before .before .before .before .before .before .loop .inv .1) (c .before .before .before .before .wide .ensures .0) (c .before .before .wide2 .ensures .0) (c .wide3 .ensures .0))
+loop-again c = (search needs, print-more _ _ _ _ _ _ _ (c .before .before .before .before .before .before .before .loop .inv .1) (c .before .before .before .before .wide .ensures .0) (c .before .before .wide2 .ensures .0) (c .wide3 .ensures .0))
 
 returns : tie.Need-returns Inv-loop μ-loop
 returns c = let e : c .before .loop .pixel ≡ 16 = omega arith in rw e at (c .before .loop .inv .1)

@@ -1,19 +1,19 @@
 use borrow.Author.Needs.{needs}
-use mathlib.Core.Path.{_≡_, sym, ap, _∙_}
+use mathlib.Core.Path.{_≡_, sym, _∙_}
 use Prim.Native.Nat.{_≤_, _-_}
 use Rattle.laws.specs.First.{firstBelow}
 use Rattle.laws.proofs.Firsts.{first-none, first-more, first-end, first-at}
 use Rattle.records.proofs.Readings.{unrefused, format-is, refused}
 use Rattle.twins.specs.Twins.{alike, firstTwin}
-use Rattle.twins.proofs.Marking.{no-twin, alike-shown}
+use Rattle.twins.proofs.Marking.{no-twin, reserved-no-twin, alike-shown}
 use Rattle.twins.proofs.first_twin.Statement.{statement}
 use Rattle.twins.proofs.first_twin.Tie as tie
 
 abbrev Inv-loop : tie.InvT-loop
-Inv-loop store n picture earlier₀ earlier = (earlier ≤ n) × (firstBelow (alike store n) earlier ≡ earlier)
+Inv-loop store n found picture earlier₀ earlier = (earlier ≤ n) × (firstBelow (alike store n) earlier ≡ earlier)
 
 abbrev μ-loop : tie.MeasureT-loop
-μ-loop store n picture earlier₀ earlier = n - earlier
+μ-loop store n found picture earlier₀ earlier = n - earlier
 
 record-at-requires : tie.Need-record-at-requires Inv-loop μ-loop
 record-at-requires c κs = search needs
@@ -27,11 +27,17 @@ enum-told c = search needs
 returns : tie.Need-returns Inv-loop μ-loop
 returns c = sym (no-twin _ _ (refused (c .before .before .record-at .ensures) (c .enum-told .given .1)))
 
+mode-at-requires : tie.Need-mode-at-requires Inv-loop μ-loop
+mode-at-requires c κs = unrefused (c .before .before .before .record-at .ensures) (c .before .found .given .1)
+
+returns-2 : tie.Need-returns-2 Inv-loop μ-loop
+returns-2 c = sym (reserved-no-twin _ _ (sym (c .before .mode-at .ensures) ∙ c .if1 .taken))
+
 slice-aggregate-decode-record : tie.Need-slice-aggregate-decode-record Inv-loop μ-loop
 slice-aggregate-decode-record c = search needs
 
 decode-record-requires : tie.Need-decode-record-requires Inv-loop μ-loop
-decode-record-requires c κs = let r = c .before .before .before .before .record-at .ensures in let e = c .before .before .found .given .1 in (unrefused r e, (format-is r e, search needs))
+decode-record-requires c κs = let r = c .before .before .before .before .before .before .record-at .ensures in let e = c .before .before .before .before .found .given .1 in (unrefused r e, (format-is r e, search needs))
 
 loop-holds : tie.Need-loop-holds Inv-loop μ-loop
 loop-holds c = (search needs, first-none _)
@@ -42,9 +48,9 @@ slice-aggregate-shows c = search needs
 shows-requires : tie.Need-shows-requires Inv-loop μ-loop
 shows-requires c κs = search needs
 
-returns-2 : tie.Need-returns-2 Inv-loop μ-loop
+returns-3 : tie.Need-returns-3 Inv-loop μ-loop
 unfolding firstTwin
-returns-2 c = sym (first-at _ _ _ (c .before .before .before .before .loop .inv .1) (alike-shown _ _ _ _ (unrefused (c .before .before .before .before .before .before .before .before .before .before .before .record-at .ensures) (c .before .before .before .before .before .before .before .before .before .found .given .1)) (c .before .before .before .before .before .before .decode-record .ensures) (search needs) (c .before .shows .ensures) ∙ c .if1 .taken) (search needs))
+returns-3 c = sym (first-at _ _ _ (c .before .before .before .before .loop .inv .1) (let r = c .before .before .before .before .before .before .before .before .before .before .before .before .before .record-at .ensures in let e = c .before .before .before .before .before .before .before .before .before .before .before .found .given .1 in alike-shown _ _ _ _ (unrefused r e) (format-is r e) (λ z. c .before .before .before .before .before .before .before .before .if1 .left (c .before .before .before .before .before .before .before .before .before .mode-at .ensures ∙ z)) (c .before .before .before .before .before .before .decode-record .ensures) (search needs) (c .before .shows .ensures) ∙ c .if2 .taken) (search needs))
 
 add-earlier : tie.Need-add-earlier Inv-loop μ-loop
 add-earlier c = search needs
@@ -53,11 +59,11 @@ loop-less : tie.Need-loop-less Inv-loop μ-loop
 loop-less c = search needs
 
 loop-again : tie.Need-loop-again Inv-loop μ-loop
-loop-again c = (search needs, first-more _ _ (c .before .before .before .before .loop .inv .1) (alike-shown _ _ _ _ (unrefused (c .before .before .before .before .before .before .before .before .before .before .before .record-at .ensures) (c .before .before .before .before .before .before .before .before .before .found .given .1)) (c .before .before .before .before .before .before .decode-record .ensures) (search needs) (c .before .shows .ensures) ∙ c .if1 .left))
+loop-again c = (search needs, first-more _ _ (c .before .before .before .before .loop .inv .1) (let r = c .before .before .before .before .before .before .before .before .before .before .before .before .before .record-at .ensures in let e = c .before .before .before .before .before .before .before .before .before .before .before .found .given .1 in alike-shown _ _ _ _ (unrefused r e) (format-is r e) (λ z. c .before .before .before .before .before .before .before .before .if1 .left (c .before .before .before .before .before .before .before .before .before .mode-at .ensures ∙ z)) (c .before .before .before .before .before .before .decode-record .ensures) (search needs) (c .before .shows .ensures) ∙ c .if2 .left))
 
-returns-3 : tie.Need-returns-3 Inv-loop μ-loop
+returns-4 : tie.Need-returns-4 Inv-loop μ-loop
 unfolding firstTwin
-returns-3 c = sym (first-end _ _ _ (search needs) (search needs) (c .before .loop .inv .1))
+returns-4 c = sym (first-end _ _ _ (search needs) (search needs) (c .before .loop .inv .1))
 
 pub first-twin-spec : {M : Type 1} → statement M
 first-twin-spec =
@@ -69,13 +75,15 @@ first-twin-spec =
     enum-known-found
     enum-told
     returns
+    mode-at-requires
+    returns-2
     slice-aggregate-decode-record
     decode-record-requires
     loop-holds
     slice-aggregate-shows
     shows-requires
-    returns-2
+    returns-3
     add-earlier
     loop-less
     loop-again
-    returns-3)
+    returns-4)

@@ -1,27 +1,21 @@
 use borrow.Author.Needs.{needs}
-use mathlib.Core.Path.{sym, ap, _∙_}
-use Rattle.records.proofs.Readings.{unrefused, format-is, refused}
-use Rattle.twins.proofs.Marking.{showing-refused, shown-record}
+use borrow.Author.Tests.{not-true, not-false}
+use mathlib.Core.Path.{sym, _∙_}
+use Rattle.twins.proofs.Marking.{holding-means, showing-none, shown-picture}
 use Rattle.twins.proofs.shows.Statement.{statement}
 use Rattle.twins.proofs.shows.Tie as tie
 
-record-at-requires : tie.Need-record-at-requires
-record-at-requires c κs = search needs
-
-enum-known-found : tie.Need-enum-known-found
-enum-known-found c = search needs
-
-enum-told : tie.Need-enum-told
-enum-told c = search needs
+holds-picture-requires : tie.Need-holds-picture-requires
+holds-picture-requires c κs = search needs
 
 returns : tie.Need-returns
-returns c = sym (showing-refused _ _ _ (refused (c .before .before .record-at .ensures) (c .enum-told .given .1)))
+returns c = sym (showing-none _ _ _ _ (sym (c .before .holds-picture .ensures) ∙ not-true _ (c .if1 .taken)))
 
 slice-aggregate-decode-record : tie.Need-slice-aggregate-decode-record
 slice-aggregate-decode-record c = search needs
 
 decode-record-requires : tie.Need-decode-record-requires
-decode-record-requires c κs = let r = c .before .before .before .before .record-at .ensures in let e = c .before .before .found .given .1 in (unrefused r e, (format-is r e, search needs))
+decode-record-requires c κs = let h = holding-means _ _ _ (sym (c .before .before .holds-picture .ensures) ∙ not-false _ (c .before .if1 .left)) in (h .unrefused, (sym (h .of-format), search needs))
 
 slice-aggregate-same-picture : tie.Need-slice-aggregate-same-picture
 slice-aggregate-same-picture c = search needs
@@ -30,15 +24,13 @@ same-picture-requires : tie.Need-same-picture-requires
 same-picture-requires c κs = search needs
 
 returns-2 : tie.Need-returns-2
-returns-2 c = shown-record _ _ _ _ (unrefused (c .before .before .before .before .before .before .before .before .record-at .ensures) (c .before .before .before .before .before .before .found .given .1)) (c .before .before .before .decode-record .ensures) (search needs) (c .same-picture .ensures)
+returns-2 c = shown-picture _ _ _ _ _ (sym (c .before .before .before .before .before .before .holds-picture .ensures) ∙ not-false _ (c .before .before .before .before .before .if1 .left)) (c .before .before .before .decode-record .ensures) (search needs) (c .same-picture .ensures)
 
 pub shows-spec : {M : Type 1} → statement M
 shows-spec =
     tie.close
     (tie.spec
-    record-at-requires
-    enum-known-found
-    enum-told
+    holds-picture-requires
     returns
     slice-aggregate-decode-record
     decode-record-requires

@@ -11,19 +11,20 @@ use lib.Dec.{T, eqb, ltb, leb, eqb→eq, ltb→lt, leb→le, lt→ltb, le→leb,
 use lib.IntN.{ℤ, pos, negsuc, negℤ}
 use lib.ListN.{length, getD, List·getD-eq-default}
 use lib.Pow.{pow-pos}
-use borrow.Author.Tests.{eq-eqb}
+use borrow.Author.Tests.{eq-eqb, lt-leb}
 use Rattle.laws.specs.Pick.{both}
 use Rattle.laws.specs.Every.{every}
 use Rattle.laws.proofs.Tests.{both-left, both-right, below-at}
 use Rattle.laws.proofs.Search.{holds, both-hold, every-at, every-all, below-all, Found, some-found, some-at, distinct-apart, apart-distinct}
 use Rattle.bc6h_spec.specs.declared.Fields.{Fields}
 use Rattle.bc6h_spec.specs.Bits.{blockSize, IsBlock}
-use Rattle.bc6h_spec.specs.Layout.{precision}
+use Rattle.bc6h_spec.specs.Layout.{twoRegions, precision}
 use Rattle.bc6h_spec.specs.Regions.{regionOf}
 use Rattle.bc6h_spec.specs.Fields.{modeOf, fieldsOf, indexOf}
 use Rattle.bc6h_spec.specs.Picture.{isSigned, endpoint, palette}
 use Rattle.bc6h_spec.specs.Block.{pixelsOf}
 use Rattle.bc6h_spec.proofs.Reading.{fields-mode}
+use Rattle.copies.specs.Words.{PixelAt, ChannelDiffers, Eligible}
 use Rattle.copies.specs.Wide.{regions, lastIndex, Reaches, Differs, NoLeast, Spanning, Suited, RegionsDiffer}
 use Rattle.copies.specs.Trust.{Trusted, isBlock, isCovered, isAt, reaches, channelDiffers, differs, isLeast, leastAt, hasLeast, regionTrusted, fieldsTrusted, trusted}
 use Rattle.copies.proofs.Wide.{copies}
@@ -209,3 +210,34 @@ none-lost format x y sx sy m q d e = (t, subst (λ (b : List ℕ). T (trusted fo
 
     t : T (trusted format x)
     t = complete format x (record { suited = sx; differs = at })
+
+-- ---- demand 3 alone: an unsigned block of one region that is trusted meets its premises
+
+module _ (block : List ℕ) (t : Trusted 0 block) (from : 11 ≤ modeOf block) where
+  one-region : twoRegions (fieldsOf 0 block .mode) ≡ false
+  one-region = lt-leb (fieldsOf 0 block .mode) 10 (omega (arith, fields-mode 0 block, from))
+
+  region-0 : 0 < regions (fieldsOf 0 block .mode)
+  region-0 = rw one-region (lit< tt)
+
+  pixel-at : (n : ℕ) → Reaches (fieldsOf 0 block) 0 n → PixelAt block n
+  pixel-at n r = record { pixel = r .pixel; is-pixel = r .is-pixel; at-index = r .at-index }
+
+  pub one-region-eligible : Eligible block
+  one-region-eligible =
+      record {
+        bytes = t .suited .bytes;
+        mode-from = from;
+        mode-to = t .suited .mode-to;
+        lowest = pixel-at 0 (t .suited .spanning .lowest 0 region-0);
+        highest = pixel-at 15 (rw one-region at (t .suited .spanning .highest 0 region-0));
+      }
+
+  pub one-region-differs : ChannelDiffers false block
+  one-region-differs =
+      let d = t .differs 0 (in-block 0 block 0 region-0) in
+      record {
+        channel = d .channel;
+        is-channel = d .is-channel;
+        all-differ = λ i j hi hj. d .all-differ i j (rw one-region (omega arith)) (rw one-region (omega arith));
+      }

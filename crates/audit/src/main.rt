@@ -1,6 +1,6 @@
 // Audits the twins of a store: reads it from standard input and prints, for each record that is marked a twin, its tile, the first
 // earlier record that it equals and that record's tile, whether the two blocks are the same bytes, and whether the copies theorem
-// covers them. The last line has how many are covered, and how many by demand 3 alone.
+// covers them. The last line has how many are covered, and how many were before, by demand 3 alone.
 
 ghost use Prim.Native.Nat.{_+_, _≤_};
 ghost use lib.ListN.{length};
@@ -167,7 +167,7 @@ fn print_tally(text: &mut [u8], tally: Tally)
     let mut end = put_count(text, 0, b"same ", tally.same as u64);
     end = put_count(text, end, b" other ", tally.other as u64);
     end = put_count(text, end, b" covered ", tally.covered as u64);
-    end = put_count(text, end, b" by demand 3 ", tally.by_demand_3 as u64);
+    end = put_count(text, end, b" before ", tally.by_demand_3 as u64);
     end = put(text, end, b"\n");
     print(text, end);
 }

@@ -56,21 +56,24 @@ enum {
 /* The 48 half-float patterns of a block: pixel 0 red, green, blue, then pixel 1; pixel k is column k mod 4 of row k div 4,
  * row 0 on top. They become out[0] to out[47]; the rest of out stays.
  *
- * Answers the number in the low byte and the mode, 1 to 14, in the next. A reserved mode is done, with mode 0 and 48 zeros.
- * Refusals: 1, 2, 3 (fewer than 48 values of room), in this order.
+ * Answers the number in the low byte, the mode, 1 to 14, in the next, and in bits 16 to 23 how many of the 48 values are minus
+ * infinity, 0xFC00. A reserved mode is done, with mode 0 and 48 zeros. Refusals: 1, 2, 3 (fewer than 48 values of room), in
+ * this order, with mode and count 0.
  */
 uint32_t knot_block_pixels(const uint8_t *block, size_t block_length, uint8_t format, uint16_t *out, size_t out_length);
 
 #define KNOT_MODE(word) ((unsigned)((word) >> 8 & 0xFF))
+#define KNOT_INFINITIES(word) ((unsigned)((word) >> 16 & 0xFF))
 
 /* The values of a run of blocks of one format, in one call: what knot_block_pixels writes for each in turn, block n's values
  * from out[48 n] on. The rest of out stays.
  *
- * Answers the number; *done becomes the number of blocks, which may be 0. Refusals: 1, 9, 3 (fewer than 48 values of room a
- * block), in this order; nothing is written, not even the first block's values, and *done becomes 0.
+ * Answers the number; *done becomes the number of blocks, which may be 0, and *infinite how many of the values are minus
+ * infinity, 0xFC00. Refusals: 1, 9, 3 (fewer than 48 values of room a block), in this order; nothing is written, not even the
+ * first block's values, and *done and *infinite become 0.
  */
 uint32_t knot_blocks_pixels(const uint8_t *blocks, size_t blocks_length, uint8_t format, uint16_t *out, size_t out_length,
-                            size_t *done);
+                            size_t *done, size_t *infinite);
 
 /* The fields of a block, as stored, before any sign extension or transform:
  *

@@ -20,7 +20,7 @@ struct Time {
 extern "C" {
     fn clock_gettime(clock: i32, time: *mut Time) -> i32;
     fn knot_block_pixels(block: *const u8, block_length: usize, format: u8, out: *mut u16, out_length: usize) -> u32;
-    fn knot_blocks_pixels(blocks: *const u8, blocks_length: usize, format: u8, out: *mut u16, out_length: usize, done: *mut usize) -> u32;
+    fn knot_blocks_pixels(blocks: *const u8, blocks_length: usize, format: u8, out: *mut u16, out_length: usize, done: *mut usize, infinite: *mut usize) -> u32;
     fn knot_twin_list(store: *const u8, store_length: usize, marks: *mut u8, marks_length: usize) -> u64;
 }
 
@@ -113,8 +113,9 @@ fn runs(modes: &[&Mode]) {
             let whole = seconds(|| {
                 for _ in 0..rounds {
                     let bytes = black_box(blocks.as_flattened());
-                    let mut done = 0;
-                    unsafe { knot_blocks_pixels(bytes.as_ptr(), bytes.len(), black_box(format), out.as_mut_ptr(), out.len(), &mut done) };
+                    let (mut done, mut infinite) = (0, 0);
+                    let (lent, room) = (out.as_mut_ptr(), out.len());
+                    unsafe { knot_blocks_pixels(bytes.as_ptr(), bytes.len(), black_box(format), lent, room, &mut done, &mut infinite) };
                     assert_eq!(black_box(done), count);
                 }
             });

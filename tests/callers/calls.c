@@ -22,7 +22,11 @@ static const uint8_t B3[16] = {0x03, 0, 0, 0, 0xF8, 0x1F, 0, 0, 0, 0, 0, 0, 0, 0
 static const uint8_t B4[16] = {0x07, 0, 0, 0, 0xF8, 0x0F, 0, 0, 0, 0, 0, 0, 0, 0, 0, 0xF0};
 static const uint8_t B5[16] = {0x0B, 0, 0, 0, 0, 0x08};
 static const uint8_t B6[16] = {0x0F, 0, 0, 0, 0x80};
+static const uint8_t B7[16] = {0x2F, 0, 0, 0, 0x80};
 static const uint8_t B9[16] = {0x1E, 0, 0, 0, 0, 0, 0, 0, 0x7E, 0xA0, 0x01};
+
+/* Mode 14, red from -32768 to -32761: as signed, pixel 5 at index 1 is minus infinity, and no other value is. */
+static const uint8_t ONE[16] = {0x0F, 0, 0, 0, 0xB8, 0, 0, 0, 0xFE, 0xFF, 0x1F, 0xFF, 0xFF, 0xFF, 0xFF, 0xFF};
 
 enum { UNTOUCHED = 0xA55A };
 
@@ -62,25 +66,29 @@ static void pixels(void)
     answer = knot_block_pixels(B5, 16, KNOT_UNSIGNED, values, 64);
     CHECK(KNOT_MODE(answer) == 13 && values[0] == 0x3E03 && values[1] == 0 && values[45] == 0x3E03);
     answer = knot_block_pixels(B6, 16, KNOT_SIGNED, values, 64);
-    CHECK(KNOT_MODE(answer) == 14 && values[0] == 0xFC00 && values[45] == 0xFC00);
+    CHECK(KNOT_MODE(answer) == 14 && values[0] == 0xFC00 && values[45] == 0xFC00 && KNOT_INFINITIES(answer) == 16);
     answer = knot_block_pixels(B6, 16, KNOT_UNSIGNED, values, 64);
-    CHECK(KNOT_MODE(answer) == 14 && values[0] == 0x3E00);
+    CHECK(KNOT_MODE(answer) == 14 && values[0] == 0x3E00 && KNOT_INFINITIES(answer) == 0);
+    answer = knot_block_pixels(B7, 16, KNOT_SIGNED, values, 64);
+    CHECK(KNOT_MODE(answer) == 14 && values[0] == 0xFBFF && KNOT_INFINITIES(answer) == 0);
+    answer = knot_block_pixels(ONE, 16, KNOT_SIGNED, values, 64);
+    CHECK(answer == 0x10E00 && values[12] == 0xFBF9 && values[15] == 0xFC00 && values[16] == 0 && KNOT_INFINITIES(answer) == 1);
     answer = knot_block_pixels(B9, 16, KNOT_SIGNED, values, 64);
     CHECK(KNOT_MODE(answer) == 10 && values[21] == 0 && values[24] == 0x85D0 && values[45] == 0x85D0);
 }
 
-/* What *done then is: 99 where the call left it. */
-static size_t blocks_done;
+/* What *done and *infinite then are: 99 where the call left them. */
+static size_t blocks_done, infinite;
 
 static uint32_t run(const uint8_t *blocks, size_t length, uint8_t format, size_t room)
 {
-    blocks_done = 99;
-    return knot_blocks_pixels(blocks, length, format, values, room, &blocks_done);
+    blocks_done = infinite = 99;
+    return knot_blocks_pixels(blocks, length, format, values, room, &blocks_done, &infinite);
 }
 
 static int refused(uint32_t answer, uint32_t number)
 {
-    return answer == number && blocks_done == 0 && all(0, 160, UNTOUCHED);
+    return answer == number && blocks_done == 0 && infinite == 0 && all(0, 160, UNTOUCHED);
 }
 
 static void runs(void)
@@ -94,7 +102,7 @@ static void runs(void)
     blocks[48] = 0;
 
     untouch();
-    CHECK(knot_blocks_pixels(NULL, 0, KNOT_SIGNED, NULL, 0, &blocks_done) == KNOT_DONE && blocks_done == 0);
+    CHECK(knot_blocks_pixels(NULL, 0, KNOT_SIGNED, NULL, 0, &blocks_done, &infinite) == KNOT_DONE && blocks_done == 0);
     CHECK(run(blocks, 0, KNOT_UNSIGNED, 160) == KNOT_DONE && blocks_done == 0 && all(0, 160, UNTOUCHED));
     for (size_t length = 0; length <= 49; length++)
         for (size_t room = 0; room <= 97; room += room == 0 || room == 49 ? 46 : 1)
@@ -118,7 +126,19 @@ static void runs(void)
     CHECK(all(0, 45, 0) && values[45] == 0x7BFF && all(46, 48, 0) && values[48] == 0x3E03 && values[93] == 0x3E03 && values[95] == 0);
     CHECK(run(blocks, 32, KNOT_UNSIGNED, 97) == KNOT_DONE && blocks_done == 2 && all(96, 160, UNTOUCHED));
     CHECK(run(blocks, 48, KNOT_UNSIGNED, 144) == KNOT_DONE && blocks_done == 3 && all(96, 144, 0) && all(144, 160, UNTOUCHED));
-    CHECK(run(blocks, 48, KNOT_SIGNED, 145) == KNOT_DONE && blocks_done == 3 && all(144, 160, UNTOUCHED));
+    CHECK(run(blocks, 48, KNOT_SIGNED, 145) == KNOT_DONE && blocks_done == 3 && infinite == 0 && all(144, 160, UNTOUCHED));
+
+    for (int k = 0; k < 16; k++) {
+        blocks[k] = B7[k];
+        blocks[16 + k] = B6[k];
+        blocks[32 + k] = ONE[k];
+    }
+    untouch();
+    CHECK(refused(run(blocks, 48, 2, 47), KNOT_BAD_FORMAT) && refused(run(blocks, 48, KNOT_SIGNED, 143), KNOT_SHORT_OUTPUT));
+    CHECK(run(blocks, 16, KNOT_SIGNED, 48) == KNOT_DONE && infinite == 0);
+    CHECK(run(blocks, 32, KNOT_SIGNED, 96) == KNOT_DONE && infinite == 16);
+    CHECK(run(blocks, 48, KNOT_SIGNED, 144) == KNOT_DONE && blocks_done == 3 && infinite == 17 && values[111] == 0xFC00);
+    CHECK(run(blocks, 48, KNOT_UNSIGNED, 144) == KNOT_DONE && blocks_done == 3 && infinite == 0);
 }
 
 static void fields(void)

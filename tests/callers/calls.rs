@@ -5,7 +5,7 @@ mod knot {
     mod c {
         extern "C" {
             pub fn knot_block_pixels(block: *const u8, block_length: usize, format: u8, out: *mut u16, out_length: usize) -> u32;
-            pub fn knot_blocks_pixels(blocks: *const u8, blocks_length: usize, format: u8, out: *mut u16, out_length: usize, done: *mut usize) -> u32;
+            pub fn knot_blocks_pixels(blocks: *const u8, blocks_length: usize, format: u8, out: *mut u16, out_length: usize, done: *mut usize, infinite: *mut usize) -> u32;
             pub fn knot_block_fields(block: *const u8, block_length: usize, numbers: *mut u16, numbers_length: usize) -> u32;
             pub fn knot_record_at(store: *const u8, store_length: usize, n: usize) -> u64;
             pub fn knot_record_block(store: *const u8, store_length: usize, n: usize) -> usize;
@@ -15,17 +15,20 @@ mod knot {
         }
     }
 
-    /// The mode of the block, whose 48 values are now the first of `out`; or a refusal's number.
-    pub fn block_pixels(block: &[u8], format: u8, out: &mut [u16]) -> Result<u8, u8> {
+    /// The mode of the block, whose 48 values are now the first of `out`, and how many of them are minus infinity; or a refusal's
+    /// number.
+    pub fn block_pixels(block: &[u8], format: u8, out: &mut [u16]) -> Result<(u8, u8), u8> {
         let word = unsafe { c::knot_block_pixels(block.as_ptr(), block.len(), format, out.as_mut_ptr(), out.len()) };
-        if word as u8 == 0 { Ok((word >> 8) as u8) } else { Err(word as u8) }
+        if word as u8 == 0 { Ok(((word >> 8) as u8, (word >> 16) as u8)) } else { Err(word as u8) }
     }
 
-    /// How many blocks there are, whose values are now the first of `out`, 48 a block; or a refusal's number.
-    pub fn blocks_pixels(blocks: &[u8], format: u8, out: &mut [u16]) -> Result<usize, u8> {
-        let mut done = 0;
-        match unsafe { c::knot_blocks_pixels(blocks.as_ptr(), blocks.len(), format, out.as_mut_ptr(), out.len(), &mut done) } {
-            0 => Ok(done),
+    /// How many blocks there are, whose values are now the first of `out`, 48 a block, and how many values are minus infinity; or
+    /// a refusal's number.
+    pub fn blocks_pixels(blocks: &[u8], format: u8, out: &mut [u16]) -> Result<(usize, usize), u8> {
+        let (mut done, mut infinite) = (0, 0);
+        let (lent, room) = (out.as_mut_ptr(), out.len());
+        match unsafe { c::knot_blocks_pixels(blocks.as_ptr(), blocks.len(), format, lent, room, &mut done, &mut infinite) } {
+            0 => Ok((done, infinite)),
             number => Err(number as u8),
         }
     }
@@ -90,24 +93,25 @@ fn pixels() {
     assert_eq!(knot::block_pixels(&[0; 17], 1, &mut out), Err(2));
     assert_eq!(knot::block_pixels(&B1, 0, &mut out[..47]), Err(3));
     assert_eq!(out, [9; 50]);
-    assert_eq!(knot::block_pixels(&B2, 0, &mut out[..48]), Ok(0));
+    assert_eq!(knot::block_pixels(&B2, 0, &mut out[..48]), Ok((0, 0)));
     assert_eq!(out[..48], [0; 48]);
-    assert_eq!(knot::block_pixels(&B3, 0, &mut out), Ok(11));
+    assert_eq!(knot::block_pixels(&B3, 0, &mut out), Ok((11, 0)));
     assert_eq!((out[0], out[45], out[48], out[49]), (0, 0x7BFF, 9, 9));
-    assert_eq!(knot::block_pixels(&B6, 1, &mut out), Ok(14));
+    assert_eq!(knot::block_pixels(&B6, 1, &mut out), Ok((14, 16)));
     assert_eq!((out[0], out[1], out[45]), (0xFC00, 0, 0xFC00));
 }
 
 fn runs() {
-    let blocks = [B3, B1, B4].concat();
+    let blocks = [B3, B6, B4].concat();
     let mut out = [9; 145];
     assert_eq!(knot::blocks_pixels(&blocks[1..], 2, &mut out[..47]), Err(1));
     assert_eq!(knot::blocks_pixels(&blocks[1..], 1, &mut out[..47]), Err(9));
     assert_eq!(knot::blocks_pixels(&blocks, 1, &mut out[..143]), Err(3));
-    assert_eq!(knot::blocks_pixels(&[], 1, &mut out), Ok(0));
+    assert_eq!(knot::blocks_pixels(&[], 1, &mut out), Ok((0, 0)));
     assert_eq!(out, [9; 145]);
-    assert_eq!(knot::blocks_pixels(&blocks, 0, &mut out), Ok(3));
-    assert_eq!((out[45], out[46], out[93], out[96], out[141], out[144]), (0x7BFF, 0, 0, 0, 0x7BFF, 9));
+    assert_eq!(knot::blocks_pixels(&blocks, 1, &mut out), Ok((3, 16)));
+    assert_eq!(knot::blocks_pixels(&blocks, 0, &mut out), Ok((3, 0)));
+    assert_eq!((out[45], out[46], out[93], out[96], out[141], out[144]), (0x7BFF, 0, 0x3E00, 0, 0x7BFF, 9));
 }
 
 fn fields() {

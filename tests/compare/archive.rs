@@ -3,7 +3,7 @@ use crate::{field_numbers, for_each_class, Extent, Tally};
 
 extern "C" {
     fn knot_block_pixels(block: *const u8, block_length: usize, format: u8, out: *mut u16, out_length: usize) -> u32;
-    fn knot_blocks_pixels(blocks: *const u8, blocks_length: usize, format: u8, out: *mut u16, out_length: usize, done: *mut usize) -> u32;
+    fn knot_blocks_pixels(blocks: *const u8, blocks_length: usize, format: u8, out: *mut u16, out_length: usize, done: *mut usize, infinite: *mut usize) -> u32;
     fn knot_block_fields(block: *const u8, block_length: usize, numbers: *mut u16, room: usize) -> u32;
 }
 
@@ -14,11 +14,16 @@ fn pixels(block: &[u8], format: u8, out: &mut [u16]) -> u32 {
     unsafe { knot_block_pixels(block.as_ptr(), block.len(), format, out.as_mut_ptr(), out.len()) }
 }
 
-/// The number and the count of blocks that the call over a run answers.
-fn run_pixels(blocks: &[u8], format: u8, out: &mut [u16]) -> (u32, usize) {
-    let mut done = usize::MAX;
-    let answer = unsafe { knot_blocks_pixels(blocks.as_ptr(), blocks.len(), format, out.as_mut_ptr(), out.len(), &mut done) };
-    (answer, done)
+/// The number that the call over a run answers, how many blocks it paints, and how many values are minus infinity.
+fn run_pixels(blocks: &[u8], format: u8, out: &mut [u16]) -> (u32, usize, usize) {
+    let (mut done, mut infinite) = (usize::MAX, usize::MAX);
+    let (lent, room) = (out.as_mut_ptr(), out.len());
+    let answer = unsafe { knot_blocks_pixels(blocks.as_ptr(), blocks.len(), format, lent, room, &mut done, &mut infinite) };
+    (answer, done, infinite)
+}
+
+fn infinities(values: &[u16]) -> usize {
+    values.iter().filter(|&&value| value == 0xFC00).count()
 }
 
 fn fields(block: &[u8], numbers: &mut [u16]) -> u32 {
@@ -28,10 +33,11 @@ fn fields(block: &[u8], numbers: &mut [u16]) -> u32 {
 fn compare_pixels(block: [u8; 16], format: u8, tally: &mut Tally) {
     let mut out = [UNTOUCHED; 50];
     let answer = pixels(&block, format, &mut out);
+    let expected = oracle::pixels(block, format == 1);
     tally.compared += 1;
-    if answer != u32::from(oracle::mode(block)) << 8 {
-        tally.differs("mode", format, &block);
-    } else if out[..48] != *oracle::pixels(block, format == 1).as_flattened() {
+    if answer != u32::from(oracle::mode(block)) << 8 | (infinities(expected.as_flattened()) as u32) << 16 {
+        tally.differs("mode, or count of minus infinities", format, &block);
+    } else if out[..48] != *expected.as_flattened() {
         tally.differs("values", format, &block);
     } else if out[48..] != [UNTOUCHED; 2] {
         tally.differs("values past 48", format, &block);
@@ -43,8 +49,10 @@ fn compare_run(blocks: &[[u8; 16]], format: u8, tally: &mut Tally) {
     let mut out = vec![UNTOUCHED; 48 * blocks.len() + 3];
     let answer = run_pixels(blocks.as_flattened(), format, &mut out);
     tally.compared += 1;
-    let expected = blocks.iter().flat_map(|&block| oracle::pixels(block, format == 1)).flatten().chain([UNTOUCHED; 3]);
-    if answer != (0, blocks.len()) || !out.iter().copied().eq(expected) {
+    let mut expected: Vec<u16> = blocks.iter().flat_map(|&block| oracle::pixels(block, format == 1)).flatten().collect();
+    let answered = (0, blocks.len(), infinities(&expected));
+    expected.extend([UNTOUCHED; 3]);
+    if answer != answered || out != expected {
         tally.differs("a run of blocks", format, blocks.as_flattened());
     }
 }
@@ -101,7 +109,7 @@ fn compare_run_refusals(tally: &mut Tally) {
                 };
                 tally.compared += 1;
                 let blocks = if refusal == 0 { length / 16 } else { 0 };
-                if answer != (refusal, blocks) || out[48 * blocks..].iter().any(|&v| v != UNTOUCHED) {
+                if answer != (refusal, blocks, infinities(&out)) || out[48 * blocks..].iter().any(|&v| v != UNTOUCHED) {
                     tally.differs(&format!("refusal {refusal} of a run, {room} values"), format, &bytes[..length]);
                 }
             }

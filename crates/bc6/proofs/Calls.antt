@@ -8,9 +8,10 @@ use Rattle.bc6h_spec.specs.Answers.{done, badFormat, badBlock, shortOutput}
 use Rattle.bc6h_spec.specs.Bits.{blockSize}
 use Rattle.bc6h_spec.specs.Fields.{modeOf}
 use Rattle.bc6h_spec.specs.Picture.{valueCount}
-use Rattle.bc6h_spec.specs.Block.{pixelsOf}
+use Rattle.bc6h_spec.specs.Block.{pixelsOf, infinitiesOf}
+use Rattle.bc6.specs.declared.Shown.{Shown}
 use Rattle.bc6.specs.declared.Pixels.{Pixels}
-use Rattle.bc6.specs.Call.{refusalOf, isSigned, answerAt, Painted}
+use Rattle.bc6.specs.Call.{refusalOf, isSigned, answerAt, BlockPainted, Painted}
 
 -- ---- the checks
 
@@ -37,47 +38,54 @@ pub one-outcome : {block : List ℕ} {format : ℕ} {out : List ℕ} {r s : Pixe
     → Painted block format out r a → Painted block format out s b → (r ≡ s) × (a ≡ b)
 one-outcome p q = (p .answers ∙ sym (q .answers), p .holds ∙ sym (q .holds))
 
-number-at : (n : ℕ) (block : List ℕ) → answerAt n block .answer ≡ n
-number-at zero block = refl
-number-at (suc n) block = refl
+number-at : (n : ℕ) (block : List ℕ) (format : ℕ) → answerAt n block format .answer ≡ n
+number-at zero block format = refl
+number-at (suc n) block format = refl
 
 module _ {block : List ℕ} {format : ℕ} {out : List ℕ} {r : Pixels} {after : List ℕ} (p : Painted block format out r after) where
   -- the number that is answered is that of the first check that is met
   pub answered : r .answer ≡ refusalOf format (length block) (length out)
-  answered = ap (λ (x : Pixels). x .answer) (p .answers) ∙ number-at (refusalOf format (length block) (length out)) block
+  answered = ap (λ (x : Pixels). x .answer) (p .answers) ∙ number-at (refusalOf format (length block) (length out)) block format
 
-  -- where no check is met: the mode, the values
+  -- where no check is met: the mode, how many values are minus infinity, the values
   pub mode-told : refusalOf format (length block) (length out) ≡ done → r .mode ≡ modeOf block
   mode-told z = ap (λ (x : Pixels). x .mode) (p .answers) ∙ rw z refl
+
+  pub infinities-told : refusalOf format (length block) (length out) ≡ done → r .infinite ≡ infinitiesOf (isSigned format) block
+  infinities-told z = ap (λ (x : Pixels). x .infinite) (p .answers) ∙ rw z refl
 
   pub written : refusalOf format (length block) (length out) ≡ done → after ≡ pixelsOf (isSigned format) block ++ drop valueCount out
   written z = rw z at (p .holds)
 
-  -- where a check is met, nothing is written
+  -- where a check is met, nothing is counted and nothing is written
+  pub none-told : {n : ℕ} → refusalOf format (length block) (length out) ≡ suc n → r .infinite ≡ 0
+  none-told z = ap (λ (x : Pixels). x .infinite) (p .answers) ∙ rw z refl
+
   pub untouched : {n : ℕ} → refusalOf format (length block) (length out) ≡ suc n → after ≡ out
   untouched z = rw z at (p .holds)
 
 -- ---- what each return shows
 
 refused-at : (block : List ℕ) (format : ℕ) (out : List ℕ) (n : ℕ) (r : Pixels) → refusalOf format (length block) (length out) ≡ suc n
-    → r ≡ record { answer = suc n; mode = 0 } → Painted block format out r out
+    → r ≡ record { answer = suc n; mode = 0; infinite = 0 } → Painted block format out r out
 refused-at block format out n r z e = record { answers = e ∙ rw z refl; holds = rw z refl }
 
 module _ (block : List ℕ) (format : ℕ) (out : List ℕ) where
-  pub painted-format : (r : Pixels) → 1 < format → r ≡ record { answer = badFormat; mode = 0 } → Painted block format out r out
+  pub painted-format : (r : Pixels) → 1 < format → r ≡ record { answer = badFormat; mode = 0; infinite = 0 } → Painted block format out r out
   painted-format r h = refused-at block format out 0 r (format-refused format (length block) (length out) h)
 
-  pub painted-block : (r : Pixels) → format ≤ 1 → (length block ≡ blockSize → ⊥) → r ≡ record { answer = badBlock; mode = 0 } → Painted block format out r out
+  pub painted-block : (r : Pixels) → format ≤ 1 → (length block ≡ blockSize → ⊥) → r ≡ record { answer = badBlock; mode = 0; infinite = 0 } → Painted block format out r out
   painted-block r h s = refused-at block format out 1 r (block-refused format (length block) (length out) h s)
 
-  pub painted-output : (r : Pixels) → format ≤ 1 → length block ≡ blockSize → length out < valueCount → r ≡ record { answer = shortOutput; mode = 0 } → Painted block format out r out
+  pub painted-output : (r : Pixels) → format ≤ 1 → length block ≡ blockSize → length out < valueCount → r ≡ record { answer = shortOutput; mode = 0; infinite = 0 } → Painted block format out r out
   painted-output r h s l = refused-at block format out 2 r (output-refused format (length block) (length out) h s l)
 
-  pub painted-done : (m : ℕ) (values after : List ℕ) → format ≤ 1 → length block ≡ blockSize → valueCount ≤ length out
-      → m ≡ modeOf block → values ≡ pixelsOf (isSigned format) block → after ≡ values ++ drop valueCount out
-      → Painted block format out (record { answer = done; mode = m }) after
-  painted-done m values after h s l em ev ea =
+  pub painted-done : (shown : Shown) (after : List ℕ) → format ≤ 1 → length block ≡ blockSize → valueCount ≤ length out
+      → BlockPainted block (isSigned format) out shown after
+      → Painted block format out (record { answer = done; mode = shown .mode; infinite = shown .infinite }) after
+  painted-done shown after h s l p =
+      let ok = done-when format (length block) (length out) h s l in
       record {
-        answers = rw (done-when format (length block) (length out) h s l, em) refl;
-        holds = rw (done-when format (length block) (length out) h s l) (ea ∙ ap (λ (x : List ℕ). x ++ drop valueCount out) ev);
+        answers = rw ok (ap (λ (x : Shown). record { answer = done; mode = x .mode; infinite = x .infinite }) (p .shows));
+        holds = rw ok (p .holds);
       }

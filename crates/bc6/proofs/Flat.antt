@@ -7,50 +7,62 @@ use native.Mathlib.Nat.{mod-lt}
 use native.Mathlib.Omega.{arith}
 use lib.Dec.{lit<, eqb}
 use lib.ListN.{length, getD, set, drop}
-use lib.Seq.{ext-getD}
 use Rattle.laws.specs.Pick.{pick}
 use Rattle.laws.specs.Bit.{bit}
 use Rattle.laws.specs.Made.{made}
-use Rattle.laws.proofs.Rows.{made-same, made-store, getD-made, length-made}
+use Rattle.laws.proofs.Rows.{made-same, made-each, getD-made}
 use Rattle.bc6h_spec.specs.declared.Fields.{Fields}
 use Rattle.bc6h_spec.specs.Layout.{twoRegions, precision}
 use Rattle.bc6h_spec.specs.Regions.{regionOf, mapOf}
 use Rattle.bc6h_spec.specs.Fields.{indexOf, Valid}
+use Rattle.bc6h_spec.specs.Half.{minusInfinity}
 use Rattle.bc6h_spec.specs.Picture.{weights8, weights16, weights, between, palette, value, picture}
+use Rattle.bc6_half.specs.declared.Half.{Half}
+use Rattle.bc6_half.specs.Halves.{marked}
 use Rattle.bc6_palette.specs.declared.Colour.{Colour}
 use Rattle.bc6_palette.specs.Colours.{endOf, unquantizedOf, tripleOf, entryOf}
-use Rattle.bc6.specs.Triples.{tripleAt, inTriples, valueAt, flat, onePixel, twoPixel, IndicesBelow}
+use Rattle.bc6_paint.proofs.Link.{indices-16, indices-8}
+use Rattle.bc6.specs.Triples.{tripleAt, inTriples, noHalf, halfAt, valueAt, flat, Marked, onePixel, twoPixel}
 
 -- ---- values from triples
 
-channel : (values : List ℕ) (k c : ℕ) → c < 3 → getD (tripleAt values k) c 0 ≡ getD values (3 * k + c) 0
+channel : (values : List ℕ) (k c : ℕ) → c < 3 → getD (tripleAt values k) c noHalf ≡ marked (getD values (3 * k + c) 0)
 unfolding tripleAt
-channel values k zero h = let e : 3 * k ≡ 3 * k + 0 = omega arith in ap (λ (j : ℕ). getD values j 0) e
+channel values k zero h = let e : 3 * k ≡ 3 * k + 0 = omega arith in ap (λ (j : ℕ). marked (getD values j 0)) e
 channel values k (suc zero) h = refl
 channel values k (suc (suc zero)) h = refl
 channel values k (suc (suc (suc c))) h = absurd (omega arith)
 
+half-triples : (values : List ℕ) (j : ℕ) → j < 48 → halfAt (inTriples values) j ≡ marked (getD values j 0)
+unfolding inTriples halfAt
+half-triples values j lt =
+    let back : 3 * (j / 3) + j % 3 ≡ j = omega arith in
+    ap (λ (t : List Half). getD t (j % 3) noHalf) (getD-made (tripleAt values) 16 (j / 3) [] (omega arith))
+    ∙ channel values (j / 3) (j % 3) (mod-lt j (lit< tt))
+    ∙ ap (λ (n : ℕ). marked (getD values n 0)) back
+
+value-triples : (values : List ℕ) (j : ℕ) → j < 48 → valueAt (inTriples values) j ≡ getD values j 0
+unfolding valueAt marked
+value-triples values j lt = ap (λ (h : Half). h .pattern) (half-triples values j lt)
+
+-- each value of the triples comes with whether it is minus infinity
+pub triples-marked : (values : List ℕ) → Marked (inTriples values)
+triples-marked values j lt = half-triples values j lt ∙ ap marked (sym (value-triples values j lt))
+
 -- the triples of 48 values, laid out flat, are the values
 pub flat-triples : (values : List ℕ) → length values ≡ 48 → flat (inTriples values) ≡ values
-unfolding flat inTriples valueAt
+unfolding flat
 flat-triples values h =
-    ext-getD 0 _ _ (length-made (valueAt (inTriples values)) 48 ∙ sym h)
-    (λ j l.
-    let lt : j < 48 = omega (arith, length-made (valueAt (inTriples values)) 48) in
-    let back : 3 * (j / 3) + j % 3 ≡ j = omega arith in
-    getD-made (valueAt (inTriples values)) 48 j 0 lt
-    ∙ ap (λ (t : List ℕ). getD t (j % 3) 0) (getD-made (tripleAt values) 16 (j / 3) [] (omega arith))
-    ∙ channel values (j / 3) (j % 3) (mod-lt j (lit< tt))
-    ∙ ap (λ (n : ℕ). getD values n 0) back)
+    sym (made-each (valueAt (inTriples values)) values 48 h (λ j lt. sym (value-triples values j lt)))
 
 -- ---- the triples of a picture
 
 -- red, green and blue of a region's palette at an index
-shown : Bool → Fields → ℕ → ℕ → List ℕ
-shown s f r i = palette s f r 0 i ∷ palette s f r 1 i ∷ palette s f r 2 i ∷ []
+shown : Bool → Fields → ℕ → ℕ → List Half
+shown s f r i = marked (palette s f r 0 i) ∷ marked (palette s f r 1 i) ∷ marked (palette s f r 2 i) ∷ []
 
 -- the palette of a region, as the code makes it
-unfoldable colours : Bool → Fields → ℕ → List ℕ → ℕ → List ℕ
+unfoldable colours : Bool → Fields → ℕ → List ℕ → ℕ → List Half
 colours s f r ws =
     let p = precision (f .mode) in
     entryOf s (unquantizedOf s p (endOf s f (2 * r))) (unquantizedOf s p (endOf s f (2 * r + 1))) ws
@@ -76,22 +88,16 @@ triple-shown s f k h =
     let r = ap (λ (j : ℕ). getD (picture s f) j 0) zero-at ∙ pixel-value s f k 0 h (lit< tt) in
     let g = pixel-value s f k 1 h (lit< tt) in
     let b = pixel-value s f k 2 h (lit< tt) in
-    λ i. r i ∷ g i ∷ b i ∷ []
+    λ i. marked (r i) ∷ marked (g i) ∷ marked (b i) ∷ []
 
 module _ (s : Bool) (f : Fields) (v : Valid f) where
-  pub indices-16 : twoRegions (f .mode) ≡ false → IndicesBelow 16 (f .indices)
-  indices-16 t k h = subst (λ (b : Bool). indexOf f k < 2 ^ pick b 3 4) t (v .index-fits k h)
-
-  pub indices-8 : twoRegions (f .mode) ≡ true → IndicesBelow 8 (f .indices)
-  indices-8 t k h = subst (λ (b : Bool). indexOf f k < 2 ^ pick b 3 4) t (v .index-fits k h)
-
   one-shown : twoRegions (f .mode) ≡ false → made (onePixel (made (colours s f 0 weights16) 16) (f .indices)) 16 ≡ inTriples (picture s f)
   unfolding inTriples onePixel regionOf
   one-shown t =
       let ws : weights16 ≡ weights (f .mode) = sym (ap (λ (b : Bool). pick b weights8 weights16) t) in
       made-same (onePixel (made (colours s f 0 weights16) 16) (f .indices)) (tripleAt (picture s f)) 16
       (λ k h.
-      getD-made (colours s f 0 weights16) 16 (indexOf f k) [] (indices-16 t k h)
+      getD-made (colours s f 0 weights16) 16 (indexOf f k) [] (indices-16 s f v t k h)
       ∙ colours-are s f 0 (indexOf f k) weights16 ws
       ∙ ap (λ (b : Bool). shown s f (pick b (bit (mapOf (f .partition)) k) 0) (indexOf f k)) (sym t)
       ∙ sym (triple-shown s f k h))
@@ -110,23 +116,23 @@ module _ (s : Bool) (f : Fields) (v : Valid f) where
       let map = mapOf (f .partition) in
       made-same (twoPixel (made (colours s f 0 weights8) 8) (made (colours s f 1 weights8) 8) map (f .indices)) (tripleAt (picture s f)) 16
       (λ k h.
-      by-region (indexOf f k) (bit map k) (indices-8 t k h) (mod-lt _ (lit< tt)) ws
+      by-region (indexOf f k) (bit map k) (indices-8 s f v t k h) (mod-lt _ (lit< tt)) ws
       ∙ ap (λ (b : Bool). shown s f (pick b (bit map k) 0) (indexOf f k)) (sym t)
       ∙ sym (triple-shown s f k h))
 
   -- what the code paints, of its endpoints and its bits
   module _ (p : ℕ) (a b : Colour) (ep : p ≡ precision (f .mode)) (ea : a ≡ endOf s f 0) (eb : b ≡ endOf s f 1) where
-    pub one-painted : (palette q : List (List ℕ)) → twoRegions (f .mode) ≡ false
+    pub one-painted : (palette q : List (List Half)) → twoRegions (f .mode) ≡ false
         → palette ≡ made (entryOf s (unquantizedOf s p a) (unquantizedOf s p b) weights16) 16
         → q ≡ made (onePixel palette (f .indices)) 16 → q ≡ inTriples (picture s f)
     unfolding colours
     one-painted palette q t e eq =
         eq
-        ∙ ap (λ (l : List (List ℕ)). made (onePixel l (f .indices)) 16) e
+        ∙ ap (λ (l : List (List Half)). made (onePixel l (f .indices)) 16) e
         ∙ (λ i. made (onePixel (made (entryOf s (unquantizedOf s (ep i) (ea i)) (unquantizedOf s (ep i) (eb i)) weights16) 16) (f .indices)) 16)
         ∙ one-shown t
 
-    pub two-painted : (c d : Colour) (p₀ p₁ q : List (List ℕ)) (map : ℕ) → twoRegions (f .mode) ≡ true → c ≡ endOf s f 2 → d ≡ endOf s f 3
+    pub two-painted : (c d : Colour) (p₀ p₁ q : List (List Half)) (map : ℕ) → twoRegions (f .mode) ≡ true → c ≡ endOf s f 2 → d ≡ endOf s f 3
         → p₀ ≡ made (entryOf s (unquantizedOf s p a) (unquantizedOf s p b) weights8) 8
         → p₁ ≡ made (entryOf s (unquantizedOf s p c) (unquantizedOf s p d) weights8) 8
         → map ≡ mapOf (f .partition) → q ≡ made (twoPixel p₀ p₁ map (f .indices)) 16 → q ≡ inTriples (picture s f)
@@ -137,21 +143,25 @@ module _ (s : Bool) (f : Fields) (v : Valid f) where
         ∙ (λ i. made (twoPixel (made (entryOf s (unquantizedOf s (ep i) (ea i)) (unquantizedOf s (ep i) (eb i)) weights8) 8) (made (entryOf s (unquantizedOf s (ep i) (ec i)) (unquantizedOf s (ep i) (ed i)) weights8) 8) (mapOf (f .partition)) (f .indices)) 16)
         ∙ two-shown t
 
--- ---- a turn of the loop that writes: three stores
+-- ---- a turn of the loop that writes: what is stored, and what is counted
 
-at-place : (triples : List (List ℕ)) (k c j : ℕ) → j / 3 ≡ k → j % 3 ≡ c → getD (getD triples k []) c 0 ≡ valueAt triples j
-unfolding valueAt
-at-place triples k c j d m = rw (d, m)
+module _ (triples : List (List Half)) (k c : ℕ) (h : c < 3) where
+  abbrev half : Half
+  half = getD (getD triples k []) c noHalf
 
-pub three-stored : (triples : List (List ℕ)) (out₀ out : List ℕ) (k : ℕ) → k < 16 → 48 ≤ length out₀
-    → out ≡ made (valueAt triples) (3 * k) ++ drop (3 * k) out₀
-    → set (set (set out (3 * k) (getD (getD triples k []) 0 0)) (3 * k + 1) (getD (getD triples k []) 1 0)) (3 * k + 2) (getD (getD triples k []) 2 0)
-    ≡ made (valueAt triples) (3 * (k + 1)) ++ drop (3 * (k + 1)) out₀
-three-stored triples out₀ out k h r e =
-    let f = valueAt triples in
-    let two : 3 * k + 1 + 1 ≡ 3 * k + 2 = omega arith in
-    let end : 3 * k + 2 + 1 ≡ 3 * (k + 1) = omega arith in
-    let e1 = made-store f out₀ out _ (3 * k) _ e refl (at-place triples k 0 (3 * k) (omega arith) (omega arith)) (omega arith) in
-    let e2 = made-store f out₀ _ _ (3 * k + 1) _ e1 refl (at-place triples k 1 (3 * k + 1) (omega arith) (omega arith)) (omega arith) in
-    let e3 = made-store f out₀ _ _ (3 * k + 2) _ (e2 ∙ ap (λ (n : ℕ). made f n ++ drop n out₀) two) refl (at-place triples k 2 (3 * k + 2) (omega arith) (omega arith)) (omega arith) in
-    e3 ∙ ap (λ (n : ℕ). made f n ++ drop n out₀) end
+  at-place : half ≡ halfAt triples (3 * k + c)
+  unfolding halfAt
+  at-place =
+      let d : (3 * k + c) / 3 ≡ k = omega arith in
+      let m : (3 * k + c) % 3 ≡ c = omega arith in
+      λ i. getD (getD triples (sym d i) []) (sym m i) noHalf
+
+  pub stored : half .pattern ≡ valueAt triples (3 * k + c)
+  unfolding valueAt
+  stored = ap (λ (x : Half). x .pattern) at-place
+
+  pub counted : Marked triples → k < 16 → (t : ℕ) → t ≡ pick (half .infinite) 1 0 → t ≡ pick (eqb (half .pattern) minusInfinity) 1 0
+  unfolding marked
+  counted marks l t e =
+      e ∙ ap (λ (x : Half). pick (x .infinite) 1 0) (at-place ∙ marks (3 * k + c) (omega arith))
+      ∙ ap (λ (v : ℕ). pick (eqb v minusInfinity) 1 0) (sym stored)

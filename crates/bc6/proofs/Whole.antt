@@ -1,20 +1,33 @@
 -- From a block's fields to its triples. Assumes nothing.
 use mathlib.Core.Path.{_≡_, _∙_, refl, sym, ap, subst}
-use mathlib.Core.Bool.{Bool}
+use mathlib.Core.Bool.{Bool, true, false}
 use mathlib.Core.List.{List, _++_}
 use Prim.Native.Nat.{ℕ, _≤_}
 use native.Mathlib.Omega.{arith}
-use lib.ListN.{replicate, drop}
-use Rattle.laws.specs.Made.{made}
+use lib.ListN.{drop, replicate}
+use Rattle.laws.specs.Made.{made, countOf}
 use Rattle.bc6h_spec.specs.declared.Fields.{Fields}
 use Rattle.bc6h_spec.specs.Fields.{modeOf, fieldsOf, Valid}
+use Rattle.bc6h_spec.specs.Half.{minusInfinity}
 use Rattle.bc6h_spec.specs.Picture.{picture}
-use Rattle.bc6h_spec.specs.Block.{pixelsOf}
+use Rattle.bc6h_spec.specs.Block.{pixelsOf, infinitiesOf}
 use Rattle.bc6h_spec.proofs.Reading.{fields-valid, fields-mode}
 use Rattle.bc6h_spec.proofs.Pixel.{block-shows}
+use Rattle.bc6h_spec.proofs.Shown.{unsigned-finite}
+use Rattle.bc6_half.specs.declared.Half.{Half}
+use Rattle.bc6_half.specs.Halves.{marked}
 use Rattle.bc6_palette.specs.Colours.{black}
+use Rattle.bc6_paint.specs.Tones.{PaintedAs}
 use Rattle.bc6.specs.Triples.{tripleAt, inTriples}
-use Rattle.bc6.specs.Call.{Shown}
+use Rattle.bc6.specs.Call.{BlockPainted}
+
+-- by the values that were written and counted
+pub shown-values : (block : List ℕ) (s : Bool) (out : List ℕ) (m n : ℕ) (values after : List ℕ) → m ≡ modeOf block → values ≡ pixelsOf s block
+    → PaintedAs values out n after → BlockPainted block s out (record { mode = m; infinite = n }) after
+unfolding infinitiesOf
+shown-values block s out m n values after em ev w =
+    let count = w .counts ∙ ap (countOf minusInfinity) ev in
+    record { shows = λ i. record { mode = em i; infinite = count i }; holds = w .holds ∙ ap (λ (l : List ℕ). l ++ drop 48 out) ev }
 
 module _ (s : Bool) (block : List ℕ) where
   pub pixels-none : modeOf block ≡ 0 → pixelsOf s block ≡ replicate 48 0
@@ -32,30 +45,29 @@ module _ (s : Bool) (block : List ℕ) where
     valid n = subst Valid (sym e) (fields-valid block (some n))
 
     pub reserved : f .mode ≡ 0 → replicate 16 black ≡ inTriples (pixelsOf s block)
-    unfolding inTriples tripleAt made
+    unfolding inTriples tripleAt made marked
     reserved z = rw (pixels-none (sym mode-is ∙ z)) refl
 
-    pub decoded : (q : List (List ℕ)) → (f .mode ≡ 0 → ⊥) → q ≡ inTriples (picture s f) → q ≡ inTriples (pixelsOf s block)
+    pub decoded : (q : List (List Half)) → (f .mode ≡ 0 → ⊥) → q ≡ inTriples (picture s f) → q ≡ inTriples (pixelsOf s block)
     decoded q n h = h ∙ ap (λ (x : Fields). inTriples (picture s x)) e ∙ ap inTriples (sym (block-shows s block (some n)))
 
     -- what is shown of the block, by its fields
-    pub shown-black : (out after : List ℕ) → f .mode ≡ 0 → after ≡ replicate 48 0 ++ drop 48 out → Shown block s out 0 after
+    pub shown-black : (out after : List ℕ) → f .mode ≡ 0 → after ≡ replicate 48 0 ++ drop 48 out
+        → BlockPainted block s out (record { mode = f .mode; infinite = 0 }) after
+    unfolding countOf
     shown-black out after z h =
-        let n : modeOf block ≡ 0 = sym mode-is ∙ z in
-        record { mode-is = sym n; holds = h ∙ ap (λ (l : List ℕ). l ++ drop 48 out) (sym (pixels-none n)) }
+        shown-values block s out (f .mode) 0 (replicate 48 0) after mode-is (sym (pixels-none (sym mode-is ∙ z))) (record { holds = h; counts = refl })
 
-    pub shown-picture : (b : Bool) → s ≡ b → (out after : List ℕ) → (f .mode ≡ 0 → ⊥) → after ≡ picture b f ++ drop 48 out → Shown block s out (f .mode) after
-    shown-picture b q out after n h =
-        record {
-          mode-is = mode-is;
-          holds = h ∙ ap (λ (l : List ℕ). l ++ drop 48 out) (ap (λ (x : Bool). picture x f) (sym q) ∙ ap (picture s) e ∙ sym (block-shows s block (some n)));
-        }
+    pub shown-picture : (b : Bool) → s ≡ b → (out after : List ℕ) (m : ℕ) → (f .mode ≡ 0 → ⊥) → PaintedAs (picture b f) out m after
+        → BlockPainted block s out (record { mode = f .mode; infinite = m }) after
+    shown-picture b q out after m n w =
+        shown-values block s out (f .mode) m (picture b f) after mode-is
+        (ap (λ (x : Bool). picture x f) (sym q) ∙ ap (picture s) e ∙ sym (block-shows s block (some n))) w
+
+    pub shown-unsigned : s ≡ false → (out after : List ℕ) → (f .mode ≡ 0 → ⊥) → after ≡ picture false f ++ drop 48 out
+        → BlockPainted block s out (record { mode = f .mode; infinite = 0 }) after
+    shown-unsigned q out after n h = shown-picture false q out after 0 n (record { holds = h; counts = sym (unsigned-finite f (valid n)) })
 
 -- a loop that wrote j zeros, up to 48
 pub all-black : (l out : List ℕ) (j : ℕ) → out ≡ replicate j 0 ++ drop j l → j ≤ 48 → 48 ≤ j → out ≡ replicate 48 0 ++ drop 48 l
 all-black l out j e h k = let same : j ≡ 48 = omega arith in rw same at e
-
--- by the values that were laid out
-pub shown-values : (block : List ℕ) (s : Bool) (out : List ℕ) (m : ℕ) (values after : List ℕ) → m ≡ modeOf block → values ≡ pixelsOf s block → after ≡ values ++ drop 48 out
-    → Shown block s out m after
-shown-values block s out m values after em ev ea = record { mode-is = em; holds = ea ∙ ap (λ (l : List ℕ). l ++ drop 48 out) ev }

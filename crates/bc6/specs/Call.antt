@@ -10,7 +10,8 @@ use Rattle.bc6h_spec.specs.Answers.{done, badFormat, badBlock, shortOutput}
 use Rattle.bc6h_spec.specs.Bits.{blockSize}
 use Rattle.bc6h_spec.specs.Fields.{modeOf}
 use Rattle.bc6h_spec.specs.Picture.{valueCount}
-use Rattle.bc6h_spec.specs.Block.{pixelsOf}
+use Rattle.bc6h_spec.specs.Block.{pixelsOf, infinitiesOf}
+use Rattle.bc6.specs.declared.Shown.{Shown}
 use Rattle.bc6.specs.declared.Pixels.{Pixels}
 
 -- "pixels of a block: 1, 2, 3": the first check that is met, from the format, the block's length and the room
@@ -22,9 +23,10 @@ abbrev pub isSigned : ℕ → Bool
 isSigned format = eqb format 1
 
 -- "It answers the mode number. A reserved mode is done, with mode number 0; a refusal has mode number 0 too."
-abbrev pub answerAt : ℕ → List ℕ → Pixels
-answerAt zero block = record { answer = done; mode = modeOf block }
-answerAt (suc n) block = record { answer = suc n; mode = 0 }
+-- "answer a count: how many of the values written equal 0xFC00. A reserved block and a refusal count zero."
+abbrev pub answerAt : ℕ → List ℕ → ℕ → Pixels
+answerAt zero block format = record { answer = done; mode = modeOf block; infinite = infinitiesOf (isSigned format) block }
+answerAt (suc n) block format = record { answer = suc n; mode = 0; infinite = 0 }
 
 -- "A refusal changes no lent byte or value. Done writes exactly the first 48 values ..; the rest stays."
 abbrev pub valuesAt : ℕ → List ℕ → ℕ → List ℕ → List ℕ
@@ -33,10 +35,10 @@ valuesAt (suc n) block format out = out
 
 -- The statement of the call: its answer r, and the lent values `after`.
 pub record Painted (block : List ℕ) (format : ℕ) (out : List ℕ) (r : Pixels) (after : List ℕ) : Type 0 where
-  pub answers : r ≡ answerAt (refusalOf format (length block) (length out)) block
+  pub answers : r ≡ answerAt (refusalOf format (length block) (length out)) block format
   pub holds : after ≡ valuesAt (refusalOf format (length block) (length out)) block format out
 
--- What is shown of a block whose input was checked: its mode, and its values in the first of the lent ones.
-pub record Shown (block : List ℕ) (signed : Bool) (out : List ℕ) (mode : ℕ) (after : List ℕ) : Type 0 where
-  pub mode-is : mode ≡ modeOf block
+-- What is shown of a block whose input was checked: its mode, how many values are minus infinity, and the values in the first of the lent ones.
+pub record BlockPainted (block : List ℕ) (signed : Bool) (out : List ℕ) (r : Shown) (after : List ℕ) : Type 0 where
+  pub shows : r ≡ record { mode = modeOf block; infinite = infinitiesOf signed block }
   pub holds : after ≡ pixelsOf signed block ++ drop valueCount out

@@ -1,4 +1,5 @@
 // The picture of a block, and the pixels call.
+use bc6_half::Half;
 use bc6_palette::Colour;
 use bc6_palette::ModeBits;
 use bc6h_spec::Answer;
@@ -16,11 +17,12 @@ ghost use Rattle.bc6h_spec.specs.Layout.{twoRegions};
 ghost use Rattle.bc6h_spec.specs.Fields.{Valid};
 ghost use Rattle.bc6h_spec.specs.Picture.{picture};
 ghost use Rattle.bc6h_spec.specs.Block.{pixelsOf};
-ghost use Rattle.bc6.specs.Triples.{onePixel, twoPixel, IndicesBelow, flat, inTriples};
-ghost use Rattle.bc6.specs.Call.{Shown, Painted};
+ghost use Rattle.bc6_paint.specs.Tones.{IndicesBelow, PaintedAs};
+ghost use Rattle.bc6.specs.Triples.{onePixel, twoPixel, flat, inTriples, Marked};
+ghost use Rattle.bc6.specs.Call.{BlockPainted, Painted};
 
 // Each pixel has the palette's colour at its index.
-fn paint_one(palette: [[u16; 3]; 16], indices: [u8; 16]) -> [[u16; 3]; 16]
+fn paint_one(palette: [[Half; 3]; 16], indices: [u8; 16]) -> [[Half; 3]; 16]
     requires { ⌜ IndicesBelow 16 indices ⌝ }
     ensures { λ r. ⌜ r ≡ made (onePixel palette indices) 16 ⌝ }
 {
@@ -35,11 +37,11 @@ fn paint_one(palette: [[u16; 3]; 16], indices: [u8; 16]) -> [[u16; 3]; 16]
 
 // Each pixel has its region's colour at its index.
 fn paint_two(
-    palette0: [[u16; 3]; 8],
-    palette1: [[u16; 3]; 8],
+    palette0: [[Half; 3]; 8],
+    palette1: [[Half; 3]; 8],
     partition: Subset2Map,
     indices: [u8; 16],
-) -> [[u16; 3]; 16]
+) -> [[Half; 3]; 16]
     requires { ⌜ IndicesBelow 8 indices ⌝ }
     ensures { λ r. ⌜ r ≡ made (twoPixel palette0 palette1 (partition .«subset_indexes») indices) 16 ⌝ }
 {
@@ -56,7 +58,7 @@ fn paint_two(
     picture
 }
 
-fn decode_one(f: Fields, signed: bool) -> [[u16; 3]; 16]
+fn decode_one(f: Fields, signed: bool) -> [[Half; 3]; 16]
     requires { ⌜ Valid f × (twoRegions (f .mode) ≡ false) ⌝ }
     ensures { λ r. ⌜ r ≡ inTriples (picture signed f) ⌝ }
 {
@@ -68,7 +70,7 @@ fn decode_one(f: Fields, signed: bool) -> [[u16; 3]; 16]
     paint_one(palette, indices)
 }
 
-fn decode_two(f: Fields, signed: bool) -> [[u16; 3]; 16]
+fn decode_two(f: Fields, signed: bool) -> [[Half; 3]; 16]
     requires { ⌜ Valid f × (twoRegions (f .mode) ≡ true) ⌝ }
     ensures { λ r. ⌜ r ≡ inTriples (picture signed f) ⌝ }
 {
@@ -85,7 +87,7 @@ fn decode_two(f: Fields, signed: bool) -> [[u16; 3]; 16]
 }
 
 // The sixteen triples of a block; a reserved mode shows zeros.
-pub fn decode_bc6_block(block: &[u8], signed: bool) -> [[u16; 3]; 16]
+pub fn decode_bc6_block(block: &[u8], signed: bool) -> [[Half; 3]; 16]
     requires { ⌜ length (now block) ≡ 16 ⌝ }
     ensures { λ r. ⌜ r ≡ inTriples (pixelsOf signed (now (block .entry))) ⌝ }
 {
@@ -101,27 +103,44 @@ pub fn decode_bc6_block(block: &[u8], signed: bool) -> [[u16; 3]; 16]
     decode_one(f, signed)
 }
 
-fn write_values(picture: [[u16; 3]; 16], out: &mut [u16])
-    requires { ⌜ 48 ≤ length (now out) ⌝ }
-    ensures { λ r. ⌜ now (out .exit) ≡ flat picture ++ drop 48 (now (out .entry)) ⌝ }
+// Writes the values, and answers how many of them are minus infinity.
+fn write_values(picture: [[Half; 3]; 16], out: &mut [u16]) -> u16
+    requires { ⌜ Marked picture × (48 ≤ length (now out)) ⌝ }
+    ensures { λ r. ⌜ PaintedAs (flat picture) (now (out .entry)) r (now (out .exit)) ⌝ }
 {
+    let mut infinite = 0u16;
     for k in 0..16usize {
         let at = 3 * k;
-        out[at] = picture[k][0];
-        out[at + 1] = picture[k][1];
-        out[at + 2] = picture[k][2];
+        let pixel = picture[k];
+        let red = pixel[0];
+        let green = pixel[1];
+        let blue = pixel[2];
+        out[at] = red.pattern;
+        out[at + 1] = green.pattern;
+        out[at + 2] = blue.pattern;
+        infinite = infinite + red.counted() + green.counted() + blue.counted();
     }
+    infinite
+}
+
+// What a block shows: its mode, and how many of its values are minus infinity.
+pub struct Shown {
+    pub mode: u8,
+    pub infinite: u16,
 }
 
 // The plain form of `show_block`, by palettes and the picture, as the document reads.
-pub fn plain_block(block: &[u8], signed: bool, out: &mut [u16]) -> u8
+pub fn plain_block(block: &[u8], signed: bool, out: &mut [u16]) -> Shown
     requires { ⌜ (length (now block) ≡ 16) × (48 ≤ length (now out)) ⌝ }
-    ensures { λ r. ⌜ Shown (now (block .entry)) signed (now (out .entry)) r (now (out .exit)) ⌝ }
+    ensures { λ r. ⌜ BlockPainted (now (block .entry)) signed (now (out .entry)) r (now (out .exit)) ⌝ }
 {
     let mode = bc6_fields::extract_mode(BitStream::new(block));
     let picture = decode_bc6_block(block, signed);
-    write_values(picture, out);
-    mode as u8
+    let infinite = write_values(picture, out);
+    Shown {
+        mode: mode as u8,
+        infinite,
+    }
 }
 
 // 48 zeros.
@@ -134,44 +153,49 @@ fn write_black(out: &mut [u16])
     }
 }
 
-// The values of a block, each worked out from its endpoints and index: what the pixels call writes. The mode comes back.
-pub fn show_block(block: &[u8], signed: bool, out: &mut [u16]) -> u8
+// The values of a block, each worked out from its endpoints and index: what the pixels call writes.
+pub fn show_block(block: &[u8], signed: bool, out: &mut [u16]) -> Shown
     requires { ⌜ (length (now block) ≡ 16) × (48 ≤ length (now out)) ⌝ }
-    ensures { λ r. ⌜ Shown (now (block .entry)) signed (now (out .entry)) r (now (out .exit)) ⌝ }
+    ensures { λ r. ⌜ BlockPainted (now (block .entry)) signed (now (out .entry)) r (now (out .exit)) ⌝ }
 {
     let f = bc6_fields::fields_of(block);
     let mode = f.mode;
     if mode == 0 {
         write_black(out);
-        return 0;
+        return Shown { mode, infinite: 0 };
     }
     if mode <= 10 {
         if signed {
-            bc6_picture::show_two_signed(f, out);
-            return mode;
+            let infinite = bc6_picture::show_two_signed(f, out);
+            return Shown { mode, infinite };
         }
         bc6_picture::show_two_unsigned(f, out);
-        return mode;
+        return Shown { mode, infinite: 0 };
     }
     if signed {
-        bc6_picture::show_one_signed(f, out);
-        return mode;
+        let infinite = bc6_picture::show_one_signed(f, out);
+        return Shown { mode, infinite };
     }
     bc6_picture::show_one_unsigned(f, out);
-    mode
+    Shown { mode, infinite: 0 }
 }
 
 // What the pixels call answers.
 pub struct Pixels {
     pub answer: u8,
     pub mode: u8,
+    pub infinite: u16,
 }
 
 impl Pixels {
     fn refused(answer: u8) -> Self
-        ensures { λ r. ⌜ r ≡ record { answer = answer; mode = 0 } ⌝ }
+        ensures { λ r. ⌜ r ≡ record { answer = answer; mode = 0; infinite = 0 } ⌝ }
     {
-        Self { answer, mode: 0 }
+        Self {
+            answer,
+            mode: 0,
+            infinite: 0,
+        }
     }
 }
 
@@ -188,9 +212,10 @@ pub fn block_pixels(block: &[u8], format: u8, out: &mut [u16]) -> Pixels
     if out.len() < Block::VALUES {
         return Pixels::refused(Answer::SHORT_OUTPUT);
     }
-    let mode = show_block(block, format == 1, out);
+    let shown = show_block(block, format == 1, out);
     Pixels {
         answer: Answer::DONE,
-        mode,
+        mode: shown.mode,
+        infinite: shown.infinite,
     }
 }

@@ -5,15 +5,16 @@ use Prim.Native.Nat.{ℕ, zero, suc, _*_, _/_, _%_, _≤_, _<_}
 use lib.ListN.{length, take, drop}
 use lib.Seq.{take-at}
 use borrow.Author.Tests.{lt-ltb, le-ltb, eq-eqb, ne-eqb}
+use Rattle.laws.specs.Made.{made, total}
 use Rattle.bc6h_spec.specs.Answers.{done, badFormat, shortOutput, unevenBlocks}
-use Rattle.bc6h_spec.specs.Block.{pixelsOf}
+use Rattle.bc6h_spec.specs.Block.{pixelsOf, infinitiesOf}
 use Rattle.bc6h_spec.proofs.Values.{length-pixels}
 use Rattle.bc6.specs.declared.Pixels.{Pixels}
 use Rattle.bc6.specs.Call.{refusalOf, isSigned, Painted}
 use Rattle.bc6.proofs.Calls.{written}
 use Rattle.bc6_blocks.specs.declared.BlocksPixels.{BlocksPixels}
-use Rattle.bc6_blocks.specs.Run.{blocksIn, blockAt, shownAt, runOf, runRefusal, runAnswer, runValues, RunPainted}
-use Rattle.bc6_blocks.proofs.Runs.{run-at}
+use Rattle.bc6_blocks.specs.Run.{blocksIn, blockAt, shownAt, runOf, runRefusal, runAnswer, runValues, RunWritten, RunPainted}
+use Rattle.bc6_blocks.proofs.Runs.{run-at, run-infinities}
 
 -- ---- the checks
 
@@ -49,6 +50,18 @@ block-by-block {blocks} {format} {out} p z n h =
     ap (λ (t : List ℕ). take 48 (drop (48 * n) t)) (rw z at (p .holds))
     ∙ run-at (isSigned format) blocks (blocksIn blocks) n (drop (48 * blocksIn blocks) out) h
 
+-- how many of the values are minus infinity: the sum of what each block has
+pub infinities-add-up : {blocks : List ℕ} {format : ℕ} {out : List ℕ} {r : BlocksPixels} {after : List ℕ}
+    → RunPainted blocks format out r after → runRefusal format (length blocks) (length out) ≡ done
+    → r .infinite ≡ total (made (λ n. infinitiesOf (isSigned format) (blockAt blocks n)) (blocksIn blocks))
+infinities-add-up {blocks} {format} p z =
+    ap (λ (x : BlocksPixels). x .infinite) (p .answers) ∙ rw z refl ∙ run-infinities (isSigned format) blocks (blocksIn blocks)
+
+-- where a check is met, nothing is counted
+pub none-told : {blocks : List ℕ} {format : ℕ} {out : List ℕ} {r : BlocksPixels} {after : List ℕ} {n : ℕ}
+    → RunPainted blocks format out r after → runRefusal format (length blocks) (length out) ≡ suc n → r .infinite ≡ 0
+none-told p z = ap (λ (x : BlocksPixels). x .infinite) (p .answers) ∙ rw z refl
+
 -- "The values are what the block call writes for each in turn": what it leaves of block n in any values that it was lent
 pub in-turn : {blocks : List ℕ} {format : ℕ} {out lent : List ℕ} {r : BlocksPixels} {s : Pixels} {after left : List ℕ}
     → RunPainted blocks format out r after → runRefusal format (length blocks) (length out) ≡ done
@@ -61,24 +74,27 @@ in-turn {blocks} {format} {lent = lent} p z n h q y =
 -- ---- what each return shows
 
 refused-at : (blocks : List ℕ) (format : ℕ) (out : List ℕ) (n : ℕ) (r : BlocksPixels) → runRefusal format (length blocks) (length out) ≡ suc n
-    → r ≡ record { answer = suc n; blocks = 0 } → RunPainted blocks format out r out
+    → r ≡ record { answer = suc n; blocks = 0; infinite = 0 } → RunPainted blocks format out r out
 refused-at blocks format out n r z e = record { answers = e ∙ rw z refl; holds = rw z refl }
 
 module _ (blocks : List ℕ) (format : ℕ) (out : List ℕ) where
-  pub painted-format : (r : BlocksPixels) → 1 < format → r ≡ record { answer = badFormat; blocks = 0 } → RunPainted blocks format out r out
+  pub painted-format : (r : BlocksPixels) → 1 < format → r ≡ record { answer = badFormat; blocks = 0; infinite = 0 } → RunPainted blocks format out r out
   painted-format r h = refused-at blocks format out 0 r (format-refused format (length blocks) (length out) h)
 
-  pub painted-blocks : (r : BlocksPixels) → format ≤ 1 → (length blocks % 16 ≡ 0 → ⊥) → r ≡ record { answer = unevenBlocks; blocks = 0 }
+  pub painted-blocks : (r : BlocksPixels) → format ≤ 1 → (length blocks % 16 ≡ 0 → ⊥) → r ≡ record { answer = unevenBlocks; blocks = 0; infinite = 0 }
       → RunPainted blocks format out r out
   painted-blocks r h s = refused-at blocks format out 8 r (blocks-refused format (length blocks) (length out) h s)
 
   pub painted-output : (r : BlocksPixels) → format ≤ 1 → length blocks % 16 ≡ 0 → length out < 48 * blocksIn blocks
-      → r ≡ record { answer = shortOutput; blocks = 0 } → RunPainted blocks format out r out
+      → r ≡ record { answer = shortOutput; blocks = 0; infinite = 0 } → RunPainted blocks format out r out
   painted-output r h s l = refused-at blocks format out 2 r (output-refused format (length blocks) (length out) h s l)
 
-  pub painted-done : (after : List ℕ) → format ≤ 1 → length blocks % 16 ≡ 0 → 48 * blocksIn blocks ≤ length out
-      → after ≡ runOf (isSigned format) blocks (blocksIn blocks) ++ drop (48 * blocksIn blocks) out
-      → RunPainted blocks format out (record { answer = done; blocks = blocksIn blocks }) after
-  painted-done after h s l e =
+  pub painted-done : (after : List ℕ) (infinite : ℕ) → format ≤ 1 → length blocks % 16 ≡ 0 → 48 * blocksIn blocks ≤ length out
+      → RunWritten (isSigned format) blocks (blocksIn blocks) out infinite after
+      → RunPainted blocks format out (record { answer = done; blocks = blocksIn blocks; infinite = infinite }) after
+  painted-done after infinite h s l w =
       let z : runRefusal format (length blocks) (length out) ≡ done = done-when format (length blocks) (length out) h s l in
-      record { answers = rw z refl; holds = e ∙ rw z refl }
+      record {
+        answers = rw z (ap (λ (n : ℕ). record { answer = done; blocks = blocksIn blocks; infinite = n }) (w .counts));
+        holds = rw z (w .holds);
+      }

@@ -7,28 +7,31 @@ use Prim.Native.Nat.{ℕ, zero, suc, _+_, _-_, _*_, _≤_, _<_}
 use native.Mathlib.Nat.{le-of-suc-le-suc, not-suc-le-zero, eq-or-lt-of-le}
 use native.Mathlib.Numerals.{add-one}
 use native.Mathlib.Omega.{arith}
-use lib.ListN.{length, take, drop, length-append, length-take, length-drop, drop-of-length-le}
+use lib.ListN.{length, take, drop, length-append, length-drop, drop-of-length-le}
 use lib.Seq.{take-all, take-at, drop-at, drop-drop}
 use borrow.Rule.Slice.PartMut.{midOf, putMid, post-is}
-use Rattle.laws.specs.Made.{made}
-use Rattle.laws.proofs.Rows.{join-last}
+use Rattle.laws.specs.Made.{made, countOf, total}
+use Rattle.laws.proofs.Rows.{join-last, count-le}
+use Rattle.laws.proofs.Counts.{count-append, count-join}
+use Rattle.bc6h_spec.specs.Half.{minusInfinity}
 use Rattle.bc6h_spec.specs.Picture.{valueCount}
-use Rattle.bc6h_spec.specs.Block.{pixelsOf}
+use Rattle.bc6h_spec.specs.Block.{pixelsOf, infinitiesOf}
 use Rattle.bc6h_spec.proofs.Values.{length-pixels}
-use Rattle.bc6.specs.declared.Pixels.{Pixels}
-use Rattle.bc6.specs.Call.{refusalOf, isSigned, Painted}
-use Rattle.bc6.proofs.Calls.{done-when, written}
-use Rattle.bc6_blocks.specs.Run.{blockAt, shownAt, runOf}
+use Rattle.bc6.specs.declared.Shown.{Shown}
+use Rattle.bc6.specs.Call.{BlockPainted}
+use Rattle.bc6_blocks.specs.Run.{blockAt, shownAt, runOf, RunWritten}
 
--- what the block call leaves in the part that it was lent
-pub painted-part : (format n size : ℕ) (blocks out : List ℕ) (r : Pixels) (after : List ℕ)
-    → Painted (take size (drop (16 * n) blocks)) format out r after → format ≤ 1 → size ≡ 16 → 16 * (n + 1) ≤ length blocks → 48 ≤ length out
-    → after ≡ shownAt (isSigned format) blocks n ++ drop 48 out
-unfolding shownAt
-painted-part format n size blocks out r after p f e l room =
-    let block : length (take size (drop (16 * n) blocks)) ≡ 16 = simp (length-take, length-drop) (rw e (omega arith)) in
-    written p (done-when format (length (take size (drop (16 * n) blocks))) (length out) f block room)
-    ∙ ap (λ (k : ℕ). pixelsOf (isSigned format) (take k (drop (16 * n) blocks)) ++ drop 48 out) e
+-- what is painted into the part that was lent, and what is counted of it
+module _ (signed : Bool) (n size : ℕ) (blocks out : List ℕ) (r : Shown) (after : List ℕ)
+    (p : BlockPainted (take size (drop (16 * n) blocks)) signed out r after) (e : size ≡ 16) where
+  pub painted-part : after ≡ shownAt signed blocks n ++ drop 48 out
+  unfolding shownAt
+  painted-part = p .holds ∙ ap (λ (k : ℕ). pixelsOf signed (take k (drop (16 * n) blocks)) ++ drop 48 out) e
+
+  pub counted-part : r .infinite ≡ countOf minusInfinity (shownAt signed blocks n)
+  unfolding shownAt infinitiesOf
+  counted-part =
+      ap (λ (x : Shown). x .infinite) (p .shows) ∙ ap (λ (k : ℕ). countOf minusInfinity (pixelsOf signed (take k (drop (16 * n) blocks)))) e
 
 module _ (signed : Bool) (blocks : List ℕ) where
   pub run-none : runOf signed blocks 0 ≡ []
@@ -49,6 +52,24 @@ module _ (signed : Bool) (blocks : List ℕ) where
       ap (λ (k : ℕ). length (runOf signed blocks k)) (sym (add-one n)) ∙ ap length (run-more n)
       ∙ length-append (runOf signed blocks n) (shownAt signed blocks n)
       ∙ (let e : length (runOf signed blocks n) ≡ 48 * n = length-run n in let d : length (shownAt signed blocks n) ≡ 48 = length-shown n in omega arith)
+
+  -- the count of the values that are minus infinity, block by block
+  pub run-infinities : (n : ℕ) → countOf minusInfinity (runOf signed blocks n) ≡ total (made (λ k. infinitiesOf signed (blockAt blocks k)) n)
+  unfolding runOf shownAt infinitiesOf
+  run-infinities n = count-join minusInfinity (shownAt signed blocks) n
+
+  pub none-counted : 0 ≡ countOf minusInfinity (runOf signed blocks 0)
+  unfolding countOf
+  none-counted = rw run-none refl
+
+  pub run-counted : (n infinite more : ℕ) → infinite ≡ countOf minusInfinity (runOf signed blocks n) → more ≡ countOf minusInfinity (shownAt signed blocks n)
+      → infinite + more ≡ countOf minusInfinity (runOf signed blocks (n + 1))
+  run-counted n infinite more e f =
+      (λ i. e i + f i) ∙ sym (ap (countOf minusInfinity) (run-more n) ∙ count-append minusInfinity (runOf signed blocks n) (shownAt signed blocks n))
+
+  -- no more are counted than there are values
+  pub counted-most : (n infinite : ℕ) → infinite ≡ countOf minusInfinity (runOf signed blocks n) → infinite ≤ 48 * n
+  counted-most n infinite e = omega (arith, e, count-le minusInfinity (runOf signed blocks n), length-run n)
 
   -- nothing is written yet
   pub run-start : (out : List ℕ) → out ≡ runOf signed blocks 0 ++ drop (48 * 0) out
@@ -74,10 +95,10 @@ module _ (signed : Bool) (blocks : List ℕ) where
       omega-eq : (n : ℕ) → 48 * n + 48 ≡ 48 * (n + 1)
       omega-eq n = omega arith
 
-  -- every block is written
-  pub run-end : (out₀ out : List ℕ) (count n : ℕ) → out ≡ runOf signed blocks n ++ drop (48 * n) out₀ → n ≤ count → count ≤ n
-      → out ≡ runOf signed blocks count ++ drop (48 * count) out₀
-  run-end out₀ out count n e h l = let same : n ≡ count = omega arith in rw same at e
+  -- every block is written and counted
+  pub run-end : (out₀ out : List ℕ) (infinite count n : ℕ) → out ≡ runOf signed blocks n ++ drop (48 * n) out₀
+      → infinite ≡ countOf minusInfinity (runOf signed blocks n) → n ≤ count → count ≤ n → RunWritten signed blocks count out₀ infinite out
+  run-end out₀ out infinite count n e f h l = let same : n ≡ count = omega arith in record { holds = rw same at e; counts = rw same at f }
 
   -- the 48 values of block n stand behind those of the blocks before it
   pub run-at : (count n : ℕ) (rest : List ℕ) → n < count → take 48 (drop (48 * n) (runOf signed blocks count ++ rest)) ≡ shownAt signed blocks n

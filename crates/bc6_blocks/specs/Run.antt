@@ -1,4 +1,4 @@
--- What `blocks_pixels` answers, and what the lent values then are: document 02's T-01. Assumes nothing.
+-- What `blocks_pixels` answers, and what the lent values then are: document 02's T-01 and T-02. Assumes nothing.
 use mathlib.Core.Path.{_≡_}
 use mathlib.Core.Bool.{Bool}
 use mathlib.Core.List.{List, _++_}
@@ -6,9 +6,10 @@ use Prim.Native.Nat.{ℕ, zero, suc, _*_, _/_, _%_}
 use lib.Dec.{eqb, ltb}
 use lib.ListN.{length, take, drop}
 use Rattle.laws.specs.Pick.{pick}
-use Rattle.laws.specs.Made.{made, join}
+use Rattle.laws.specs.Made.{made, countOf, join}
 use Rattle.bc6h_spec.specs.Answers.{done, badFormat, shortOutput, unevenBlocks}
 use Rattle.bc6h_spec.specs.Bits.{blockSize}
+use Rattle.bc6h_spec.specs.Half.{minusInfinity}
 use Rattle.bc6h_spec.specs.Picture.{valueCount}
 use Rattle.bc6h_spec.specs.Block.{pixelsOf}
 use Rattle.bc6.specs.Call.{isSigned}
@@ -32,10 +33,13 @@ runOf signed blocks n = join (made (shownAt signed blocks) n)
 unfoldable pub runRefusal : ℕ → ℕ → ℕ → ℕ
 runRefusal format size room = pick (ltb 1 format) badFormat (pick (eqb (size % blockSize) 0) (pick (ltb room (valueCount * (size / blockSize))) shortOutput done) unevenBlocks)
 
--- "it answers that number", the number of blocks
-abbrev pub runAnswer : ℕ → List ℕ → BlocksPixels
-runAnswer zero blocks = record { answer = done; blocks = blocksIn blocks }
-runAnswer (suc n) blocks = record { answer = suc n; blocks = 0 }
+-- "it answers that number", the number of blocks, and "how many of the values written equal 0xFC00"; "a refusal count[s] zero"
+abbrev pub runInfinities : ℕ → List ℕ → ℕ
+runInfinities format blocks = countOf minusInfinity (runOf (isSigned format) blocks (blocksIn blocks))
+
+abbrev pub runAnswer : ℕ → List ℕ → ℕ → BlocksPixels
+runAnswer zero blocks format = record { answer = done; blocks = blocksIn blocks; infinite = runInfinities format blocks }
+runAnswer (suc n) blocks format = record { answer = suc n; blocks = 0; infinite = 0 }
 
 -- "On refusal nothing is written, not even the first block."
 abbrev pub runValues : ℕ → List ℕ → ℕ → List ℕ → List ℕ
@@ -44,5 +48,10 @@ runValues (suc n) blocks format out = out
 
 -- The statement of the call: its answer r, and the lent values `after`.
 pub record RunPainted (blocks : List ℕ) (format : ℕ) (out : List ℕ) (r : BlocksPixels) (after : List ℕ) : Type 0 where
-  pub answers : r ≡ runAnswer (runRefusal format (length blocks) (length out)) blocks
+  pub answers : r ≡ runAnswer (runRefusal format (length blocks) (length out)) blocks format
   pub holds : after ≡ runValues (runRefusal format (length blocks) (length out)) blocks format out
+
+-- The first n blocks, painted into 48 n values or more.
+pub record RunWritten (signed : Bool) (blocks : List ℕ) (n : ℕ) (out : List ℕ) (infinite : ℕ) (after : List ℕ) : Type 0 where
+  pub holds : after ≡ runOf signed blocks n ++ drop (valueCount * n) out
+  pub counts : infinite ≡ countOf minusInfinity (runOf signed blocks n)

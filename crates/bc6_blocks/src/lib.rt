@@ -2,37 +2,43 @@
 use bc6h_spec::Answer;
 use bc6h_spec::Block;
 ghost use mathlib.Core.Path.{_≡_};
-ghost use mathlib.Core.List.{_++_};
 ghost use Prim.Native.Nat.{_*_, _≤_};
-ghost use lib.ListN.{length, drop};
-ghost use Rattle.bc6.specs.Call.{isSigned};
-ghost use Rattle.bc6_blocks.specs.Run.{runOf, RunPainted};
+ghost use lib.ListN.{length};
+ghost use Rattle.bc6_blocks.specs.Run.{RunWritten, RunPainted};
 
 // What the call over a run of blocks answers.
 pub struct BlocksPixels {
     pub answer: u8,
     pub blocks: usize,
+    pub infinite: usize,
 }
 
 impl BlocksPixels {
     fn refused(answer: u8) -> Self
-        ensures { λ r. ⌜ r ≡ record { answer = answer; blocks = 0 } ⌝ }
+        ensures { λ r. ⌜ r ≡ record { answer = answer; blocks = 0; infinite = 0 } ⌝ }
     {
-        Self { answer, blocks: 0 }
+        Self {
+            answer,
+            blocks: 0,
+            infinite: 0,
+        }
     }
 }
 
-// Each block in turn, its values behind those of the blocks before it.
-fn paint_run(blocks: &[u8], format: u8, count: usize, out: &mut [u16])
-    requires { ⌜ (format ≤ 1) × ((16 * count ≡ length (now blocks)) × (48 * count ≤ length (now out))) ⌝ }
-    ensures { λ _. ⌜ now (out .exit) ≡ runOf (isSigned format) (now (blocks .entry)) count ++ drop (48 * count) (now (out .entry)) ⌝ }
+// Each block in turn, its values behind those of the blocks before it; answers how many values are minus infinity.
+fn paint_run(blocks: &[u8], signed: bool, count: usize, out: &mut [u16]) -> usize
+    requires { ⌜ (16 * count ≡ length (now blocks)) × (48 * count ≤ length (now out)) ⌝ }
+    ensures { λ r. ⌜ RunWritten signed (now (blocks .entry)) count (now (out .entry)) r (now (out .exit)) ⌝ }
 {
+    let mut infinite: usize = 0;
     for n in 0..count {
         let start = Block::SIZE * n;
         let end = start + Block::SIZE;
         let place = Block::VALUES * n;
-        bc6::block_pixels(&blocks[start..end], format, &mut out[place..]);
+        let shown = bc6::show_block(&blocks[start..end], signed, &mut out[place..]);
+        infinite += shown.infinite as usize;
     }
+    infinite
 }
 
 // The values of all blocks, 48 a block, unsigned (format 0) or signed (format 1).
@@ -49,9 +55,10 @@ pub fn blocks_pixels(blocks: &[u8], format: u8, out: &mut [u16]) -> BlocksPixels
     if out.len() / Block::VALUES < count {
         return BlocksPixels::refused(Answer::SHORT_OUTPUT);
     }
-    paint_run(blocks, format, count, out);
+    let infinite = paint_run(blocks, format == 1, count, out);
     BlocksPixels {
         answer: Answer::DONE,
         blocks: count,
+        infinite,
     }
 }

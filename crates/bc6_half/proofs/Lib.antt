@@ -1,3 +1,4 @@
 pub mod Laws
 pub mod Extend
 pub mod Sized
+pub mod Told

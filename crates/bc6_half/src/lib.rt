@@ -4,9 +4,11 @@ ghost use mathlib.Core.Path.{_≡_};
 ghost use mathlib.Core.Bool.{true, false};
 ghost use Prim.Native.Nat.{_+_, _-_, _^_, _<_, _≤_};
 ghost use lib.IntN.{pos, natAbs};
+ghost use Rattle.laws.specs.Pick.{pick};
 ghost use Rattle.laws.specs.Ranges.{Below, Within, InBits};
-ghost use Rattle.bc6h_spec.specs.Half.{signExtend, keep, transform, unquantizeU, unquantizeM, unquantized, interpolated, finishU, finishS, finished};
+ghost use Rattle.bc6h_spec.specs.Half.{signExtend, keep, transform, unquantizeU, unquantizeM, unquantized, interpolated, finishU, finishS};
 ghost use Rattle.bc6h_spec.specs.Picture.{firstEnd, delta, otherEnd};
+ghost use Rattle.bc6_half.specs.Halves.{halfOf};
 
 // The number that `bits` bits with the value `x` stand for in two's complement.
 pub fn sign_extend(x: i32, bits: u8) -> i32
@@ -133,14 +135,38 @@ fn finish_signed(x: i32) -> u16
     t as u16
 }
 
-pub fn finish_unquantize(x: i32, signed: bool) -> u16
+// A pattern, and whether it is minus infinity.
+pub struct Half {
+    pub pattern: u16,
+    pub infinite: bool,
+}
+
+impl Half {
+    // The one number whose pattern is minus infinity, in signed format.
+    const LOWEST: i32 = -32768;
+
+    // 1 for minus infinity.
+    pub fn counted(self) -> u16
+        ensures { λ r. ⌜ (r ≡ pick (self .infinite) 1 0) × (r ≤ 1) ⌝ }
+    {
+        if self.infinite { 1 } else { 0 }
+    }
+}
+
+pub fn finish_unquantize(x: i32, signed: bool) -> Half
     requires { ⌜ InBits signed 16 x ⌝ }
-    ensures { λ r. ⌜ r ≡ finished signed x ⌝ }
+    ensures { λ r. ⌜ r ≡ halfOf signed x ⌝ }
 {
     if signed {
-        return finish_signed(x);
+        return Half {
+            pattern: finish_signed(x),
+            infinite: x == Half::LOWEST,
+        };
     }
-    finish_unsigned(x)
+    Half {
+        pattern: finish_unsigned(x),
+        infinite: false,
+    }
 }
 
 // The first endpoint from its stored field.

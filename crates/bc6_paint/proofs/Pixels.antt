@@ -17,6 +17,7 @@ use Rattle.laws.proofs.Rows.{made-none, made-upto, made-three, length-made, cou
 use Rattle.laws.proofs.Counts.{count-last}
 use Rattle.bc6h_spec.specs.Half.{minusInfinity}
 use Rattle.bc6h_spec.specs.Picture.{weights8, weights16}
+use Rattle.bc6_half.specs.declared.Half.{Half}
 use Rattle.bc6_paint.specs.declared.Tone.{Tone}
 use Rattle.bc6_paint.specs.Tones.{channelOf, pointAt, highProduct, magnitudeAt, finishAt, oneValue, twoValue, PaintedAs}
 
@@ -85,10 +86,10 @@ abbrev pub Counted : (ℕ → ℕ) → ℕ → ℕ → Type 0
 Counted f n infinite = infinite ≡ countOf minusInfinity (made f n)
 
 -- 0xFC00 stands for the lowest number alone
-infinite-is : (x y : ℕ) → x < 65536 → y ≡ finishAt true x → eqb y minusInfinity ≡ eqb x 0
+pub lowest-is : (x y : ℕ) → x < 65536 → y ≡ finishAt true x → eqb x 0 ≡ eqb y minusInfinity
 unfolding finishAt
-infinite-is zero y h e = eq-eqb y minusInfinity e
-infinite-is (suc x) y h e = ne-eqb y minusInfinity (λ q. away (decLt (suc x) 32767) (decLt (suc x) 32768) (sym e ∙ q)) ∙ sym (eqb·suc-zero x)
+lowest-is zero y h e = sym (eq-eqb y minusInfinity e)
+lowest-is (suc x) y h e = eqb·suc-zero x ∙ sym (ne-eqb y minusInfinity (λ q. away (decLt (suc x) 32767) (decLt (suc x) 32768) (sym e ∙ q)))
   where
     away : Dec (suc x < 32767) → Dec (suc x < 32768)
         → pick (ltb (suc x) 32767) 32768 0 + highProduct (magnitudeAt (suc x)) 63488 ≡ minusInfinity → ⊥
@@ -96,6 +97,12 @@ infinite-is (suc x) y h e = ne-eqb y minusInfinity (λ q. away (decLt (suc x) 32
     away (yes a) (no b) q = b (omega arith)
     away (no a) (yes b) q = let z = rw (le-ltb (suc x) 32767 (omega arith), lt-ltb (suc x) 32768 b) at q in omega arith
     away (no a) (no b) q = let z = rw (le-ltb (suc x) 32767 (omega arith), le-ltb (suc x) 32768 (omega arith)) at q in omega arith
+
+-- what a value adds to the count, by the flag beside it
+pub adds : (x : ℕ) (h : Half) (t : ℕ) → x < 65536 → h ≡ record { pattern = finishAt true x; infinite = eqb x 0 } → t ≡ pick (h .infinite) 1 0
+    → t ≡ pick (eqb (h .pattern) minusInfinity) 1 0
+adds x h t l e et =
+    et ∙ ap (λ (g : Half). pick (g .infinite) 1 0) e ∙ ap (λ (b : Bool). pick b 1 0) (lowest-is x (h .pattern) l (ap (λ (g : Half). g .pattern) e))
 
 module _ (f : ℕ → ℕ) where
   pub none-counted : Counted f (3 * (8 * 0)) 0
@@ -108,24 +115,22 @@ module _ (f : ℕ → ℕ) where
   pub counted-most : (n infinite : ℕ) → Counted f n infinite → infinite ≤ n
   counted-most n infinite h = omega (arith, h, count-le minusInfinity (made f n), length-made f n)
 
-  one-more : (n infinite x y t : ℕ) → Counted f n infinite → x < 65536 → y ≡ finishAt true x → y ≡ f n → t ≡ pick (eqb x 0) 1 0 → Counted f (n + 1) (infinite + t)
+  one-more : (n infinite y t : ℕ) → Counted f n infinite → y ≡ f n → t ≡ pick (eqb y minusInfinity) 1 0 → Counted f (n + 1) (infinite + t)
   unfolding made
-  one-more n infinite x y t h l e v et =
+  one-more n infinite y t h v et =
       rw (add-one n)
-      ((λ j. h j + (et ∙ ap (λ (b : Bool). pick b 1 0) (sym (infinite-is x y l e)) ∙ ap (λ (z : ℕ). pick (eqb z minusInfinity) 1 0) v) j)
-      ∙ sym (count-last minusInfinity (made f n) (f n)))
+      ((λ j. h j + (et ∙ ap (λ (z : ℕ). pick (eqb z minusInfinity) 1 0) v) j) ∙ sym (count-last minusInfinity (made f n) (f n)))
 
   -- the three values of pixel k are counted
-  pub three-counted : (k infinite x₀ x₁ x₂ y₀ y₁ y₂ t₀ t₁ t₂ : ℕ) → Counted f (3 * k) infinite → x₀ < 65536 → x₁ < 65536 → x₂ < 65536
-      → y₀ ≡ finishAt true x₀ → y₁ ≡ finishAt true x₁ → y₂ ≡ finishAt true x₂ → y₀ ≡ f (3 * k + 0) → y₁ ≡ f (3 * k + 1) → y₂ ≡ f (3 * k + 2)
-      → t₀ ≡ pick (eqb x₀ 0) 1 0 → t₁ ≡ pick (eqb x₁ 0) 1 0 → t₂ ≡ pick (eqb x₂ 0) 1 0 → Counted f (3 * (k + 1)) (infinite + t₀ + t₁ + t₂)
-  three-counted k infinite x₀ x₁ x₂ y₀ y₁ y₂ t₀ t₁ t₂ h l₀ l₁ l₂ e₀ e₁ e₂ v₀ v₁ v₂ et₀ et₁ et₂ =
+  pub three-counted : (k infinite y₀ y₁ y₂ t₀ t₁ t₂ : ℕ) → Counted f (3 * k) infinite → y₀ ≡ f (3 * k + 0) → y₁ ≡ f (3 * k + 1) → y₂ ≡ f (3 * k + 2)
+      → t₀ ≡ pick (eqb y₀ minusInfinity) 1 0 → t₁ ≡ pick (eqb y₁ minusInfinity) 1 0 → t₂ ≡ pick (eqb y₂ minusInfinity) 1 0
+      → Counted f (3 * (k + 1)) (infinite + t₀ + t₁ + t₂)
+  three-counted k infinite y₀ y₁ y₂ t₀ t₁ t₂ h v₀ v₁ v₂ et₀ et₁ et₂ =
       let none : 3 * k + 0 ≡ 3 * k = omega arith in
       let two : 3 * k + 1 + 1 ≡ 3 * k + 2 = omega arith in
       let three : 3 * k + 1 + 1 + 1 ≡ 3 * (k + 1) = omega arith in
       counted-shift _ _ _ three
-      (one-more (3 * k + 1 + 1) _ x₂ y₂ t₂
-      (one-more (3 * k + 1) _ x₁ y₁ t₁ (one-more (3 * k) infinite x₀ y₀ t₀ h l₀ e₀ (v₀ ∙ ap f none) et₀) l₁ e₁ v₁ et₁) l₂ e₂ (v₂ ∙ ap f (sym two)) et₂)
+      (one-more (3 * k + 1 + 1) _ y₂ t₂ (one-more (3 * k + 1) _ y₁ t₁ (one-more (3 * k) infinite y₀ t₀ h (v₀ ∙ ap f none) et₀) v₁ et₁) (v₂ ∙ ap f (sym two)) et₂)
 
   -- every pixel is painted and counted
   pub all-painted : (l out : List ℕ) (infinite half : ℕ) → Made f (3 * (8 * half)) l out → Counted f (3 * (8 * half)) infinite → half ≤ 2 → 2 ≤ half

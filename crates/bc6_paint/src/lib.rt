@@ -2,6 +2,7 @@
 //
 // An endpoint's channel is carried above zero, as a u16: in signed format 32768 is added. Then 16 bits hold every step, and a loop of
 // eight pixels becomes vector code.
+use bc6_half::Half;
 use bc6_palette::Colour;
 ghost use mathlib.Core.Path.{_≡_};
 ghost use mathlib.Core.Bool.{true, false};
@@ -17,12 +18,6 @@ ghost use Rattle.bc6h_spec.specs.Half.{minusInfinity};
 ghost use Rattle.bc6h_spec.specs.Picture.{weights8, weights16};
 ghost use Rattle.bc6_palette.specs.Colours.{OfBits};
 ghost use Rattle.bc6_paint.specs.Tones.{biased, pointAt, highProduct, magnitudeAt, finishAt, toneOf, IndicesBelow, oneValue, twoValue, PaintedAs};
-
-// A pattern, and whether it is minus infinity.
-pub struct Half {
-    pub pattern: u16,
-    pub infinite: bool,
-}
 
 // A colour carried above zero.
 pub struct Tone {
@@ -140,13 +135,6 @@ fn finish_signed(x: u16) -> Half
     }
 }
 
-// 1 for a value that is minus infinity.
-fn counted(infinite: bool) -> u16
-    ensures { λ r. ⌜ (r ≡ pick infinite 1 0) × (r ≤ 1) ⌝ }
-{
-    if infinite { 1 } else { 0 }
-}
-
 // Whether a pixel lies in region 1.
 fn in_region_1(map: u16, pixel: usize) -> bool
     requires { ⌜ pixel < 16 ⌝ }
@@ -203,10 +191,7 @@ pub fn paint_one_signed(a: Tone, b: Tone, indices: [u8; 16], out: &mut [u16]) ->
             out[at] = red.pattern;
             out[at + 1] = green.pattern;
             out[at + 2] = blue.pattern;
-            infinite = infinite
-                + counted(red.infinite)
-                + counted(green.infinite)
-                + counted(blue.infinite);
+            infinite = infinite + red.counted() + green.counted() + blue.counted();
         }
     }
     infinite
@@ -266,10 +251,7 @@ pub fn paint_two_signed(
             out[at] = red.pattern;
             out[at + 1] = green.pattern;
             out[at + 2] = blue.pattern;
-            infinite = infinite
-                + counted(red.infinite)
-                + counted(green.infinite)
-                + counted(blue.infinite);
+            infinite = infinite + red.counted() + green.counted() + blue.counted();
         }
     }
     infinite

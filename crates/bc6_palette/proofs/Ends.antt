@@ -18,6 +18,7 @@ use Rattle.bc6h_spec.specs.Picture.{firstEnd, otherEnd, endpoint, weights}
 use Rattle.bc6h_spec.proofs.Widths.{known, first-fits, other-fits}
 use Rattle.bc6h_spec.proofs.Shown.{endpoint-in}
 use Rattle.bc6h_spec.proofs.Ranges.{unquantized-in}
+use Rattle.bc6_half.specs.declared.Half.{Half}
 use Rattle.bc6_palette.proofs.Weights.{light}
 use Rattle.bc6_palette.specs.declared.ModeBits.{ModeBits}
 use Rattle.bc6_palette.specs.declared.Colour.{Colour}
@@ -104,6 +105,6 @@ pub between-asks : (s : Bool) (p m i : ℕ) (c₁ c₂ a b : Colour) (w : ℤ) �
     → a ≡ unquantizedOf s p c₁ → b ≡ unquantizedOf s p c₂ → w ≡ pos (getD (weights m) i 0) → (OfBits s 16 a × OfBits s 16 b) × Below 65 w
 between-asks s p m i c₁ c₂ a b w h r ea eb ew = ((rw ea (ready s p c₁ h (r .0)), rw eb (ready s p c₂ h (r .1))), rw ew (light m i))
 
-pub entry-is : (s : Bool) (a b : Colour) (w : ℤ) (ws x : List ℕ) (i : ℕ) → x ≡ tripleOf s a b w → w ≡ pos (getD ws i 0) → x ≡ entryOf s a b ws i
+pub entry-is : (s : Bool) (a b : Colour) (w : ℤ) (ws : List ℕ) (x : List Half) (i : ℕ) → x ≡ tripleOf s a b w → w ≡ pos (getD ws i 0) → x ≡ entryOf s a b ws i
 unfolding entryOf
 entry-is s a b w ws x i e ew = e ∙ ap (tripleOf s a b) ew

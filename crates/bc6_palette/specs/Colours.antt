@@ -1,5 +1,5 @@
 -- The colours that the code works with: an endpoint, and the patterns between two. Assumes nothing.
-use mathlib.Core.Bool.{Bool}
+use mathlib.Core.Bool.{Bool, false}
 use mathlib.Core.List.{List, [], _∷_}
 use Prim.Native.Nat.{ℕ}
 use lib.IntN.{ℤ, pos}
@@ -9,6 +9,8 @@ use Rattle.bc6h_spec.specs.declared.Fields.{Fields}
 use Rattle.bc6h_spec.specs.Layout.{precision, ownWidth, transformed}
 use Rattle.bc6h_spec.specs.Half.{unquantized, interpolated, finished}
 use Rattle.bc6h_spec.specs.Picture.{endpoint}
+use Rattle.bc6_half.specs.declared.Half.{Half}
+use Rattle.bc6_half.specs.Halves.{marked}
 use Rattle.bc6_palette.specs.declared.ModeBits.{ModeBits}
 use Rattle.bc6_palette.specs.declared.Colour.{Colour}
 
@@ -32,17 +34,17 @@ pub record OfBits (signed : Bool) (p : ℕ) (c : Colour) : Type 0 where
   pub blue : InBits signed p (c .b)
 
 -- "all triples zero"
-abbrev pub black : List ℕ
-black = replicate 3 0
+abbrev pub black : List Half
+black = replicate 3 (record { pattern = 0; infinite = false })
 
--- the patterns at a weight between two colours that are unquantised
-unfoldable pub tripleOf : Bool → Colour → Colour → ℤ → List ℕ
+-- the patterns at a weight between two colours that are unquantised, each with whether it is minus infinity
+unfoldable pub tripleOf : Bool → Colour → Colour → ℤ → List Half
 tripleOf signed a b w =
-    finished signed (interpolated (a .r) (b .r) w)
-    ∷ finished signed (interpolated (a .g) (b .g) w)
-    ∷ finished signed (interpolated (a .b) (b .b) w)
+    marked (finished signed (interpolated (a .r) (b .r) w))
+    ∷ marked (finished signed (interpolated (a .g) (b .g) w))
+    ∷ marked (finished signed (interpolated (a .b) (b .b) w))
     ∷ []
 
 -- entry i of the palette between them
-unfoldable pub entryOf : Bool → Colour → Colour → List ℕ → ℕ → List ℕ
+unfoldable pub entryOf : Bool → Colour → Colour → List ℕ → ℕ → List Half
 entryOf signed a b weights i = tripleOf signed a b (pos (getD weights i 0))

@@ -1,4 +1,5 @@
 // The endpoints of a block as colours, and the palettes between them.
+use bc6_half::Half;
 use bc6h_spec::Fields;
 ghost use mathlib.Core.Path.{_≡_};
 ghost use mathlib.Core.Bool.{true, false};
@@ -10,6 +11,7 @@ ghost use Rattle.laws.specs.Ranges.{Below, InBits};
 ghost use Rattle.bc6h_spec.specs.Fields.{Valid};
 ghost use Rattle.bc6h_spec.specs.Half.{interpolated, finished};
 ghost use Rattle.bc6h_spec.specs.Picture.{weights8, weights16};
+ghost use Rattle.bc6_half.specs.Halves.{marked};
 ghost use Rattle.bc6_palette.specs.Colours.{bitsOf, endOf, unquantizedOf, OfBits, black, tripleOf, entryOf};
 
 // What a mode says of its endpoints: the bits of the first, the bits of the others' red, green and blue, and whether the
@@ -59,9 +61,9 @@ impl ModeBits {
 }
 
 // One channel of a palette's entry, between two unquantised ends.
-fn entry(a: i32, b: i32, w: i32, signed: bool) -> u16
+fn entry(a: i32, b: i32, w: i32, signed: bool) -> Half
     requires { ⌜ (InBits signed 16 a × InBits signed 16 b) × Below 65 w ⌝ }
-    ensures { λ r. ⌜ r ≡ finished signed (interpolated a b w) ⌝ }
+    ensures { λ r. ⌜ r ≡ marked (finished signed (interpolated a b w)) ⌝ }
 {
     bc6_half::finish_unquantize(bc6_half::interpolate(a, b, w), signed)
 }
@@ -75,10 +77,14 @@ pub struct Colour {
 
 impl Colour {
     // The zero colour, as patterns.
-    pub fn black() -> [u16; 3]
+    pub fn black() -> [Half; 3]
         ensures { λ r. ⌜ r ≡ black ⌝ }
     {
-        [0u16; 3]
+        let zero = Half {
+            pattern: 0,
+            infinite: false,
+        };
+        [zero; 3]
     }
 
     // The first endpoint of a block.
@@ -123,7 +129,7 @@ impl Colour {
     }
 
     // The patterns at the weight w between two unquantised colours.
-    fn between(self, other: Colour, w: i32, signed: bool) -> [u16; 3]
+    fn between(self, other: Colour, w: i32, signed: bool) -> [Half; 3]
         requires { ⌜ (OfBits signed 16 self × OfBits signed 16 other) × Below 65 w ⌝ }
         ensures { λ r. ⌜ r ≡ tripleOf signed self other w ⌝ }
     {
@@ -156,7 +162,7 @@ pub fn generate_palette_unquantized_one(
     c2: Colour,
     prec: u8,
     signed: bool,
-) -> [[u16; 3]; 16]
+) -> [[Half; 3]; 16]
     requires { ⌜ (0 < prec) × (prec ≤ 16) × (OfBits signed prec c1 × OfBits signed prec c2) ⌝ }
     ensures { λ r. ⌜ r ≡ made (entryOf signed (unquantizedOf signed prec c1) (unquantizedOf signed prec c2) weights16) 16 ⌝ }
 {
@@ -176,7 +182,7 @@ pub fn generate_palette_unquantized_two(
     c2: Colour,
     prec: u8,
     signed: bool,
-) -> [[u16; 3]; 8]
+) -> [[Half; 3]; 8]
     requires { ⌜ (0 < prec) × (prec ≤ 16) × (OfBits signed prec c1 × OfBits signed prec c2) ⌝ }
     ensures { λ r. ⌜ r ≡ made (entryOf signed (unquantizedOf signed prec c1) (unquantizedOf signed prec c2) weights8) 8 ⌝ }
 {

@@ -5,13 +5,15 @@ use Prim.Native.Nat.{ℕ, zero, suc, _+_, _-_, _*_, _/_, _%_, _^_, _<_, _≤_}
 use native.Mathlib.Nat.{mod-eq-of-lt}
 use native.Mathlib.Omega.{arith}
 use lib.Arith.{lt-of-le-ne}
-use lib.Dec.{T}
+use native.Mathlib.Decide.{ℕ-discrete}
+use lib.Dec.{T, eqb}
 use lib.IntN.{ℤ, pos, negsuc, negℤ, natAbs, ℤ-discrete}
 use lib.Signed.{mag, nonNeg}
+use borrow.Author.Tests.{ne-eqb}
 use Rattle.laws.specs.Pick.{pick}
 use Rattle.laws.specs.Ranges.{InBits}
 use Rattle.laws.proofs.Num.{abs-below}
-use Rattle.bc6h_spec.specs.Half.{withSign, highestPattern, minusInfinity, finishU, scaled, pattern, finishS, finished}
+use Rattle.bc6h_spec.specs.Half.{withSign, highestPattern, minusInfinity, finishU, scaled, pattern, finishS, finished, isLowest}
 
 -- unsigned: every pattern
 finishU-top : (n : ℕ) → n < 65536 → finishU n ≤ highestPattern
@@ -48,6 +50,26 @@ exactly x r e = by (ℤ-discrete x (negsuc 32767))
     by : Dec (x ≡ negsuc 32767) → x ≡ negsuc 32767
     by (yes p) = p
     by (no f) = let h : finished true x % 0x8000 ≤ highestPattern = signed-top x r f in absurd (omega (arith, e, h))
+
+-- minus infinity is told exactly where the pattern is 0xFC00
+pub never-lowest : (x : ℤ) → isLowest false x ≡ false
+unfolding isLowest
+never-lowest (pos n) = refl
+never-lowest (negsuc n) = refl
+
+pub told-exactly : (signed : Bool) (x : ℤ) → InBits signed 16 x → isLowest signed x ≡ eqb (finished signed x) minusInfinity
+unfolding isLowest finished finishS scaled
+told-exactly false x r =
+    let h : finished false x ≤ highestPattern = unsigned-top x r in
+    never-lowest x ∙ sym (ne-eqb (finished false x) minusInfinity (λ e. omega (arith, e, h)))
+told-exactly true (pos n) r = sym (ne-eqb (31 * n / 32) minusInfinity (λ e. omega (arith, e, r .inside)))
+told-exactly true (negsuc n) r = by (ℕ-discrete n 32767)
+  where
+    by : Dec (n ≡ 32767) → isLowest true (negsuc n) ≡ eqb (finished true (negsuc n)) minusInfinity
+    by (yes e) = rw e refl
+    by (no f) =
+        ne-eqb n 32767 f
+        ∙ sym (ne-eqb (finished true (negsuc n)) minusInfinity (λ e. f (let q = ap natAbs (exactly (negsuc n) r e) in omega (arith, q))))
 
 -- 0x8000 never occurs, in either format
 pattern-not : (z : ℤ) → natAbs z < 0x8000 → pattern z ≡ 0x8000 → ⊥

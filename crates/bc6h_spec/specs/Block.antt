@@ -5,9 +5,15 @@ use Prim.Native.Nat.{ℕ}
 use lib.Dec.{eqb}
 use lib.ListN.{replicate}
 use Rattle.laws.specs.Pick.{pick}
+use Rattle.laws.specs.Made.{countOf}
 use Rattle.bc6h_spec.specs.Fields.{modeOf, fieldsOf}
+use Rattle.bc6h_spec.specs.Half.{minusInfinity}
 use Rattle.bc6h_spec.specs.Picture.{valueCount, picture}
 
 -- The 48 values of sixteen bytes. Reserved: "mode 0, all triples zero".
 unfoldable pub pixelsOf : Bool → List ℕ → List ℕ
 pixelsOf signed block = pick (eqb (modeOf block) 0) (replicate valueCount 0) (picture signed (fieldsOf block))
+
+-- "how many of the values written equal 0xFC00"
+unfoldable pub infinitiesOf : Bool → List ℕ → ℕ
+infinitiesOf signed block = countOf minusInfinity (pixelsOf signed block)

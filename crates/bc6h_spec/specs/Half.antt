@@ -77,3 +77,8 @@ finishS x = pattern (scaled x)
 
 unfoldable pub finished : Bool → ℤ → ℕ
 finished signed x = pick signed (finishS x) (finishU (natAbs x))
+
+-- "The scaling step must say, beside the pattern, whether its number was −32768", which it is in signed format alone
+unfoldable pub isLowest : Bool → ℤ → Bool
+isLowest signed (pos n) = false
+isLowest signed (negsuc n) = pick signed (eqb n 32767) false

@@ -66,5 +66,5 @@ unfolding recordBytes
 record-is piece block shown values e p =
     (λ i. shownBytes (p .answers i) (p .holds i))
     ∙ ap (λ (b : List ℕ).
-    shownBytes (answerAt (refusalOf (formatIn piece) (length b) 48) b)
+    shownBytes (answerAt (refusalOf (formatIn piece) (length b) 48) b (formatIn piece))
     (valuesAt (refusalOf (formatIn piece) (length b) 48) b (formatIn piece) (replicate 48 0))) e

@@ -29,4 +29,4 @@ refusalIn piece = refusalOf (formatIn piece) (length (blockIn piece)) 48
 
 unfoldable pub recordBytes : List ℕ → List ℕ
 recordBytes piece =
-    shownBytes (answerAt (refusalIn piece) (blockIn piece)) (valuesAt (refusalIn piece) (blockIn piece) (formatIn piece) (replicate 48 0))
+    shownBytes (answerAt (refusalIn piece) (blockIn piece) (formatIn piece)) (valuesAt (refusalIn piece) (blockIn piece) (formatIn piece) (replicate 48 0))

@@ -32,17 +32,18 @@ one-outcome d e = (d .answers ∙ sym (e .answers), d .holds ∙ sym (e .holds))
 -- ---- the call over a run of blocks
 
 pub run-called : {blocks : List ℕ} {format : ℕ} {out : List ℕ} {p : BlocksPixels} {after : List ℕ}
-    → RunPainted blocks format out p after → RunCalled blocks format out (p .answer) after (p .blocks)
-run-called d =
-    record {
-      answers = ap (λ (x : BlocksPixels). x .answer) (d .answers);
-      counts = ap (λ (x : BlocksPixels). x .blocks) (d .answers);
-      holds = d .holds;
-    }
+    → RunPainted blocks format out p after → RunCalled blocks format out (p .answer) after (p .blocks) (p .infinite)
+run-called d = record { answers = d .answers; holds = d .holds }
 
-pub one-run : {blocks : List ℕ} {format : ℕ} {out : List ℕ} {r s m n : ℕ} {a b : List ℕ}
-    → RunCalled blocks format out r a m → RunCalled blocks format out s b n → (r ≡ s) × (m ≡ n) × (a ≡ b)
-one-run d e = (d .answers ∙ sym (e .answers), d .counts ∙ sym (e .counts), d .holds ∙ sym (e .holds))
+pub one-run : {blocks : List ℕ} {format : ℕ} {out : List ℕ} {r s m n i j : ℕ} {a b : List ℕ}
+    → RunCalled blocks format out r a m i → RunCalled blocks format out s b n j → (r ≡ s) × (m ≡ n) × (i ≡ j) × (a ≡ b)
+one-run d e =
+    let same = d .answers ∙ sym (e .answers) in (
+      ap (λ (x : BlocksPixels). x .answer) same,
+      ap (λ (x : BlocksPixels). x .blocks) same,
+      ap (λ (x : BlocksPixels). x .infinite) same,
+      d .holds ∙ sym (e .holds),
+    )
 
 -- ---- the record calls
 

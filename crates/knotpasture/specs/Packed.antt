@@ -22,19 +22,19 @@ use Rattle.twins.specs.Twins as twins
 abbrev pub twoBytes : ℕ → ℕ → ℕ
 twoBytes low high = low + high * 0x100
 
--- the number in the low byte, the mode in the next
+-- the number in the low byte, the mode in the next, and above it how many values are minus infinity
 abbrev pub pixelsWord : Pixels → ℕ
-pixelsWord p = twoBytes (p .answer) (p .mode)
+pixelsWord p = twoBytes (p .answer) (p .mode) + p .infinite * 0x10000
 
 -- The pixels call: its answer in one word, and the lent values as the call leaves them.
 pub record PixelsCalled (block : List ℕ) (format : ℕ) (out : List ℕ) (r : ℕ) (after : List ℕ) : Type 0 where
-  pub answers : r ≡ pixelsWord (answerAt (refusalOf format (length block) (length out)) block)
+  pub answers : r ≡ pixelsWord (answerAt (refusalOf format (length block) (length out)) block format)
   pub holds : after ≡ valuesAt (refusalOf format (length block) (length out)) block format out
 
--- The call over a run of blocks: its number, the lent values as the call leaves them, and the number of blocks in the slot.
-pub record RunCalled (blocks : List ℕ) (format : ℕ) (out : List ℕ) (r : ℕ) (after : List ℕ) (done : ℕ) : Type 0 where
-  pub answers : r ≡ runAnswer (runRefusal format (length blocks) (length out)) blocks .answer
-  pub counts : done ≡ runAnswer (runRefusal format (length blocks) (length out)) blocks .blocks
+-- The call over a run of blocks: its number, the lent values as the call leaves them, and in the slots the number of blocks and how many
+-- values are minus infinity.
+pub record RunCalled (blocks : List ℕ) (format : ℕ) (out : List ℕ) (r : ℕ) (after : List ℕ) (done infinite : ℕ) : Type 0 where
+  pub answers : record { answer = r; blocks = done; infinite = infinite } ≡ runAnswer (runRefusal format (length blocks) (length out)) blocks format
   pub holds : after ≡ runValues (runRefusal format (length blocks) (length out)) blocks format out
 
 -- a field record as numbers: mode, twelve endpoint values, partition, pixels in region 1, sixteen indices

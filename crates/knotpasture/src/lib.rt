@@ -23,7 +23,7 @@ pub extern "C" fn knot_block_pixels(block: &[u8], format: u8, out: &mut [u16]) -
     ensures { λ r. ⌜ PixelsCalled (now (block .entry)) format (now (out .entry)) r (now (out .exit)) ⌝ }
 {
     let pixels = bc6::block_pixels(block, format, out);
-    two_bytes(pixels.answer, pixels.mode)
+    two_bytes(pixels.answer, pixels.mode) + (pixels.infinite as u32) * 0x10000
 }
 
 #[no_mangle]
@@ -32,11 +32,13 @@ pub extern "C" fn knot_blocks_pixels(
     format: u8,
     out: &mut [u16],
     done: &mut usize,
+    infinite: &mut usize,
 ) -> u32
-    ensures { λ r. ⌜ RunCalled (now (blocks .entry)) format (now (out .entry)) r (now (out .exit)) (now (done .exit)) ⌝ }
+    ensures { λ r. ⌜ RunCalled (now (blocks .entry)) format (now (out .entry)) r (now (out .exit)) (now (done .exit)) (now (infinite .exit)) ⌝ }
 {
     let run = bc6_blocks::blocks_pixels(blocks, format, out);
     *done = run.blocks;
+    *infinite = run.infinite;
     run.answer as u32
 }
 

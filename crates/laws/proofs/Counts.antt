@@ -11,7 +11,8 @@ use lib.Dec.{eqb}
 use lib.ListN.{length, getD, take}
 use lib.Seq.{take-suc, take-all}
 use Rattle.laws.specs.Pick.{pick}
-use Rattle.laws.specs.Made.{made, countOf}
+use Rattle.laws.specs.Made.{made, countOf, join, total}
+use Rattle.laws.proofs.Rows.{join-last}
 
 pub count-append : (v : ℕ) (xs ys : List ℕ) → countOf v (xs ++ ys) ≡ countOf v xs + countOf v ys
 unfolding countOf
@@ -52,3 +53,23 @@ count-three f h (suc n) =
     kinds (suc zero) l = refl
     kinds (suc (suc zero)) l = refl
     kinds (suc (suc (suc m))) l = absurd (omega arith)
+
+-- what occurs nowhere is counted zero times
+pub count-never : (v : ℕ) (f : ℕ → ℕ) → ((k : ℕ) → f k ≡ v → ⊥) → (n : ℕ) → countOf v (made f n) ≡ 0
+unfolding made countOf
+count-never v f h zero = refl
+count-never v f h (suc n) = rw (count-last v (made f n) (f n), ne-eqb (f n) v (h n)) (omega (arith, count-never v f h n))
+
+-- over lists one after the other, the counts add up
+total-last : (xs : List ℕ) (x : ℕ) → total (xs ++ (x ∷ [])) ≡ total xs + x
+unfolding total
+total-last [] x = omega arith
+total-last (y ∷ xs) x = omega (arith, total-last xs x)
+
+pub count-join : (v : ℕ) (g : ℕ → List ℕ) (n : ℕ) → countOf v (join (made g n)) ≡ total (made (λ k. countOf v (g k)) n)
+unfolding made countOf total
+count-join v g zero = refl
+count-join v g (suc n) =
+    ap (countOf v) (join-last (made g n) (g n)) ∙ count-append v (join (made g n)) (g n)
+    ∙ ap (λ (m : ℕ). m + countOf v (g n)) (count-join v g n)
+    ∙ sym (total-last (made (λ k. countOf v (g k)) n) (countOf v (g n)))

@@ -38,8 +38,8 @@ valuesFor entry = valuesAt (numberFor entry) (blockIn entry) (formatIn entry) (r
 -- our number, mode and values are the entry's
 unfoldable pub agrees : List ℕ → Bool
 agrees entry =
-    both (eqb (answerAt (numberFor entry) (blockIn entry) .answer) (getD entry 17 0))
-    (both (eqb (answerAt (numberFor entry) (blockIn entry) .mode) (getD entry 18 0))
+    both (eqb (answerAt (numberFor entry) (blockIn entry) (formatIn entry) .answer) (getD entry 17 0))
+    (both (eqb (answerAt (numberFor entry) (blockIn entry) (formatIn entry) .mode) (getD entry 18 0))
     (same (valuesFor entry) (valuesIn (take 96 (drop 19 entry)))))
 
 -- 1 where entry n agrees, else 0

@@ -1,6 +1,5 @@
 -- `bc6::block_pixels` meets its contract: one law for each return. Assumes nothing.
 use borrow.Author.Needs.{needs}
-use mathlib.Core.Path.{refl}
 use native.Mathlib.Omega.{arith}
 use Rattle.bc6.proofs.Calls.{painted-format, painted-block, painted-output, painted-done}
 use Rattle.bc6.proofs.block_pixels.Statement.{statement}
@@ -16,9 +15,7 @@ returns-3 : tie.Need-returns-3
 returns-3 c = painted-output _ _ _ _ (omega arith) (omega arith) (omega arith) (c .refused3 .ensures)
 
 returns-4 : tie.Need-returns-4
-returns-4 c =
-    let s = c .before .before .show-block in
-    painted-done _ _ _ _ _ _ (omega arith) (omega arith) (omega arith) (s .ensures .mode-is) refl (s .ensures .holds)
+returns-4 c = painted-done _ _ _ _ _ (omega arith) (omega arith) (omega arith) (c .before .before .show-block .ensures)
 
 pub block-pixels-spec : {M : Type 1} → statement M
 block-pixels-spec =

@@ -11,6 +11,7 @@ use lib.ListN.{getD, drop}
 use Rattle.laws.specs.Bit.{bit}
 use Rattle.laws.specs.Made.{made}
 use Rattle.laws.proofs.Rows.{made-none, made-store, made-all}
+use Rattle.bc6_half.specs.declared.Half.{Half}
 use Rattle.bc6.specs.Triples.{onePixel, twoPixel}
 use Rattle.bc6.proofs.paint_two.Statement.{statement}
 use Rattle.bc6.proofs.paint_two.Tie as tie
@@ -21,7 +22,7 @@ Inv-loop partition palette0 palette1 indices picture₀ k₀ picture k = (k ≤ 
 abbrev μ-loop : tie.MeasureT-loop
 μ-loop partition palette0 palette1 indices picture₀ k₀ picture k = 16 - k
 
-module _ (p₀ p₁ : List (List ℕ)) (map k region : ℕ) (indices : List ℕ) (e : region ≡ bit map k) where
+module _ (p₀ p₁ : List (List Half)) (map k region : ℕ) (indices : List ℕ) (e : region ≡ bit map k) where
   in-region-0 : region ≡ 0 → getD p₀ (getD indices k 0) [] ≡ twoPixel p₀ p₁ map indices k
   unfolding twoPixel onePixel
   in-region-0 z = rw (← e, eq-eqb region 0 z) refl

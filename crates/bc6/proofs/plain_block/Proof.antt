@@ -1,19 +1,22 @@
 -- `bc6::plain_block` meets its contract: the picture, laid out flat. Assumes nothing.
 use borrow.Author.Needs.{needs}
-use mathlib.Core.Path.{_∙_, ap}
+use mathlib.Core.Path.{_∙_, ap, sym, subst}
 use Prim.Native.Nat.{_≤_}
 use native.Mathlib.Omega.{arith}
 use Rattle.bc6h_spec.specs.Fields.{modeIn, modeOf}
 use Rattle.bc6h_spec.proofs.Modes.{mode-range}
 use Rattle.bc6h_spec.proofs.Values.{length-pixels}
-use Rattle.bc6.specs.Triples.{flat}
-use Rattle.bc6.proofs.Flat.{flat-triples}
+use Rattle.bc6.specs.Triples.{flat, Marked}
+use Rattle.bc6.proofs.Flat.{flat-triples, triples-marked}
 use Rattle.bc6.proofs.Whole.{shown-values}
 use Rattle.bc6.proofs.plain_block.Statement.{statement}
 use Rattle.bc6.proofs.plain_block.Tie as tie
 
-cast-result : tie.Need-cast-result
-cast-result c =
+write-values-requires : tie.Need-write-values-requires
+write-values-requires c κs = (subst Marked (sym (c .before .decode-bc6-block .ensures)) (triples-marked _), search needs)
+
+cast-t10 : tie.Need-cast-t10
+cast-t10 c =
     let m = c .before .before .before .before .before in
     let h : m .extract-mode .result ≤ 14 = rw (m .extract-mode .ensures) (mode-range _) in
     record { fits = omega arith }
@@ -24,7 +27,7 @@ returns c =
     let w = c .before .before in
     let d = w .before .before in
     let m = d .before in
-    shown-values _ _ _ _ _ _ (m .extract-mode .ensures ∙ ap modeIn (m .before .new .ensures))
+    shown-values _ _ _ _ _ _ _ (m .extract-mode .ensures ∙ ap modeIn (m .before .new .ensures))
     (ap flat (d .decode-bc6-block .ensures) ∙ flat-triples _ (length-pixels _ _)) (w .write-values .ensures)
 
 pub plain-block-spec : {M : Type 1} → statement M
@@ -34,7 +37,7 @@ plain-block-spec =
     (λ c κs. search needs)
     (λ c κs. search needs)
     (λ c κs. search needs)
-    (λ c κs. search needs)
-    cast-result
+    write-values-requires
+    cast-t10
     (λ c. search needs)
     returns)

@@ -3,7 +3,7 @@ use borrow.Author.Needs.{needs}
 use borrow.Author.Tests.{le-leb, lt-leb}
 use mathlib.Core.Bool.{true, false}
 use native.Mathlib.Omega.{arith}
-use Rattle.bc6.proofs.Whole.{valid, shown-black, shown-picture}
+use Rattle.bc6.proofs.Whole.{valid, shown-black, shown-picture, shown-unsigned}
 use Rattle.bc6.proofs.show_block.Statement.{statement}
 use Rattle.bc6.proofs.show_block.Tie as tie
 
@@ -24,8 +24,8 @@ returns-2 c =
     let r = c .before .before in
     let g = r .before .before .before in
     let f = g .before .before in
-    shown-picture (f .before .before .before .args .signed) _ _ (f .fields-of .ensures) true (r .before .before .if3 .taken) _ _ (g .before .if1 .left)
-    (r .show-two-signed .ensures .holds)
+    shown-picture (f .before .before .before .args .signed) _ _ (f .fields-of .ensures) true (r .before .before .if3 .taken) _ _ _ (g .before .if1 .left)
+    (r .show-two-signed .ensures)
 
 show-two-unsigned-requires : tie.Need-show-two-unsigned-requires
 show-two-unsigned-requires c κs =
@@ -38,7 +38,7 @@ returns-3 c =
     let r = c .before .before in
     let g = r .before .before .before in
     let f = g .before .before in
-    shown-picture (f .before .before .before .args .signed) _ _ (f .fields-of .ensures) false (r .before .before .if3 .left) _ _ (g .before .if1 .left)
+    shown-unsigned (f .before .before .before .args .signed) _ _ (f .fields-of .ensures) (r .before .before .if3 .left) _ _ (g .before .if1 .left)
     (r .show-two-unsigned .ensures)
 
 show-one-signed-requires : tie.Need-show-one-signed-requires
@@ -52,8 +52,8 @@ returns-4 c =
     let r = c .before .before in
     let g = r .before .before .before in
     let f = g .before .before in
-    shown-picture (f .before .before .before .args .signed) _ _ (f .fields-of .ensures) true (r .before .before .if4 .taken) _ _ (g .before .if1 .left)
-    (r .show-one-signed .ensures .holds)
+    shown-picture (f .before .before .before .args .signed) _ _ (f .fields-of .ensures) true (r .before .before .if4 .taken) _ _ _ (g .before .if1 .left)
+    (r .show-one-signed .ensures)
 
 show-one-unsigned-requires : tie.Need-show-one-unsigned-requires
 show-one-unsigned-requires c κs =
@@ -66,7 +66,7 @@ returns-5 c =
     let r = c .before .before in
     let g = r .before .before .before in
     let f = g .before .before in
-    shown-picture (f .before .before .before .args .signed) _ _ (f .fields-of .ensures) false (r .before .before .if4 .left) _ _ (g .before .if1 .left)
+    shown-unsigned (f .before .before .before .args .signed) _ _ (f .fields-of .ensures) (r .before .before .if4 .left) _ _ (g .before .if1 .left)
     (r .show-one-unsigned .ensures)
 
 pub show-block-spec : {M : Type 1} → statement M

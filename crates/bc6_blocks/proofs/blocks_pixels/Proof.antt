@@ -15,10 +15,10 @@ returns-3 : tie.Need-returns-3
 returns-3 c = painted-output _ _ _ _ (omega arith) (omega arith) (omega arith) (c .refused3 .ensures)
 
 paint-run-requires : tie.Need-paint-run-requires
-paint-run-requires c κs = (omega arith, (omega arith, omega arith))
+paint-run-requires c κs = (omega arith, omega arith)
 
 returns-4 : tie.Need-returns-4
-returns-4 c = painted-done _ _ _ _ (omega arith) (omega arith) (omega arith) (c .before .before .paint-run .ensures)
+returns-4 c = painted-done _ _ _ _ _ (omega arith) (omega arith) (omega arith) (c .before .before .paint-run .ensures)
 
 pub blocks-pixels-spec : {M : Type 1} → statement M
 blocks-pixels-spec =

@@ -7,6 +7,9 @@ use mir.ValLaws.{toZ-ofZ}
 use Rattle.laws.specs.Ranges.{Below, Within, InBits}
 use Rattle.bc6h_spec.specs.Half.{finishS, finishU, finished}
 use Rattle.laws.proofs.Num.{passed}
+use Rattle.bc6h_spec.proofs.Highest.{never-lowest}
+use Rattle.bc6_half.specs.Halves.{halfOf}
+use Rattle.bc6_half.proofs.Told.{lowest-bits}
 use Rattle.bc6_half.proofs.finish_unquantize.Statement.{statement}
 use Rattle.bc6_half.proofs.finish_unquantize.Tie as tie
 
@@ -20,12 +23,13 @@ finish-signed-requires c κs =
     passed (Within 32768) (s .fits .x) (record { inside = at s (c .if1 .taken) .inside })
 
 returns : tie.Need-returns
-unfolding finished
+unfolding finished halfOf
 returns c =
     let s = c .before .before in
-    c .finish-signed .ensures
-    ∙ ap finishS (toZ-ofZ w32 (s .args .x) (s .fits .x))
-    ∙ sym (ap (λ (t : Bool). finished t (s .args .x)) (c .before .if1 .taken))
+    let signed = c .before .if1 .taken in
+    let pattern = c .finish-signed .ensures ∙ ap finishS (toZ-ofZ w32 (s .args .x) (s .fits .x)) in
+    let lowest = lowest-bits (s .args .x) (at s signed .inside) in
+    (λ i. record { pattern = pattern i; infinite = lowest i }) ∙ sym (ap (λ (t : Bool). halfOf t (s .args .x)) signed)
 
 finish-unsigned-requires : tie.Need-finish-unsigned-requires
 finish-unsigned-requires c κs =
@@ -34,12 +38,12 @@ finish-unsigned-requires c κs =
     passed (Below 65536) (s .fits .x) (record { nonneg = r .sign; below = r .inside })
 
 returns-2 : tie.Need-returns-2
-unfolding finished
+unfolding finished halfOf
 returns-2 c =
     let s = c .before .before in
-    c .finish-unsigned .ensures
-    ∙ ap (λ (z : ℤ). finishU (natAbs z)) (toZ-ofZ w32 (s .args .x) (s .fits .x))
-    ∙ sym (ap (λ (t : Bool). finished t (s .args .x)) (c .before .if1 .left))
+    let pattern = c .finish-unsigned .ensures ∙ ap (λ (z : ℤ). finishU (natAbs z)) (toZ-ofZ w32 (s .args .x) (s .fits .x)) in
+    let none = sym (never-lowest (s .args .x)) in
+    (λ i. record { pattern = pattern i; infinite = none i }) ∙ sym (ap (λ (t : Bool). halfOf t (s .args .x)) (c .before .if1 .left))
 
 pub finish-unquantize-spec : {M : Type 1} → statement M
 finish-unquantize-spec =

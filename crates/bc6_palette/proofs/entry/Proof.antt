@@ -4,9 +4,11 @@ use mir.Syntax.{w32}
 use mir.Val.{toZ, ofZ}
 use mir.ValLaws.{toZ-ofZ}
 use Rattle.laws.specs.Ranges.{Below, Within, InBits}
-use Rattle.bc6h_spec.specs.Half.{interpolated, finished}
+use Rattle.bc6h_spec.specs.Half.{interpolated}
 use Rattle.laws.proofs.Num.{passed}
 use Rattle.bc6h_spec.proofs.Ranges.{interpolated-in, in-16}
+use Rattle.bc6_half.specs.Halves.{halfOf}
+use Rattle.bc6_half.proofs.Told.{half-marked}
 use Rattle.bc6_palette.proofs.entry.Statement.{statement}
 use Rattle.bc6_palette.proofs.entry.Tie as tie
 
@@ -27,14 +29,16 @@ told c =
     ∙ c .interpolate .ensures
     ∙ (λ i. interpolated (toZ-ofZ w32 (s .args .a) (s .fits .a) i) (toZ-ofZ w32 (s .args .b) (s .fits .b) i) (toZ-ofZ w32 (s .args .w) (s .fits .w) i))
 
+inside : (s : tie.Start) → InBits (s .args .signed) 16 (interpolated (s .args .a) (s .args .b) (s .args .w))
+inside s = interpolated-in (s .args .signed) (s .args .a) (s .args .b) (s .args .w) (s .pre .1) (s .pre .0 .0) (s .pre .0 .1)
+
 finish-unquantize-requires : tie.Need-finish-unquantize-requires
-finish-unquantize-requires c κs =
-    let s = c .before in
-    subst (InBits (s .args .signed) 16) (sym (told c))
-    (interpolated-in (s .args .signed) (s .args .a) (s .args .b) (s .args .w) (s .pre .1) (s .pre .0 .0) (s .pre .0 .1))
+finish-unquantize-requires c κs = subst (InBits (c .before .args .signed) 16) (sym (told c)) (inside (c .before))
 
 returns : tie.Need-returns
-returns c = c .finish-unquantize .ensures ∙ ap (finished (c .before .before .args .signed)) (told (c .before))
+returns c =
+    let s = c .before .before in
+    c .finish-unquantize .ensures ∙ ap (halfOf (s .args .signed)) (told (c .before)) ∙ half-marked (s .args .signed) _ (inside s)
 
 pub entry-spec : {M : Type 1} → statement M
 entry-spec = tie.close (tie.spec interpolate-requires finish-unquantize-requires returns)

@@ -1,20 +1,17 @@
+-- `knotpasture::knot_block_pixels` meets its contract. Assumes nothing.
 use borrow.Author.Needs.{needs}
+use mathlib.Core.Path.{ap}
+use Prim.Native.Nat.{ℕ, _+_, _*_}
 use Rattle.knotpasture.proofs.Words.{called}
 use Rattle.knotpasture.proofs.knot_block_pixels.Statement.{statement}
 use Rattle.knotpasture.proofs.knot_block_pixels.Tie as tie
 
-block-pixels-requires : tie.Need-block-pixels-requires
-block-pixels-requires c κs = search needs
-
-two-bytes-requires : tie.Need-two-bytes-requires
-two-bytes-requires c κs = search needs
-
-same-length : tie.Need-same-length
-same-length c = search needs
-
 returns : tie.Need-returns
-returns c = called (c .before .before .before .block-pixels .ensures) (c .two-bytes .ensures)
+returns c =
+    let p = c .before .before .before .before .block-pixels in
+    called (p .ensures) (ap (λ (low : ℕ). low + p .result .infinite * 0x10000) (c .before .two-bytes .ensures))
 
 pub knot-block-pixels-spec : {M : Type 1} → statement M
 knot-block-pixels-spec =
-    tie.close (tie.spec block-pixels-requires two-bytes-requires same-length returns)
+    tie.close
+    (tie.spec (λ c κs. search needs) (λ c κs. search needs) (λ c. search needs) (λ c. search needs) (λ c. search needs) (λ c. search needs) returns)

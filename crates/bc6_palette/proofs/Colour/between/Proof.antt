@@ -3,20 +3,21 @@ use borrow.Author.Needs.{needs}
 use mathlib.Core.Path.{_≡_, _∙_}
 use mathlib.Core.Bool.{Bool}
 use mathlib.Core.List.{[], _∷_}
-use Prim.Native.Nat.{ℕ}
 use lib.IntN.{ℤ}
 use mir.Syntax.{w32}
 use mir.Val.{SFits, toZ, ofZ}
 use mir.ValLaws.{toZ-ofZ}
 use Rattle.bc6h_spec.specs.Half.{interpolated, finished}
+use Rattle.bc6_half.specs.declared.Half.{Half}
+use Rattle.bc6_half.specs.Halves.{marked}
 use Rattle.bc6_palette.specs.Colours.{tripleOf}
 use Rattle.bc6_palette.proofs.Colour.between.Statement.{statement}
 use Rattle.bc6_palette.proofs.Colour.between.Tie as tie
 
 -- the numbers that a callee is handed are read back from bits
-plain : (s : Bool) {a b w : ℤ} {r : ℕ} → SFits w32 a → SFits w32 b → SFits w32 w
-    → r ≡ finished s (interpolated (toZ w32 (ofZ w32 a)) (toZ w32 (ofZ w32 b)) (toZ w32 (ofZ w32 w))) → r ≡ finished s (interpolated a b w)
-plain s {a} {b} {w} f g h e = e ∙ (λ i. finished s (interpolated (toZ-ofZ w32 a f i) (toZ-ofZ w32 b g i) (toZ-ofZ w32 w h i)))
+plain : (s : Bool) {a b w : ℤ} {r : Half} → SFits w32 a → SFits w32 b → SFits w32 w
+    → r ≡ marked (finished s (interpolated (toZ w32 (ofZ w32 a)) (toZ w32 (ofZ w32 b)) (toZ w32 (ofZ w32 w)))) → r ≡ marked (finished s (interpolated a b w))
+plain s {a} {b} {w} f g h e = e ∙ (λ i. marked (finished s (interpolated (toZ-ofZ w32 a f i) (toZ-ofZ w32 b g i) (toZ-ofZ w32 w h i))))
 
 entry-requires : tie.Need-entry-requires
 entry-requires c κs = search needs

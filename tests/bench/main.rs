@@ -107,26 +107,27 @@ fn runs(modes: &[&Mode]) {
     println!("{:12} {:9} {:>16} {:>16} {:>6}", "run of", "format", "one call, ns", "a call each, ns", "ratio");
     for count in [1, 64, 4096, 1_048_576] {
         let blocks = blocks_of(modes, count);
-        let mut out = vec![0u16; 48 * count];
-        let rounds = (1_000_000 / count).max(1);
+        let (mut at_once, mut in_turn) = (vec![0u16; 48 * count], vec![0u16; 48 * count]);
+        let rounds = (500_000 / count).max(1);
         for (format, name) in [(0, "unsigned"), (1, "signed")] {
-            let whole = seconds(|| {
+            let run = || {
                 for _ in 0..rounds {
                     let bytes = black_box(blocks.as_flattened());
                     let (mut done, mut infinite) = (0, 0);
-                    let (lent, room) = (out.as_mut_ptr(), out.len());
+                    let (lent, room) = (at_once.as_mut_ptr(), at_once.len());
                     unsafe { knot_blocks_pixels(bytes.as_ptr(), bytes.len(), black_box(format), lent, room, &mut done, &mut infinite) };
                     assert_eq!(black_box(done), count);
                 }
-            });
-            let each = seconds(|| {
+            };
+            let turns = || {
                 for _ in 0..rounds {
-                    for (block, values) in black_box(&blocks).iter().zip(out.chunks_exact_mut(48)) {
+                    for (block, values) in black_box(&blocks).iter().zip(in_turn.chunks_exact_mut(48)) {
                         unsafe { knot_block_pixels(block.as_ptr(), 16, black_box(format), values.as_mut_ptr(), 48) };
                     }
-                    black_box(&out);
+                    black_box(&in_turn);
                 }
-            });
+            };
+            let (whole, each) = best(run, turns);
             let cost = |seconds: f64| seconds * 1e9 / (rounds * count) as f64;
             println!("{count:<12} {name:9} {:>16.1} {:>16.1} {:>6.2}", cost(whole), cost(each), each / whole);
         }

@@ -45,7 +45,7 @@ enum knot_mark {
 enum {
     KNOT_BLOCK_SIZE = 16,     /* bytes of a block */
     KNOT_VALUES = 48,         /* values that a block shows */
-    KNOT_FIELDS = 31,         /* numbers of a field record */
+    KNOT_FIELDS = 32,         /* numbers of a field record */
     KNOT_RECORD_SIZE = 24,    /* bytes of a record */
     KNOT_STORE_LIMIT = 48000  /* bytes of a store, at most */
 };
@@ -75,18 +75,19 @@ uint32_t knot_block_pixels(const uint8_t *block, size_t block_length, uint8_t fo
 uint32_t knot_blocks_pixels(const uint8_t *blocks, size_t blocks_length, uint8_t format, uint16_t *out, size_t out_length,
                             size_t *done, size_t *infinite);
 
-/* The fields of a block, as stored, before any sign extension or transform:
+/* The fields of a block, as stored, before any sign extension or transform, and the format that they are read in:
  *
- *   numbers[0]         mode, 1 to 14
- *   numbers[1 to 12]   four endpoints: red, green, blue of the first, then of the second, third and fourth
- *   numbers[13]        partition
- *   numbers[14]        how many pixels lie in region 1
- *   numbers[15 to 30]  the sixteen pixels' indices, at full width
+ *   numbers[0]         format, as given
+ *   numbers[1]         mode, 1 to 14
+ *   numbers[2 to 13]   four endpoints: red, green, blue of the first, then of the second, third and fourth
+ *   numbers[14]        partition
+ *   numbers[15]        how many pixels lie in region 1
+ *   numbers[16 to 31]  the sixteen pixels' indices, at full width
  *
  * Modes 11 to 14 have one region: their last two endpoints, partition and region count are 0.
- * Answers the number in the low byte and the mode in the next. Refusals: 2, 4, 3 (fewer than 31 numbers of room).
+ * Answers the number in the low byte and the mode in the next. Refusals: 1, 2, 4, 3 (fewer than 32 numbers of room).
  */
-uint32_t knot_block_fields(const uint8_t *block, size_t block_length, uint16_t *numbers, size_t numbers_length);
+uint32_t knot_block_fields(const uint8_t *block, size_t block_length, uint8_t format, uint16_t *numbers, size_t numbers_length);
 
 /* Record n of a store of 24-byte records: tile number (4 bytes, low byte first), format, three zero bytes, block.
  *

@@ -144,20 +144,26 @@ static void runs(void)
 static void fields(void)
 {
     untouch();
-    CHECK(knot_block_fields(NULL, 0, NULL, 0) == KNOT_BAD_BLOCK);
-    CHECK(knot_block_fields(B1, 15, values, 31) == KNOT_BAD_BLOCK);
-    CHECK(knot_block_fields(B1, 17, values, 31) == KNOT_BAD_BLOCK);
-    CHECK(knot_block_fields(B2, 16, values, 30) == KNOT_RESERVED_MODE);
-    CHECK(knot_block_fields(B2, 16, values, 31) == KNOT_RESERVED_MODE);
-    CHECK(knot_block_fields(B3, 16, values, 30) == KNOT_SHORT_OUTPUT);
-    CHECK(knot_block_fields(B3, 16, NULL, 0) == KNOT_SHORT_OUTPUT);
+    /* the order 1, 2, 4, 3 */
+    for (size_t length = 15; length <= 17; length++) {
+        CHECK(knot_block_fields(B1, length, 2, values, 31) == KNOT_BAD_FORMAT);
+        for (uint8_t format = 0; format < 2; format++)
+            CHECK(length == 16 || knot_block_fields(B1, length, format, values, 31) == KNOT_BAD_BLOCK);
+    }
+    CHECK(knot_block_fields(NULL, 0, 255, NULL, 0) == KNOT_BAD_FORMAT);
+    CHECK(knot_block_fields(NULL, 0, 0, NULL, 0) == KNOT_BAD_BLOCK);
+    CHECK(knot_block_fields(B2, 16, 2, values, 32) == KNOT_BAD_FORMAT);
+    CHECK(knot_block_fields(B2, 16, 1, values, 31) == KNOT_RESERVED_MODE);
+    CHECK(knot_block_fields(B2, 16, 0, values, 32) == KNOT_RESERVED_MODE);
+    CHECK(knot_block_fields(B3, 16, 0, values, 31) == KNOT_SHORT_OUTPUT);
+    CHECK(knot_block_fields(B3, 16, 1, NULL, 0) == KNOT_SHORT_OUTPUT);
     CHECK(all(0, 64, UNTOUCHED));
 
-    uint32_t answer = knot_block_fields(B3, 16, values, 31);
-    CHECK(KNOT_ANSWER(answer) == KNOT_DONE && KNOT_MODE(answer) == 11 && values[0] == 11);
-    CHECK(all(1, 4, 0) && values[4] == 0x3FF && all(5, 30, 0) && values[30] == 15 && all(31, 64, UNTOUCHED));
-    answer = knot_block_fields(B9, 16, values, 31);
-    CHECK(KNOT_MODE(answer) == 10 && values[7] == 0x3F && values[10] == 0 && values[13] == 13 && values[14] == 8);
+    uint32_t answer = knot_block_fields(B3, 16, KNOT_SIGNED, values, 32);
+    CHECK(KNOT_ANSWER(answer) == KNOT_DONE && KNOT_MODE(answer) == 11 && values[0] == KNOT_SIGNED && values[1] == 11);
+    CHECK(all(2, 5, 0) && values[5] == 0x3FF && all(6, 31, 0) && values[31] == 15 && all(32, 64, UNTOUCHED));
+    answer = knot_block_fields(B9, 16, KNOT_UNSIGNED, values, 32);
+    CHECK(KNOT_MODE(answer) == 10 && values[0] == KNOT_UNSIGNED && values[8] == 0x3F && values[11] == 0 && values[14] == 13 && values[15] == 8);
 }
 
 static uint8_t store[48001];

@@ -6,7 +6,7 @@ mod knot {
         extern "C" {
             pub fn knot_block_pixels(block: *const u8, block_length: usize, format: u8, out: *mut u16, out_length: usize) -> u32;
             pub fn knot_blocks_pixels(blocks: *const u8, blocks_length: usize, format: u8, out: *mut u16, out_length: usize, done: *mut usize, infinite: *mut usize) -> u32;
-            pub fn knot_block_fields(block: *const u8, block_length: usize, numbers: *mut u16, numbers_length: usize) -> u32;
+            pub fn knot_block_fields(block: *const u8, block_length: usize, format: u8, numbers: *mut u16, numbers_length: usize) -> u32;
             pub fn knot_record_at(store: *const u8, store_length: usize, n: usize) -> u64;
             pub fn knot_record_block(store: *const u8, store_length: usize, n: usize) -> usize;
             pub fn knot_tile_at(store: *const u8, store_length: usize, n: usize) -> u32;
@@ -33,10 +33,10 @@ mod knot {
         }
     }
 
-    /// Mode, twelve endpoint values, partition, pixels in region 1, sixteen indices.
-    pub fn block_fields(block: &[u8]) -> Result<[u16; 31], u8> {
-        let mut numbers = [0; 31];
-        match unsafe { c::knot_block_fields(block.as_ptr(), block.len(), numbers.as_mut_ptr(), numbers.len()) } as u8 {
+    /// Format, mode, twelve endpoint values, partition, pixels in region 1, sixteen indices.
+    pub fn block_fields(block: &[u8], format: u8) -> Result<[u16; 32], u8> {
+        let mut numbers = [0; 32];
+        match unsafe { c::knot_block_fields(block.as_ptr(), block.len(), format, numbers.as_mut_ptr(), numbers.len()) } as u8 {
             0 => Ok(numbers),
             number => Err(number),
         }
@@ -115,12 +115,14 @@ fn runs() {
 }
 
 fn fields() {
-    assert_eq!(knot::block_fields(&[]), Err(2));
-    assert_eq!(knot::block_fields(&[0; 17]), Err(2));
-    assert_eq!(knot::block_fields(&B2), Err(4));
-    let numbers = knot::block_fields(&B3).unwrap();
-    assert_eq!((numbers[0], numbers[4], numbers[30]), (11, 0x3FF, 15));
-    assert_eq!(numbers.iter().map(|&number| u32::from(number)).sum::<u32>(), 11 + 0x3FF + 15);
+    assert_eq!(knot::block_fields(&[], 2), Err(1));
+    assert_eq!(knot::block_fields(&[], 0), Err(2));
+    assert_eq!(knot::block_fields(&[0; 17], 1), Err(2));
+    assert_eq!(knot::block_fields(&B2, 2), Err(1));
+    assert_eq!(knot::block_fields(&B2, 1), Err(4));
+    let numbers = knot::block_fields(&B3, 1).unwrap();
+    assert_eq!((numbers[0], numbers[1], numbers[5], numbers[31]), (1, 11, 0x3FF, 15));
+    assert_eq!(numbers.iter().map(|&number| u32::from(number)).sum::<u32>(), 1 + 11 + 0x3FF + 15);
 }
 
 fn store() {

@@ -4,7 +4,7 @@ use crate::{field_numbers, for_each_class, Extent, Tally};
 extern "C" {
     fn knot_block_pixels(block: *const u8, block_length: usize, format: u8, out: *mut u16, out_length: usize) -> u32;
     fn knot_blocks_pixels(blocks: *const u8, blocks_length: usize, format: u8, out: *mut u16, out_length: usize, done: *mut usize, infinite: *mut usize) -> u32;
-    fn knot_block_fields(block: *const u8, block_length: usize, numbers: *mut u16, room: usize) -> u32;
+    fn knot_block_fields(block: *const u8, block_length: usize, format: u8, numbers: *mut u16, room: usize) -> u32;
 }
 
 /// What stands in lent values before a call, to see which are written.
@@ -26,8 +26,8 @@ fn infinities(values: &[u16]) -> usize {
     values.iter().filter(|&&value| value == 0xFC00).count()
 }
 
-fn fields(block: &[u8], numbers: &mut [u16]) -> u32 {
-    unsafe { knot_block_fields(block.as_ptr(), block.len(), numbers.as_mut_ptr(), numbers.len()) }
+fn fields(block: &[u8], format: u8, numbers: &mut [u16]) -> u32 {
+    unsafe { knot_block_fields(block.as_ptr(), block.len(), format, numbers.as_mut_ptr(), numbers.len()) }
 }
 
 fn compare_pixels(block: [u8; 16], format: u8, tally: &mut Tally) {
@@ -57,14 +57,14 @@ fn compare_run(blocks: &[[u8; 16]], format: u8, tally: &mut Tally) {
     }
 }
 
-fn compare_fields(block: [u8; 16], tally: &mut Tally) {
-    let mut numbers = [UNTOUCHED; 32];
-    let answer = fields(&block, &mut numbers);
-    let (number, expected) = field_numbers(block);
+fn compare_fields(block: [u8; 16], format: u8, tally: &mut Tally) {
+    let mut numbers = [UNTOUCHED; 33];
+    let answer = fields(&block, format, &mut numbers);
+    let (number, expected) = field_numbers(block, format);
     tally.compared += 1;
-    let written = if number == 0 { expected } else { [UNTOUCHED; 31] };
-    if answer != u32::from(number) | u32::from(expected[0]) << 8 || numbers[..31] != written || numbers[31] != UNTOUCHED {
-        tally.differs("fields", 0, &block);
+    let written = if number == 0 { expected } else { [UNTOUCHED; 32] };
+    if answer != u32::from(number) | u32::from(expected[1]) << 8 || numbers[..32] != written || numbers[32] != UNTOUCHED {
+        tally.differs("fields", format, &block);
     }
 }
 
@@ -126,7 +126,7 @@ pub fn compare(extent: &Extent, tally: &mut Tally) {
         walk(&mut |block| {
             compare_pixels(block, 0, tally);
             compare_pixels(block, 1, tally);
-            compare_fields(block, tally);
+            compare_fields(block, block[15] % 2, tally);
             run.push(block);
             if run.len() > runs % 100 {
                 compare_run(&run, (runs % 2) as u8, tally);

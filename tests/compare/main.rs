@@ -19,18 +19,22 @@ pub struct Extent {
     pub seed: u64,
 }
 
-/// One side's answer to the field call, with our numbers in the order of the header.
-pub fn field_numbers(block: [u8; 16]) -> (u8, [u16; 31]) {
+/// One side's answer to the field call in format 0 or 1, with our numbers in the order of the header.
+pub fn field_numbers(block: [u8; 16], format: u8) -> (u8, [u16; 32]) {
     let f = oracle::fields(block);
-    let mut numbers = [0; 31];
-    numbers[0] = f.mode.into();
-    numbers[1..13].copy_from_slice(&f.endpoints);
-    numbers[13] = f.partition.into();
-    numbers[14] = f.region1.into();
-    for (number, index) in numbers[15..].iter_mut().zip(f.indices) {
+    let mut numbers = [0; 32];
+    if f.mode == 0 {
+        return (4, numbers);
+    }
+    numbers[0] = format.into();
+    numbers[1] = f.mode.into();
+    numbers[2..14].copy_from_slice(&f.endpoints);
+    numbers[14] = f.partition.into();
+    numbers[15] = f.region1.into();
+    for (number, index) in numbers[16..].iter_mut().zip(f.indices) {
         *number = index.into();
     }
-    (if f.mode == 0 { 4 } else { 0 }, numbers)
+    (0, numbers)
 }
 
 /// Counts what was compared, prints the first differences, and ends the run where they are many.

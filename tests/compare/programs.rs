@@ -1,4 +1,4 @@
-//! Our side as programs: decode_blocks (17 bytes in, 98 out) and extract_fields (16 in, 44 out).
+//! Our side as programs: decode_blocks (17 bytes in, 98 out) and extract_fields (17 in, 45 out).
 use crate::blocks::{Mode, NAMED};
 use crate::{field_numbers, Tally};
 use std::io::{BufWriter, Read, Write};
@@ -34,15 +34,16 @@ fn decoded(record: &[u8]) -> [u8; 98] {
     answer
 }
 
-/// The 44 bytes for a block: answer, mode, twelve endpoints of two bytes, partition, region count, sixteen indices.
-fn extracted(block: &[u8]) -> Vec<u8> {
-    let Ok(block) = <[u8; 16]>::try_from(block) else {
-        return [[2].as_slice(), &[0; 43]].concat();
+/// The 45 bytes for a record: answer, format, mode, twelve endpoints of two bytes, partition, region count, sixteen indices.
+fn extracted(record: &[u8]) -> Vec<u8> {
+    let (answer, numbers) = match (record[0], <[u8; 16]>::try_from(&record[1..])) {
+        (2.., _) => (1, [0; 32]),
+        (_, Err(_)) => (2, [0; 32]),
+        (format, Ok(block)) => field_numbers(block, format),
     };
-    let (answer, numbers) = field_numbers(block);
-    let mut bytes = vec![answer, numbers[0] as u8];
-    bytes.extend(numbers[1..13].iter().flat_map(|number| number.to_le_bytes()));
-    bytes.extend(numbers[13..].iter().map(|&number| number as u8));
+    let mut bytes = vec![answer, numbers[0] as u8, numbers[1] as u8];
+    bytes.extend(numbers[2..14].iter().flat_map(|number| number.to_le_bytes()));
+    bytes.extend(numbers[14..].iter().map(|&number| number as u8));
     bytes
 }
 
@@ -58,15 +59,15 @@ fn sample(seed: u64) -> Vec<[u8; 16]> {
     blocks
 }
 
-fn compare_run(what: &str, input: &[u8], size: usize, output: &[u8], expected: &[u8], each: usize, tally: &mut Tally) {
+fn compare_run(what: &str, records: &[u8], output: &[u8], expected: &[u8], each: usize, tally: &mut Tally) {
     if output.len() != expected.len() {
         tally.differs(&format!("{what} wrote {} bytes for {}", output.len(), expected.len()), 0, &[]);
     }
     for (n, (ours, theirs)) in output.chunks(each).zip(expected.chunks(each)).enumerate() {
         tally.compared += 1;
         if ours != theirs {
-            let piece = &input[n * size..input.len().min((n + 1) * size)];
-            tally.differs(what, if size == 17 { piece[0] } else { 0 }, &piece[size - 16..]);
+            let record = &records[n * 17..records.len().min((n + 1) * 17)];
+            tally.differs(what, record[0], &record[1..]);
         }
     }
 }
@@ -82,12 +83,9 @@ pub fn compare(decode: &str, extract: &str, seed: u64, tally: &mut Tally) {
     }
     records.extend([1, 0x0F, 0, 0]);
     let expected: Vec<u8> = records.chunks(17).flat_map(decoded).collect();
-    compare_run("decode_blocks", &records, 17, &answers(decode, &records), &expected, 98, tally);
-
-    let mut bytes = blocks.concat();
-    bytes.extend([0x0F, 0, 0]);
-    let expected: Vec<u8> = bytes.chunks(16).flat_map(extracted).collect();
-    compare_run("extract_fields", &bytes, 16, &answers(extract, &bytes), &expected, 44, tally);
+    compare_run("decode_blocks", &records, &answers(decode, &records), &expected, 98, tally);
+    let expected: Vec<u8> = records.chunks(17).flat_map(extracted).collect();
+    compare_run("extract_fields", &records, &answers(extract, &records), &expected, 45, tally);
 }
 
 /// B1 to B11, every block of at most two bits over each code or two short of all, and random ones.

@@ -7,11 +7,11 @@ use borrow.Author.Tests.{lt-ltb, le-ltb, eq-eqb, ne-eqb}
 use Rattle.bc6h_spec.specs.Answers.{done, badFormat, badBlock, shortOutput}
 use Rattle.bc6h_spec.specs.Bits.{blockSize}
 use Rattle.bc6h_spec.specs.Fields.{modeOf}
-use Rattle.bc6h_spec.specs.Picture.{valueCount}
+use Rattle.bc6h_spec.specs.Picture.{valueCount, isSigned}
 use Rattle.bc6h_spec.specs.Block.{pixelsOf, infinitiesOf}
 use Rattle.bc6.specs.declared.Shown.{Shown}
 use Rattle.bc6.specs.declared.Pixels.{Pixels}
-use Rattle.bc6.specs.Call.{refusalOf, isSigned, answerAt, BlockPainted, Painted}
+use Rattle.bc6.specs.Call.{refusalOf, answerAt, BlockPainted, Painted}
 
 -- ---- the checks
 

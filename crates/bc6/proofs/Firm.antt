@@ -15,7 +15,7 @@ use Rattle.bc6h_spec.specs.Layout.{transformed, rows, row11, row13}
 use Rattle.bc6h_spec.specs.Regions.{regionOf}
 use Rattle.bc6h_spec.specs.Fields.{modeIn, modeOf, gathered, fieldsAt, fieldsOf}
 use Rattle.bc6h_spec.specs.Half.{signExtend, keep, transform, unquantizeU, unquantizeM, unquantized, interpolated, highestPattern, finishU, scaled, finishS, finished}
-use Rattle.bc6h_spec.specs.Picture.{firstEnd, delta, otherEnd, endpoint, between, palette, value, picture, valueCount}
+use Rattle.bc6h_spec.specs.Picture.{firstEnd, delta, otherEnd, endpoint, between, palette, value, pictureAs, picture, valueCount}
 use Rattle.bc6h_spec.specs.Block.{pixelsOf}
 use Rattle.bc6h_spec.proofs.Blocks.{B3, B5}
 use Rattle.bc6.specs.declared.Pixels.{Pixels}
@@ -27,12 +27,12 @@ use Rattle.bc6.proofs.Values.{wrote}
 
 B5-red : getD (pixelsOf false B5) 0 0 ≡ 0x3E03
 unfolding made countOf transformed rows row13 regionOf modeIn modeOf gathered before unpacked fieldsAt fieldsOf signExtend keep transform
-    unquantizeU unquantized interpolated finishU finished firstEnd delta otherEnd endpoint between palette value picture pixelsOf
+    unquantizeU unquantized interpolated finishU finished firstEnd delta otherEnd endpoint between palette value pictureAs picture pixelsOf
 B5-red = refl
 
 B3-red : (getD (pixelsOf false B3) 0 0 ≡ 0) × (getD (pixelsOf false B3) 45 0 ≡ highestPattern)
 unfolding made countOf transformed rows row11 regionOf modeIn modeOf gathered before unpacked fieldsAt fieldsOf signExtend keep transform
-    unquantizeU unquantized interpolated finishU finished firstEnd delta otherEnd endpoint between palette value picture pixelsOf
+    unquantizeU unquantized interpolated finishU finished firstEnd delta otherEnd endpoint between palette value pictureAs picture pixelsOf
 B3-red = (refl, refl)
 
 -- B3 with one bit fewer in the second endpoint's red: 0x1FF, the highest of ten bits in signed format
@@ -41,7 +41,7 @@ B3-signed = 0x03 ∷ replicate 3 0 ++ (0xF8 ∷ 0x0F ∷ replicate 9 0) ++ (0xF0
 
 B3-signed-red : getD (pixelsOf true B3-signed) 45 0 ≡ highestPattern
 unfolding made countOf transformed rows row11 regionOf modeIn modeOf gathered before unpacked fieldsAt fieldsOf signExtend keep transform
-    unquantizeM unquantized interpolated scaled finishS finished firstEnd delta otherEnd endpoint between palette value picture pixelsOf
+    unquantizeM unquantized interpolated scaled finishS finished firstEnd delta otherEnd endpoint between palette value pictureAs picture pixelsOf
 B3-signed-red = refl
 
 -- "Each format has a highest pattern and it is 0x7BFF in both": each format shows it

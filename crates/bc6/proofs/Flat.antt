@@ -16,7 +16,7 @@ use Rattle.bc6h_spec.specs.Layout.{twoRegions, precision}
 use Rattle.bc6h_spec.specs.Regions.{regionOf, mapOf}
 use Rattle.bc6h_spec.specs.Fields.{indexOf, Valid}
 use Rattle.bc6h_spec.specs.Half.{minusInfinity}
-use Rattle.bc6h_spec.specs.Picture.{weights8, weights16, weights, between, palette, value, picture}
+use Rattle.bc6h_spec.specs.Picture.{weights8, weights16, weights, between, palette, value, pictureAs}
 use Rattle.bc6_half.specs.declared.Half.{Half}
 use Rattle.bc6_half.specs.Halves.{marked}
 use Rattle.bc6_palette.specs.declared.Colour.{Colour}
@@ -72,8 +72,8 @@ unfolding colours entryOf tripleOf unquantizedOf endOf palette between shown
 colours-are s f r i ws e = rw e refl
 
 pixel-value : (s : Bool) (f : Fields) (k c : ℕ) → k < 16 → c < 3
-    → getD (picture s f) (3 * k + c) 0 ≡ palette s f (regionOf (f .mode) (f .partition) k) c (indexOf f k)
-unfolding picture value
+    → getD (pictureAs s f) (3 * k + c) 0 ≡ palette s f (regionOf (f .mode) (f .partition) k) c (indexOf f k)
+unfolding pictureAs value
 pixel-value s f k c hk hc =
     let d : (3 * k + c) / 3 ≡ k = omega arith in
     let m : (3 * k + c) % 3 ≡ c = omega arith in
@@ -81,21 +81,21 @@ pixel-value s f k c hk hc =
     ∙ (λ i. palette s f (regionOf (f .mode) (f .partition) (d i)) (m i) (indexOf f (d i)))
 
 triple-shown : (s : Bool) (f : Fields) (k : ℕ) → k < 16
-    → tripleAt (picture s f) k ≡ shown s f (regionOf (f .mode) (f .partition) k) (indexOf f k)
+    → tripleAt (pictureAs s f) k ≡ shown s f (regionOf (f .mode) (f .partition) k) (indexOf f k)
 unfolding tripleAt shown
 triple-shown s f k h =
     let zero-at : 3 * k ≡ 3 * k + 0 = omega arith in
-    let r = ap (λ (j : ℕ). getD (picture s f) j 0) zero-at ∙ pixel-value s f k 0 h (lit< tt) in
+    let r = ap (λ (j : ℕ). getD (pictureAs s f) j 0) zero-at ∙ pixel-value s f k 0 h (lit< tt) in
     let g = pixel-value s f k 1 h (lit< tt) in
     let b = pixel-value s f k 2 h (lit< tt) in
     λ i. marked (r i) ∷ marked (g i) ∷ marked (b i) ∷ []
 
 module _ (s : Bool) (f : Fields) (v : Valid f) where
-  one-shown : twoRegions (f .mode) ≡ false → made (onePixel (made (colours s f 0 weights16) 16) (f .indices)) 16 ≡ inTriples (picture s f)
+  one-shown : twoRegions (f .mode) ≡ false → made (onePixel (made (colours s f 0 weights16) 16) (f .indices)) 16 ≡ inTriples (pictureAs s f)
   unfolding inTriples onePixel regionOf
   one-shown t =
       let ws : weights16 ≡ weights (f .mode) = sym (ap (λ (b : Bool). pick b weights8 weights16) t) in
-      made-same (onePixel (made (colours s f 0 weights16) 16) (f .indices)) (tripleAt (picture s f)) 16
+      made-same (onePixel (made (colours s f 0 weights16) 16) (f .indices)) (tripleAt (pictureAs s f)) 16
       (λ k h.
       getD-made (colours s f 0 weights16) 16 (indexOf f k) [] (indices-16 s f v t k h)
       ∙ colours-are s f 0 (indexOf f k) weights16 ws
@@ -109,12 +109,12 @@ module _ (s : Bool) (f : Fields) (v : Valid f) where
   by-region i (suc (suc r)) h l e = absurd (omega arith)
 
   two-shown : twoRegions (f .mode) ≡ true
-      → made (twoPixel (made (colours s f 0 weights8) 8) (made (colours s f 1 weights8) 8) (mapOf (f .partition)) (f .indices)) 16 ≡ inTriples (picture s f)
+      → made (twoPixel (made (colours s f 0 weights8) 8) (made (colours s f 1 weights8) 8) (mapOf (f .partition)) (f .indices)) 16 ≡ inTriples (pictureAs s f)
   unfolding inTriples twoPixel onePixel regionOf
   two-shown t =
       let ws : weights8 ≡ weights (f .mode) = sym (ap (λ (b : Bool). pick b weights8 weights16) t) in
       let map = mapOf (f .partition) in
-      made-same (twoPixel (made (colours s f 0 weights8) 8) (made (colours s f 1 weights8) 8) map (f .indices)) (tripleAt (picture s f)) 16
+      made-same (twoPixel (made (colours s f 0 weights8) 8) (made (colours s f 1 weights8) 8) map (f .indices)) (tripleAt (pictureAs s f)) 16
       (λ k h.
       by-region (indexOf f k) (bit map k) (indices-8 s f v t k h) (mod-lt _ (lit< tt)) ws
       ∙ ap (λ (b : Bool). shown s f (pick b (bit map k) 0) (indexOf f k)) (sym t)
@@ -124,7 +124,7 @@ module _ (s : Bool) (f : Fields) (v : Valid f) where
   module _ (p : ℕ) (a b : Colour) (ep : p ≡ precision (f .mode)) (ea : a ≡ endOf s f 0) (eb : b ≡ endOf s f 1) where
     pub one-painted : (palette q : List (List Half)) → twoRegions (f .mode) ≡ false
         → palette ≡ made (entryOf s (unquantizedOf s p a) (unquantizedOf s p b) weights16) 16
-        → q ≡ made (onePixel palette (f .indices)) 16 → q ≡ inTriples (picture s f)
+        → q ≡ made (onePixel palette (f .indices)) 16 → q ≡ inTriples (pictureAs s f)
     unfolding colours
     one-painted palette q t e eq =
         eq
@@ -135,7 +135,7 @@ module _ (s : Bool) (f : Fields) (v : Valid f) where
     pub two-painted : (c d : Colour) (p₀ p₁ q : List (List Half)) (map : ℕ) → twoRegions (f .mode) ≡ true → c ≡ endOf s f 2 → d ≡ endOf s f 3
         → p₀ ≡ made (entryOf s (unquantizedOf s p a) (unquantizedOf s p b) weights8) 8
         → p₁ ≡ made (entryOf s (unquantizedOf s p c) (unquantizedOf s p d) weights8) 8
-        → map ≡ mapOf (f .partition) → q ≡ made (twoPixel p₀ p₁ map (f .indices)) 16 → q ≡ inTriples (picture s f)
+        → map ≡ mapOf (f .partition) → q ≡ made (twoPixel p₀ p₁ map (f .indices)) 16 → q ≡ inTriples (pictureAs s f)
     unfolding colours
     two-painted c d p₀ p₁ q map t ec ed e₀ e₁ em eq =
         eq

@@ -7,12 +7,13 @@ use native.Mathlib.Omega.{arith}
 use lib.ListN.{drop, replicate}
 use Rattle.laws.specs.Made.{made, countOf}
 use Rattle.bc6h_spec.specs.declared.Fields.{Fields}
-use Rattle.bc6h_spec.specs.Fields.{modeOf, fieldsOf, Valid}
+use Rattle.bc6h_spec.specs.Fields.{modeOf, Valid}
 use Rattle.bc6h_spec.specs.Half.{minusInfinity}
-use Rattle.bc6h_spec.specs.Picture.{picture}
-use Rattle.bc6h_spec.specs.Block.{pixelsOf, infinitiesOf}
+use Rattle.bc6h_spec.specs.Picture.{pictureAs}
+use Rattle.bc6h_spec.specs.Block.{formatNumber, fieldsIn, pixelsOf, infinitiesOf}
+use Rattle.bc6h_spec.proofs.Formats.{number-le}
 use Rattle.bc6h_spec.proofs.Reading.{fields-valid, fields-mode}
-use Rattle.bc6h_spec.proofs.Pixel.{block-shows}
+use Rattle.bc6h_spec.proofs.Pixel.{shows-as}
 use Rattle.bc6h_spec.proofs.Shown.{unsigned-finite}
 use Rattle.bc6_half.specs.declared.Half.{Half}
 use Rattle.bc6_half.specs.Halves.{marked}
@@ -34,22 +35,22 @@ module _ (s : Bool) (block : List ℕ) where
   unfolding pixelsOf
   pixels-none z = rw z refl
 
-  module _ (f : Fields) (e : f ≡ fieldsOf block) where
+  module _ (f : Fields) (e : f ≡ fieldsIn s block) where
     mode-is : f .mode ≡ modeOf block
-    mode-is = ap (λ (x : Fields). x .mode) e ∙ fields-mode block
+    mode-is = ap (λ (x : Fields). x .mode) e ∙ fields-mode (formatNumber s) block
 
     some : (f .mode ≡ 0 → ⊥) → 1 ≤ modeOf block
     some n = rw mode-is at (let h : 1 ≤ f .mode = omega arith in h)
 
     pub valid : (f .mode ≡ 0 → ⊥) → Valid f
-    valid n = subst Valid (sym e) (fields-valid block (some n))
+    valid n = subst Valid (sym e) (fields-valid (formatNumber s) block (number-le s) (some n))
 
     pub reserved : f .mode ≡ 0 → replicate 16 black ≡ inTriples (pixelsOf s block)
     unfolding inTriples tripleAt made marked
     reserved z = rw (pixels-none (sym mode-is ∙ z)) refl
 
-    pub decoded : (q : List (List Half)) → (f .mode ≡ 0 → ⊥) → q ≡ inTriples (picture s f) → q ≡ inTriples (pixelsOf s block)
-    decoded q n h = h ∙ ap (λ (x : Fields). inTriples (picture s x)) e ∙ ap inTriples (sym (block-shows s block (some n)))
+    pub decoded : (q : List (List Half)) → (f .mode ≡ 0 → ⊥) → q ≡ inTriples (pictureAs s f) → q ≡ inTriples (pixelsOf s block)
+    decoded q n h = h ∙ ap (λ (x : Fields). inTriples (pictureAs s x)) e ∙ ap inTriples (sym (shows-as s block (some n)))
 
     -- what is shown of the block, by its fields
     pub shown-black : (out after : List ℕ) → f .mode ≡ 0 → after ≡ replicate 48 0 ++ drop 48 out
@@ -58,13 +59,13 @@ module _ (s : Bool) (block : List ℕ) where
     shown-black out after z h =
         shown-values block s out (f .mode) 0 (replicate 48 0) after mode-is (sym (pixels-none (sym mode-is ∙ z))) (record { holds = h; counts = refl })
 
-    pub shown-picture : (b : Bool) → s ≡ b → (out after : List ℕ) (m : ℕ) → (f .mode ≡ 0 → ⊥) → PaintedAs (picture b f) out m after
+    pub shown-picture : (b : Bool) → s ≡ b → (out after : List ℕ) (m : ℕ) → (f .mode ≡ 0 → ⊥) → PaintedAs (pictureAs b f) out m after
         → BlockPainted block s out (record { mode = f .mode; infinite = m }) after
     shown-picture b q out after m n w =
-        shown-values block s out (f .mode) m (picture b f) after mode-is
-        (ap (λ (x : Bool). picture x f) (sym q) ∙ ap (picture s) e ∙ sym (block-shows s block (some n))) w
+        shown-values block s out (f .mode) m (pictureAs b f) after mode-is
+        (ap (λ (x : Bool). pictureAs x f) (sym q) ∙ ap (pictureAs s) e ∙ sym (shows-as s block (some n))) w
 
-    pub shown-unsigned : s ≡ false → (out after : List ℕ) → (f .mode ≡ 0 → ⊥) → after ≡ picture false f ++ drop 48 out
+    pub shown-unsigned : s ≡ false → (out after : List ℕ) → (f .mode ≡ 0 → ⊥) → after ≡ pictureAs false f ++ drop 48 out
         → BlockPainted block s out (record { mode = f .mode; infinite = 0 }) after
     shown-unsigned q out after n h = shown-picture false q out after 0 n (record { holds = h; counts = sym (unsigned-finite f (valid n)) })
 

@@ -9,7 +9,7 @@ use Rattle.laws.specs.Pick.{pick}
 use Rattle.bc6h_spec.specs.Answers.{done, badFormat, badBlock, shortOutput}
 use Rattle.bc6h_spec.specs.Bits.{blockSize}
 use Rattle.bc6h_spec.specs.Fields.{modeOf}
-use Rattle.bc6h_spec.specs.Picture.{valueCount}
+use Rattle.bc6h_spec.specs.Picture.{valueCount, isSigned}
 use Rattle.bc6h_spec.specs.Block.{pixelsOf, infinitiesOf}
 use Rattle.bc6.specs.declared.Shown.{Shown}
 use Rattle.bc6.specs.declared.Pixels.{Pixels}
@@ -17,10 +17,6 @@ use Rattle.bc6.specs.declared.Pixels.{Pixels}
 -- "pixels of a block: 1, 2, 3": the first check that is met, from the format, the block's length and the room
 unfoldable pub refusalOf : ℕ → ℕ → ℕ → ℕ
 refusalOf format size room = pick (ltb 1 format) badFormat (pick (eqb size blockSize) (pick (ltb room valueCount) shortOutput done) badBlock)
-
--- "0 (unsigned) nor 1 (signed)"
-abbrev pub isSigned : ℕ → Bool
-isSigned format = eqb format 1
 
 -- "It answers the mode number. A reserved mode is done, with mode number 0; a refusal has mode number 0 too."
 -- "answer a count: how many of the values written equal 0xFC00. A reserved block and a refusal count zero."

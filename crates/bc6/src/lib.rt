@@ -15,8 +15,8 @@ ghost use lib.ListN.{length, drop, replicate};
 ghost use Rattle.laws.specs.Made.{made};
 ghost use Rattle.bc6h_spec.specs.Layout.{twoRegions};
 ghost use Rattle.bc6h_spec.specs.Fields.{Valid};
-ghost use Rattle.bc6h_spec.specs.Picture.{picture};
-ghost use Rattle.bc6h_spec.specs.Block.{pixelsOf};
+ghost use Rattle.bc6h_spec.specs.Picture.{pictureAs};
+ghost use Rattle.bc6h_spec.specs.Block.{fieldsIn, pixelsOf};
 ghost use Rattle.bc6_paint.specs.Tones.{IndicesBelow, PaintedAs};
 ghost use Rattle.bc6.specs.Triples.{onePixel, twoPixel, flat, inTriples, Marked};
 ghost use Rattle.bc6.specs.Call.{BlockPainted, Painted};
@@ -60,7 +60,7 @@ fn paint_two(
 
 fn decode_one(f: Fields, signed: bool) -> [[Half; 3]; 16]
     requires { ⌜ Valid f × (twoRegions (f .mode) ≡ false) ⌝ }
-    ensures { λ r. ⌜ r ≡ inTriples (picture signed f) ⌝ }
+    ensures { λ r. ⌜ r ≡ inTriples (pictureAs signed f) ⌝ }
 {
     let bits = ModeBits::of(f.mode);
     let a = Colour::first(f, bits, signed);
@@ -72,7 +72,7 @@ fn decode_one(f: Fields, signed: bool) -> [[Half; 3]; 16]
 
 fn decode_two(f: Fields, signed: bool) -> [[Half; 3]; 16]
     requires { ⌜ Valid f × (twoRegions (f .mode) ≡ true) ⌝ }
-    ensures { λ r. ⌜ r ≡ inTriples (picture signed f) ⌝ }
+    ensures { λ r. ⌜ r ≡ inTriples (pictureAs signed f) ⌝ }
 {
     let bits = ModeBits::of(f.mode);
     let a = Colour::first(f, bits, signed);
@@ -86,12 +86,20 @@ fn decode_two(f: Fields, signed: bool) -> [[Half; 3]; 16]
     paint_two(palette0, palette1, partition, indices)
 }
 
+// The fields of a block in a format.
+fn fields_in(block: &[u8], signed: bool) -> Fields
+    requires { ⌜ length (now block) ≡ 16 ⌝ }
+    ensures { λ r. ⌜ r ≡ fieldsIn signed (now (block .entry)) ⌝ }
+{
+    bc6_fields::fields_of(block, signed as u8)
+}
+
 // The sixteen triples of a block; a reserved mode shows zeros.
 pub fn decode_bc6_block(block: &[u8], signed: bool) -> [[Half; 3]; 16]
     requires { ⌜ length (now block) ≡ 16 ⌝ }
     ensures { λ r. ⌜ r ≡ inTriples (pixelsOf signed (now (block .entry))) ⌝ }
 {
-    let f = bc6_fields::fields_of(block);
+    let f = fields_in(block, signed);
     let mode = f.mode;
     if mode == 0 {
         let black = Colour::black();
@@ -158,7 +166,7 @@ pub fn show_block(block: &[u8], signed: bool, out: &mut [u16]) -> Shown
     requires { ⌜ (length (now block) ≡ 16) × (48 ≤ length (now out)) ⌝ }
     ensures { λ r. ⌜ BlockPainted (now (block .entry)) signed (now (out .entry)) r (now (out .exit)) ⌝ }
 {
-    let f = bc6_fields::fields_of(block);
+    let f = fields_in(block, signed);
     let mode = f.mode;
     if mode == 0 {
         write_black(out);

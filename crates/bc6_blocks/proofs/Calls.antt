@@ -10,7 +10,8 @@ use Rattle.bc6h_spec.specs.Answers.{done, badFormat, shortOutput, unevenBlocks}
 use Rattle.bc6h_spec.specs.Block.{pixelsOf, infinitiesOf}
 use Rattle.bc6h_spec.proofs.Values.{length-pixels}
 use Rattle.bc6.specs.declared.Pixels.{Pixels}
-use Rattle.bc6.specs.Call.{refusalOf, isSigned, Painted}
+use Rattle.bc6h_spec.specs.Picture.{isSigned}
+use Rattle.bc6.specs.Call.{refusalOf, Painted}
 use Rattle.bc6.proofs.Calls.{written}
 use Rattle.bc6_blocks.specs.declared.BlocksPixels.{BlocksPixels}
 use Rattle.bc6_blocks.specs.Run.{blocksIn, blockAt, shownAt, runOf, runRefusal, runAnswer, runValues, RunWritten, RunPainted}

@@ -10,9 +10,8 @@ use Rattle.laws.specs.Made.{made, countOf, join}
 use Rattle.bc6h_spec.specs.Answers.{done, badFormat, shortOutput, unevenBlocks}
 use Rattle.bc6h_spec.specs.Bits.{blockSize}
 use Rattle.bc6h_spec.specs.Half.{minusInfinity}
-use Rattle.bc6h_spec.specs.Picture.{valueCount}
+use Rattle.bc6h_spec.specs.Picture.{valueCount, isSigned}
 use Rattle.bc6h_spec.specs.Block.{pixelsOf}
-use Rattle.bc6.specs.Call.{isSigned}
 use Rattle.bc6_blocks.specs.declared.BlocksPixels.{BlocksPixels}
 
 -- how many blocks the bytes hold, and block n of them

@@ -1,11 +1,11 @@
 -- What follows from the field call's statement, and what it takes to show it. Assumes nothing.
 use mathlib.Core.Path.{_≡_, _∙_, refl, sym, ap}
 use mathlib.Core.List.{List}
-use Prim.Native.Nat.{ℕ}
+use Prim.Native.Nat.{ℕ, _<_, _≤_}
 use lib.ListN.{length}
-use borrow.Author.Tests.{eq-eqb, ne-eqb}
+use borrow.Author.Tests.{lt-ltb, le-ltb, eq-eqb, ne-eqb}
 use Rattle.bc6h_spec.specs.declared.Fields.{Fields}
-use Rattle.bc6h_spec.specs.Answers.{done, badBlock, reservedMode}
+use Rattle.bc6h_spec.specs.Answers.{done, badFormat, badBlock, reservedMode}
 use Rattle.bc6h_spec.specs.Bits.{blockSize}
 use Rattle.bc6h_spec.specs.Fields.{modeOf, noFields, fieldsOf}
 use Rattle.bc6h_spec.proofs.Reading.{fields-mode}
@@ -13,19 +13,24 @@ use Rattle.bc6_fields.specs.declared.FieldsRead.{FieldsRead}
 use Rattle.bc6_fields.specs.Call.{Extracted}
 
 -- the statement admits one outcome
-pub one-outcome : {block : List ℕ} {r s : FieldsRead} → Extracted block r → Extracted block s → r ≡ s
+pub one-outcome : {block : List ℕ} {format : ℕ} {r s : FieldsRead} → Extracted block format r → Extracted block format s → r ≡ s
 one-outcome a b = a .answers ∙ sym (b .answers)
 
-module _ (block : List ℕ) {f : Fields} where
-  pub bad-block : (length block ≡ blockSize → ⊥) → f ≡ noFields → Extracted block (record { answer = badBlock; fields = f })
-  bad-block ne e = record { answers = rw (ne-eqb (length block) blockSize ne, e) refl }
+module _ (block : List ℕ) (format : ℕ) {f : Fields} where
+  pub bad-format : 1 < format → f ≡ noFields → Extracted block format (record { answer = badFormat; fields = f })
+  bad-format h e = record { answers = rw (lt-ltb 1 format h, e) refl }
 
-  pub bad-mode : length block ≡ blockSize → modeOf block ≡ 0 → f ≡ noFields → Extracted block (record { answer = reservedMode; fields = f })
-  bad-mode l z e = record { answers = rw (eq-eqb (length block) blockSize l, z, e) refl }
+  module _ (k : format ≤ 1) where
+    pub bad-block : (length block ≡ blockSize → ⊥) → f ≡ noFields → Extracted block format (record { answer = badBlock; fields = f })
+    bad-block ne e = record { answers = rw (le-ltb 1 format k, ne-eqb (length block) blockSize ne, e) refl }
 
-  pub all-read : length block ≡ blockSize → (modeOf block ≡ 0 → ⊥) → f ≡ fieldsOf block → Extracted block (record { answer = done; fields = f })
-  all-read l ne e = record { answers = rw (eq-eqb (length block) blockSize l, ne-eqb (modeOf block) 0 ne, e) refl }
+    module _ (l : length block ≡ blockSize) where
+      pub bad-mode : modeOf block ≡ 0 → f ≡ noFields → Extracted block format (record { answer = reservedMode; fields = f })
+      bad-mode z e = record { answers = rw (le-ltb 1 format k, eq-eqb (length block) blockSize l, z, e) refl }
+
+      pub all-read : (modeOf block ≡ 0 → ⊥) → f ≡ fieldsOf format block → Extracted block format (record { answer = done; fields = f })
+      all-read ne e = record { answers = rw (le-ltb 1 format k, eq-eqb (length block) blockSize l, ne-eqb (modeOf block) 0 ne, e) refl }
 
 -- the mode of the fields that were read
-pub mode-read : (block : List ℕ) {f : Fields} → f ≡ fieldsOf block → modeOf block ≡ f .mode
-mode-read block e = sym (fields-mode block) ∙ ap (λ (g : Fields). g .mode) (sym e)
+pub mode-read : (block : List ℕ) (format : ℕ) {f : Fields} → f ≡ fieldsOf format block → modeOf block ≡ f .mode
+mode-read block format e = sym (fields-mode format block) ∙ ap (λ (g : Fields). g .mode) (sym e)

@@ -60,9 +60,9 @@ fn indices_of(indexes: Indexes) -> [u8; 16]
 }
 
 // The fields of a mode, once the numbers at its places are read.
-fn fields_from(mode: usize, places: [u16; 14], stream: BitStream) -> Fields
+fn fields_from(format: u8, mode: usize, places: [u16; 14], stream: BitStream) -> Fields
     requires { ⌜ (1 ≤ mode) × (mode ≤ 14) × (places ≡ made (gathered (row mode) (number stream)) 14) ⌝ }
-    ensures { λ r. ⌜ r ≡ fieldsAt mode (number stream) ⌝ }
+    ensures { λ r. ⌜ r ≡ fieldsAt format mode (number stream) ⌝ }
 {
     let endpoints = endpoints_of(places);
     if mode <= 10 {
@@ -71,6 +71,7 @@ fn fields_from(mode: usize, places: [u16; 14], stream: BitStream) -> Fields
         let rest = stream.skip(82);
         let indexes = Indexes::new_p2(3, rest, map.fixup_index_2 as u64);
         return Fields {
+            format,
             mode: mode as u8,
             endpoints,
             partition: partition as u8,
@@ -81,6 +82,7 @@ fn fields_from(mode: usize, places: [u16; 14], stream: BitStream) -> Fields
     let rest = stream.skip(65);
     let indexes = Indexes::new_p1(4, rest);
     Fields {
+        format,
         mode: mode as u8,
         endpoints,
         partition: 0,
@@ -89,10 +91,10 @@ fn fields_from(mode: usize, places: [u16; 14], stream: BitStream) -> Fields
     }
 }
 
-// The fields of a block, read by runs. A reserved mode has none.
-pub fn fields_of(block: &[u8]) -> Fields
+// The fields of a block of a format, read by runs. A reserved mode has none.
+pub fn fields_of(block: &[u8], format: u8) -> Fields
     requires { ⌜ length (now block) ≡ 16 ⌝ }
-    ensures { λ r. ⌜ r ≡ fieldsOf (now (block .entry)) ⌝ }
+    ensures { λ r. ⌜ r ≡ fieldsOf format (now (block .entry)) ⌝ }
 {
     let stream = BitStream::new(block);
     let mode = extract_mode(stream);
@@ -100,13 +102,13 @@ pub fn fields_of(block: &[u8]) -> Fields
         return Fields::none();
     }
     let places = bc6_runs::read_places(mode, stream);
-    fields_from(mode, places, stream)
+    fields_from(format, mode, places, stream)
 }
 
 // The same, read bit by bit as the table says.
-pub fn plain_fields(block: &[u8]) -> Fields
+pub fn plain_fields(block: &[u8], format: u8) -> Fields
     requires { ⌜ length (now block) ≡ 16 ⌝ }
-    ensures { λ r. ⌜ r ≡ fieldsOf (now (block .entry)) ⌝ }
+    ensures { λ r. ⌜ r ≡ fieldsOf format (now (block .entry)) ⌝ }
 {
     let stream = BitStream::new(block);
     let mode = extract_mode(stream);
@@ -114,7 +116,7 @@ pub fn plain_fields(block: &[u8]) -> Fields
         return Fields::none();
     }
     let places = bc6_table::read_places(mode, stream);
-    fields_from(mode, places, stream)
+    fields_from(format, mode, places, stream)
 }
 
 // What the field call answers: a number, and the fields where that is `Answer::DONE`.
@@ -123,16 +125,22 @@ pub struct FieldsRead {
     pub fields: Fields,
 }
 
-pub fn block_fields(block: &[u8]) -> FieldsRead
-    ensures { λ r. ⌜ Extracted (now (block .entry)) r ⌝ }
+pub fn block_fields(block: &[u8], format: u8) -> FieldsRead
+    ensures { λ r. ⌜ Extracted (now (block .entry)) format r ⌝ }
 {
+    if 1 < format {
+        return FieldsRead {
+            answer: Answer::BAD_FORMAT,
+            fields: Fields::none(),
+        };
+    }
     if block.len() != Block::SIZE {
         return FieldsRead {
             answer: Answer::BAD_BLOCK,
             fields: Fields::none(),
         };
     }
-    let fields = fields_of(block);
+    let fields = fields_of(block, format);
     if fields.mode == 0 {
         return FieldsRead {
             answer: Answer::RESERVED_MODE,

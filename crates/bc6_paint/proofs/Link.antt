@@ -18,7 +18,7 @@ use Rattle.bc6h_spec.specs.Layout.{twoRegions, precision}
 use Rattle.bc6h_spec.specs.Regions.{mapOf, regionOf}
 use Rattle.bc6h_spec.specs.Fields.{indexOf, Valid}
 use Rattle.bc6h_spec.specs.Half.{unquantized, interpolated, finished}
-use Rattle.bc6h_spec.specs.Picture.{endpoint, weights8, weights16, weights, between, palette, value, picture}
+use Rattle.bc6h_spec.specs.Picture.{endpoint, weights8, weights16, weights, between, palette, value, pictureAs}
 use Rattle.bc6h_spec.proofs.Ranges.{unquantized-in, interpolated-in}
 use Rattle.bc6h_spec.proofs.Widths.{known}
 use Rattle.bc6h_spec.proofs.Shown.{endpoint-in, weight-le}
@@ -111,15 +111,15 @@ module _ (s : Bool) (f : Fields) (v : Valid f) where
   indices-8 t k h = subst (λ (b : Bool). indexOf f k < 2 ^ pick b 3 4) t (v .index-fits k h)
 
   pub one-picture : twoRegions (f .mode) ≡ false → (a b : Tone) → a ≡ endTone s f 0 → b ≡ endTone s f 1
-      → made (oneValue s a b (f .indices)) 48 ≡ picture s f
-  unfolding picture
+      → made (oneValue s a b (f .indices)) 48 ≡ pictureAs s f
+  unfolding pictureAs
   one-picture t a b ea eb =
       (λ i. made (oneValue s (ea i) (eb i) (f .indices)) 48)
       ∙ made-cong (oneValue s (endTone s f 0) (endTone s f 1) (f .indices)) (value s f) (one-shown s f v t) 48
 
   pub two-picture : twoRegions (f .mode) ≡ true → (a b c d : Tone) (map : ℕ) → a ≡ endTone s f 0 → b ≡ endTone s f 1 → c ≡ endTone s f 2 → d ≡ endTone s f 3
-      → map ≡ mapOf (f .partition) → made (twoValue s a b c d map (f .indices)) 48 ≡ picture s f
-  unfolding picture
+      → map ≡ mapOf (f .partition) → made (twoValue s a b c d map (f .indices)) 48 ≡ pictureAs s f
+  unfolding pictureAs
   two-picture t a b c d map ea eb ec ed em =
       (λ i. made (twoValue s (ea i) (eb i) (ec i) (ed i) map (f .indices)) 48)
       ∙ made-cong (twoValue s (endTone s f 0) (endTone s f 1) (endTone s f 2) (endTone s f 3) map (f .indices)) (value s f) (two-shown s f v t map em) 48

@@ -14,7 +14,7 @@ ghost use Prim.Native.Nat.{_<_, _≤_};
 ghost use lib.ListN.{length, drop};
 ghost use Rattle.bc6h_spec.specs.Layout.{twoRegions};
 ghost use Rattle.bc6h_spec.specs.Fields.{Valid};
-ghost use Rattle.bc6h_spec.specs.Picture.{picture};
+ghost use Rattle.bc6h_spec.specs.Picture.{pictureAs};
 ghost use Rattle.bc6_palette.specs.Colours.{unquantizedOf, OfBits};
 ghost use Rattle.bc6_paint.specs.Tones.{toneOf, PaintedAs};
 
@@ -35,7 +35,7 @@ fn signed_end(c: Colour, bits: u8) -> Tone
 
 pub fn show_one_unsigned(f: Fields, out: &mut [u16])
     requires { ⌜ (Valid f × (twoRegions (f .mode) ≡ false)) × (48 ≤ length (now out)) ⌝ }
-    ensures { λ _. ⌜ now (out .exit) ≡ picture false f ++ drop 48 (now (out .entry)) ⌝ }
+    ensures { λ _. ⌜ now (out .exit) ≡ pictureAs false f ++ drop 48 (now (out .entry)) ⌝ }
 {
     let bits = ModeBits::of(f.mode);
     let a = Colour::first(f, bits, false);
@@ -48,7 +48,7 @@ pub fn show_one_unsigned(f: Fields, out: &mut [u16])
 // How many of the values are minus infinity comes back.
 pub fn show_one_signed(f: Fields, out: &mut [u16]) -> u16
     requires { ⌜ (Valid f × (twoRegions (f .mode) ≡ false)) × (48 ≤ length (now out)) ⌝ }
-    ensures { λ r. ⌜ PaintedAs (picture true f) (now (out .entry)) r (now (out .exit)) ⌝ }
+    ensures { λ r. ⌜ PaintedAs (pictureAs true f) (now (out .entry)) r (now (out .exit)) ⌝ }
 {
     let bits = ModeBits::of(f.mode);
     let a = Colour::first(f, bits, true);
@@ -60,7 +60,7 @@ pub fn show_one_signed(f: Fields, out: &mut [u16]) -> u16
 
 pub fn show_two_unsigned(f: Fields, out: &mut [u16])
     requires { ⌜ (Valid f × (twoRegions (f .mode) ≡ true)) × (48 ≤ length (now out)) ⌝ }
-    ensures { λ _. ⌜ now (out .exit) ≡ picture false f ++ drop 48 (now (out .entry)) ⌝ }
+    ensures { λ _. ⌜ now (out .exit) ≡ pictureAs false f ++ drop 48 (now (out .entry)) ⌝ }
 {
     let bits = ModeBits::of(f.mode);
     let a = Colour::first(f, bits, false);
@@ -83,7 +83,7 @@ pub fn show_two_unsigned(f: Fields, out: &mut [u16])
 
 pub fn show_two_signed(f: Fields, out: &mut [u16]) -> u16
     requires { ⌜ (Valid f × (twoRegions (f .mode) ≡ true)) × (48 ≤ length (now out)) ⌝ }
-    ensures { λ r. ⌜ PaintedAs (picture true f) (now (out .entry)) r (now (out .exit)) ⌝ }
+    ensures { λ r. ⌜ PaintedAs (pictureAs true f) (now (out .entry)) r (now (out .exit)) ⌝ }
 {
     let bits = ModeBits::of(f.mode);
     let a = Colour::first(f, bits, true);

@@ -22,7 +22,7 @@ use Rattle.bc6h_spec.specs.Layout.{precision, ownWidth, transformed, two
 use Rattle.bc6h_spec.specs.Regions.{regionOf, mapOf}
 use Rattle.bc6h_spec.specs.Fields.{stored, indexOf, Valid}
 use Rattle.bc6h_spec.specs.Half.{unquantized, interpolated, highestPattern, minusInfinity, finished}
-use Rattle.bc6h_spec.specs.Picture.{firstEnd, otherEnd, endpoint, weights8, weights16, weights, between, palette, value, valueCount, picture}
+use Rattle.bc6h_spec.specs.Picture.{firstEnd, otherEnd, endpoint, weights8, weights16, weights, between, palette, value, valueCount, pictureAs}
 use Rattle.bc6h_spec.proofs.Ranges.{first-in, other-in, unquantized-in, interpolated-in}
 use Rattle.bc6h_spec.proofs.Highest.{unsigned-top, signed-top, exception, no-minus-zero}
 use Rattle.bc6h_spec.proofs.Widths.{Mode, known, first-fits, other-fits}
@@ -97,8 +97,8 @@ pub value-unsigned : (f : Fields) → Valid f → (j : ℕ) → value false f j 
 value-unsigned f v j = rw (value-is false f v j) (unsigned-top (number false f v j) (number-in false f v j))
 
 -- no value of an unsigned picture is minus infinity
-pub unsigned-finite : (f : Fields) → Valid f → countOf minusInfinity (picture false f) ≡ 0
-unfolding picture
+pub unsigned-finite : (f : Fields) → Valid f → countOf minusInfinity (pictureAs false f) ≡ 0
+unfolding pictureAs
 unsigned-finite f v = count-never minusInfinity (value false f) (λ j e. let h : value false f j ≤ highestPattern = value-unsigned f v j in omega (arith, e, h)) valueCount
 
 -- every signed magnitude too, but 0xFC00, exactly where the interpolated number is −32768

@@ -60,5 +60,13 @@ abbrev pub valueCount : ℕ
 valueCount = 48
 
 -- "48 values (pixel 0 red, green, blue, then pixel 1 ..)"
-unfoldable pub picture : Bool → Fields → List ℕ
-picture signed f = made (value signed f) valueCount
+unfoldable pub pictureAs : Bool → Fields → List ℕ
+pictureAs signed f = made (value signed f) valueCount
+
+-- "0 (unsigned) nor 1 (signed)"
+abbrev pub isSigned : ℕ → Bool
+isSigned format = eqb format 1
+
+-- the picture that a record shows, in the format that it holds
+unfoldable pub picture : Fields → List ℕ
+picture f = pictureAs (isSigned (f .format)) f

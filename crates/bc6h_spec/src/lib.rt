@@ -10,6 +10,7 @@ ghost use Rattle.bc6h_spec.specs.Picture.{valueCount};
 
 // The fields of a block, as stored: endpoint e's channel c is endpoints[3 * e + c].
 pub struct Fields {
+    pub format: u8,
     pub mode: u8,
     pub endpoints: [u16; 12],
     pub partition: u8,
@@ -22,6 +23,7 @@ impl Fields {
         ensures { λ r. ⌜ r ≡ noFields ⌝ }
     {
         Fields {
+            format: 0,
             mode: 0,
             endpoints: [0; 12],
             partition: 0,

@@ -40,12 +40,12 @@ module _ (block earlier : List ℕ) where
     unfolding coveredPair
     pair-other-untrusted f = rw (t, f)
 
-    pub pair-modes : trusted earlier ≡ true → {f g : Fields} → f ≡ fieldsOf block → g ≡ fieldsOf earlier
+    pub pair-modes : trusted earlier ≡ true → {f g : Fields} → f ≡ fieldsOf 0 block → g ≡ fieldsOf 0 earlier
         → eqb (f .mode) (g .mode) ≡ coveredPair block earlier
     unfolding coveredPair
     pair-modes u e q =
         rw (t, u)
-        (ap₂ eqb (ap (λ (x : Fields). x .mode) e ∙ fields-mode block) (ap (λ (x : Fields). x .mode) q ∙ fields-mode earlier))
+        (ap₂ eqb (ap (λ (x : Fields). x .mode) e ∙ fields-mode 0 block) (ap (λ (x : Fields). x .mode) q ∙ fields-mode 0 earlier))
 
 -- ---- two records
 

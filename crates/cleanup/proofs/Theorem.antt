@@ -3,8 +3,8 @@ use mathlib.Core.Path.{_≡_, sym, _∙_, ap}
 use mathlib.Core.Bool.{false}
 use mathlib.Core.List.{List}
 use Prim.Native.Nat.{ℕ, _<_}
+use Rattle.bc6h_spec.specs.Picture.{isSigned}
 use Rattle.bc6h_spec.specs.Block.{pixelsOf}
-use Rattle.bc6.specs.Call.{isSigned}
 use Rattle.copies.proofs.Demand3.{demand3}
 use Rattle.records.specs.Store.{recordsIn, formatOf, blockOf}
 use Rattle.twins.specs.Twins.{pictureAt, Alike, firstTwin}

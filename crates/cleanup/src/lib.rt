@@ -18,8 +18,8 @@ fn is_covered_pair(block: &[u8], earlier: &[u8]) -> bool
     if !is_trusted(earlier) {
         return false;
     }
-    let fields = fields_of(block);
-    let earlier_fields = fields_of(earlier);
+    let fields = fields_of(block, 0);
+    let earlier_fields = fields_of(earlier, 0);
     fields.mode == earlier_fields.mode
 }
 

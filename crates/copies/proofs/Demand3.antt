@@ -5,6 +5,7 @@ use mathlib.Core.Bool.{false, true≢false}
 use mathlib.Core.List.{List}
 use Prim.Native.Nat.{ℕ, zero, suc, _≤_, _<_}
 use native.Mathlib.Omega.{arith}
+use lib.Dec.{lit≤}
 use borrow.Author.Tests.{lt-leb}
 use Rattle.bc6h_spec.specs.Layout.{twoRegions}
 use Rattle.bc6h_spec.specs.Regions.{regionOf}
@@ -22,18 +23,18 @@ demand3 x y ex ey m d e =
     (spanning x ex) (spanning y ey)
     (λ r k. only r (rw (lt-leb (modeOf x) 10 (ex .mode-from)) at k)) e
   where
-    valid : (b : List ℕ) → Eligible b → Valid (fieldsOf b)
-    valid b v = fields-valid b (omega (arith, v .mode-from))
+    valid : (b : List ℕ) → Eligible b → Valid (fieldsOf 0 b)
+    valid b v = fields-valid 0 b (lit≤ tt) (omega (arith, v .mode-from))
 
-    one : (b : List ℕ) → Eligible b → twoRegions (fieldsOf b .mode) ≡ false
-    one b v = lt-leb (fieldsOf b .mode) 10 (omega (arith, fields-mode b, v .mode-from))
+    one : (b : List ℕ) → Eligible b → twoRegions (fieldsOf 0 b .mode) ≡ false
+    one b v = lt-leb (fieldsOf 0 b .mode) 10 (omega (arith, fields-mode 0 b, v .mode-from))
 
     -- the one region has every pixel, and is numbered 0
-    reaches : (b : List ℕ) → Eligible b → (n : ℕ) → PixelAt b n → (r : ℕ) → r < 1 → Reaches (fieldsOf b) r n
+    reaches : (b : List ℕ) → Eligible b → (n : ℕ) → PixelAt b n → (r : ℕ) → r < 1 → Reaches (fieldsOf 0 b) r n
     reaches b v n q zero k = record { pixel = q .pixel; is-pixel = q .is-pixel; in-region = rw (one b v) refl; at-index = q .at-index }
     reaches b v n q (suc r) k = absurd (omega arith)
 
-    spanning : (b : List ℕ) → Eligible b → Spanning false (fieldsOf b)
+    spanning : (b : List ℕ) → Eligible b → Spanning false (fieldsOf 0 b)
     spanning b v =
         record {
           lowest = λ r k. reaches b v 0 (v .lowest) r (rw (one b v) at k);
@@ -41,7 +42,7 @@ demand3 x y ex ey m d e =
           not-least = λ q. absurd (true≢false (sym q));
         }
 
-    differs : (b : List ℕ) → Eligible b → ChannelDiffers false b → Differs false (fieldsOf b) 0
+    differs : (b : List ℕ) → Eligible b → ChannelDiffers false b → Differs false (fieldsOf 0 b) 0
     differs b v q =
         record {
           channel = q .channel;
@@ -52,6 +53,6 @@ demand3 x y ex ey m d e =
               q .all-differ i j (omega arith) (omega arith);
         }
 
-    only : (r : ℕ) → r < 1 → Differs false (fieldsOf x) r ⊎ Differs false (fieldsOf y) r
+    only : (r : ℕ) → r < 1 → Differs false (fieldsOf 0 x) r ⊎ Differs false (fieldsOf 0 y) r
     only zero k = ⊎-elim (λ q. inl (differs x ex q)) (λ q. inr (differs y ey q)) d
     only (suc r) k = absurd (omega arith)

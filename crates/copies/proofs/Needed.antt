@@ -21,7 +21,7 @@ use Rattle.bc6h_spec.specs.Layout.{transformed, rows, row1, row2, row3, row4, r
 use Rattle.bc6h_spec.specs.Regions.{partitions, regionOf, region1Of}
 use Rattle.bc6h_spec.specs.Fields.{modeIn, modeOf, gathered, fieldsAt, fieldsOf}
 use Rattle.bc6h_spec.specs.Half.{signExtend, keep, transform, unquantizeU, unquantizeM, unquantized, interpolated, finishU, scaled, finishS, finished}
-use Rattle.bc6h_spec.specs.Picture.{firstEnd, delta, otherEnd, endpoint, between, palette, value, picture}
+use Rattle.bc6h_spec.specs.Picture.{firstEnd, delta, otherEnd, endpoint, between, palette, value, pictureAs, picture}
 use Rattle.bc6h_spec.specs.Block.{pixelsOf}
 use Rattle.bc6h_spec.proofs.Blocks.{B3, B4}
 use Rattle.copies.specs.Words.{PixelAt, ChannelDiffers}
@@ -168,7 +168,7 @@ fools? p =
 all-pairs : T (every fools? premises)
 unfolding made countOf transformed rows row1 row2 row3 row4 row5 row6 row7 row8 row9 row10 row11 row12 row13 row14
     partitions regionOf region1Of modeIn modeOf gathered before unpacked fieldsAt fieldsOf signExtend keep transform unquantizeU unquantizeM unquantized interpolated finishU scaled finishS finished
-    firstEnd delta otherEnd endpoint between palette value picture pixelsOf some hasPixelAt channelDiffers
+    firstEnd delta otherEnd endpoint between palette value pictureAs picture pixelsOf some hasPixelAt channelDiffers
 all-pairs = tt
 
 listed : (p : Premise) → getD premises (number p) unsigned ≡ p
@@ -215,11 +215,11 @@ needed p claim = refute (pairs p .signed) (pairs p .x) (pairs p .y) others (both
         T-not (same x y) (both-right (same (pixelsOf signed x) (pixelsOf signed y)) _ t) (subst (λ (l : List ℕ). T (same x l)) e (same-self x))
 
 -- the signed pair's first ends: −2 ^ (p − 1) and its neighbour
-least : endpoint true (fieldsOf (pairs unsigned .x)) 0 0 ≡ negsuc 511
+least : endpoint true (fieldsOf 1 (pairs unsigned .x)) 0 0 ≡ negsuc 511
 unfolding made countOf rows row11 partitions regionOf region1Of modeIn modeOf gathered before unpacked fieldsAt fieldsOf signExtend firstEnd endpoint
 least = refl
 
-neighbour : endpoint true (fieldsOf (pairs unsigned .y)) 0 0 ≡ negsuc 510
+neighbour : endpoint true (fieldsOf 1 (pairs unsigned .y)) 0 0 ≡ negsuc 510
 unfolding made countOf rows row11 partitions regionOf region1Of modeIn modeOf gathered before unpacked fieldsAt fieldsOf signExtend firstEnd endpoint
 neighbour = refl
 

@@ -18,7 +18,7 @@ use Rattle.bc6h_spec.specs.declared.Fields.{Fields}
 use Rattle.bc6h_spec.specs.Layout.{twoRegions, precision, ownWidth, transformed}
 use Rattle.bc6h_spec.specs.Regions.{regionOf, fixupOf}
 use Rattle.bc6h_spec.specs.Fields.{stored, indexOf, fixups, has, Valid}
-use Rattle.bc6h_spec.specs.Picture.{firstEnd, otherEnd, endpoint, weights, palette, picture}
+use Rattle.bc6h_spec.specs.Picture.{firstEnd, otherEnd, endpoint, weights, palette, pictureAs}
 use Rattle.bc6h_spec.proofs.Pixel.{pixel-shows}
 use Rattle.bc6h_spec.proofs.Weights.{weights-even}
 use Rattle.bc6h_spec.proofs.Widths.{Mode, known, first-fits, other-fits}
@@ -132,12 +132,12 @@ region s f v u r h =
 
 -- f with other ends, count and indices
 abbrev with : Fields → List ℕ → ℕ → List ℕ → Fields
-with f ends ones indices = record { mode = f .mode; endpoints = ends; partition = f .partition; region1 = ones; indices = indices }
+with f ends ones indices = record { format = f .format; mode = f .mode; endpoints = ends; partition = f .partition; region1 = ones; indices = indices }
 
 module _ (s : Bool) (f : Fields) (ends : List ℕ) (ones : ℕ) (indices : List ℕ) (vf : Valid f) (vg : Valid (with f ends ones indices)) (few : f .mode ≤ 13)
     (uf : Spanning s f) (ug : Spanning s (with f ends ones indices))
     (d : (r : ℕ) → r < regions (f .mode) → Differs s f r ⊎ Differs s (with f ends ones indices) r)
-    (e : picture s f ≡ picture s (with f ends ones indices)) where
+    (e : pictureAs s f ≡ pictureAs s (with f ends ones indices)) where
   abbrev g : Fields
   g = with f ends ones indices
 
@@ -228,20 +228,20 @@ module _ (s : Bool) (f : Fields) (ends : List ℕ) (ones : ℕ) (indices : List 
 
   all-same : f ≡ with f ends ones indices
   all-same = λ i.
-      record { mode = f .mode; endpoints = ends-same i; partition = f .partition; region1 = (vf .counted ∙ sym (vg .counted)) i; indices = indices-same i }
+      record { format = f .format; mode = f .mode; endpoints = ends-same i; partition = f .partition; region1 = (vf .counted ∙ sym (vg .counted)) i; indices = indices-same i }
 
 -- ---- the theorem
 
-pub same-fields : (s : Bool) (f g : Fields) → Valid f → Valid g → f .mode ≤ 13 → f .mode ≡ g .mode → f .partition ≡ g .partition → Spanning s f → Spanning s g
-    → ((r : ℕ) → r < regions (f .mode) → Differs s f r ⊎ Differs s g r) → picture s f ≡ picture s g → f ≡ g
-same-fields s f g vf vg few m q uf ug =
-    subst (λ (y : ℕ). Goal (g .mode) y) q (subst (λ (x : ℕ). Goal x (f .partition)) m at-f) vg ug
+pub same-fields : (s : Bool) (f g : Fields) → Valid f → Valid g → f .mode ≤ 13 → f .format ≡ g .format → f .mode ≡ g .mode → f .partition ≡ g .partition → Spanning s f → Spanning s g
+    → ((r : ℕ) → r < regions (f .mode) → Differs s f r ⊎ Differs s g r) → pictureAs s f ≡ pictureAs s g → f ≡ g
+same-fields s f g vf vg few k m q uf ug =
+    subst (λ (y : ℕ). Goal (g .format) (g .mode) y) q (subst (λ (x : ℕ). Goal (g .format) x (f .partition)) m (subst (λ (z : ℕ). Goal z (f .mode) (f .partition)) k at-f)) vg ug
   where
-    other : ℕ → ℕ → Fields
-    other x y = record { mode = x; endpoints = g .endpoints; partition = y; region1 = g .region1; indices = g .indices }
+    other : ℕ → ℕ → ℕ → Fields
+    other z x y = record { format = z; mode = x; endpoints = g .endpoints; partition = y; region1 = g .region1; indices = g .indices }
 
-    Goal : ℕ → ℕ → Type 0
-    Goal x y = Valid (other x y) → Spanning s (other x y) → ((r : ℕ) → r < regions (f .mode) → Differs s f r ⊎ Differs s (other x y) r) → picture s f ≡ picture s (other x y) → f ≡ other x y
+    Goal : ℕ → ℕ → ℕ → Type 0
+    Goal z x y = Valid (other z x y) → Spanning s (other z x y) → ((r : ℕ) → r < regions (f .mode) → Differs s f r ⊎ Differs s (other z x y) r) → pictureAs s f ≡ pictureAs s (other z x y) → f ≡ other z x y
 
-    at-f : Goal (f .mode) (f .partition)
+    at-f : Goal (f .format) (f .mode) (f .partition)
     at-f v u d e = all-same s f (g .endpoints) (g .region1) (g .indices) vf v few uf u d e

@@ -40,13 +40,13 @@ block-complete block b =
 pub pixel-sound : (block : List ℕ) (n : ℕ) → T (hasPixelAt block n) → PixelAt block n
 unfolding hasPixelAt
 pixel-sound block n t =
-    let r : Found (λ pixel. eqb (indexOf (fieldsOf block) pixel) n) 16 = some-found (λ pixel. eqb (indexOf (fieldsOf block) pixel) n) 16 t in
+    let r : Found (λ pixel. eqb (indexOf (fieldsOf 0 block) pixel) n) 16 = some-found (λ pixel. eqb (indexOf (fieldsOf 0 block) pixel) n) 16 t in
     record { pixel = r .place; is-pixel = r .inside; at-index = eqb→eq _ _ (r .there) }
 
 pub pixel-complete : (block : List ℕ) (n : ℕ) → PixelAt block n → T (hasPixelAt block n)
 unfolding hasPixelAt
 pixel-complete block n p =
-    some-at (λ pixel. eqb (indexOf (fieldsOf block) pixel) n) 16 (p .pixel) (p .is-pixel) (holds (eq-eqb _ _ (p .at-index)))
+    some-at (λ pixel. eqb (indexOf (fieldsOf 0 block) pixel) n) 16 (p .pixel) (p .is-pixel) (holds (eq-eqb _ _ (p .at-index)))
 
 pub differs-sound : (signed : Bool) (block : List ℕ) → T (someChannelDiffers signed block) → ChannelDiffers signed block
 unfolding channelDiffers

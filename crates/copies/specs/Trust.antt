@@ -26,7 +26,7 @@ abbrev pub isCovered : ℕ → Bool
 isCovered mode = both (leb 11 mode) (leb mode 13)
 
 unfoldable pub hasPixelAt : List ℕ → ℕ → Bool
-hasPixelAt block n = some (λ pixel. eqb (indexOf (fieldsOf block) pixel) n) 16
+hasPixelAt block n = some (λ pixel. eqb (indexOf (fieldsOf 0 block) pixel) n) 16
 
 unfoldable pub channelDiffers : Bool → List ℕ → ℕ → Bool
 channelDiffers signed block channel = distinct (paletteValue signed block channel) 16

@@ -7,17 +7,17 @@ use Prim.Native.Nat.{ℕ, _≤_, _<_}
 use Rattle.bc6h_spec.specs.Bits.{IsBlock}
 use Rattle.bc6h_spec.specs.Fields.{modeOf, fieldsOf, indexOf}
 use Rattle.bc6h_spec.specs.Picture.{palette}
-use Rattle.bc6h_spec.specs.Block.{pixelsOf}
+use Rattle.bc6h_spec.specs.Block.{fieldsIn, pixelsOf}
 
 -- "a pixel at index n"
 pub record PixelAt (block : List ℕ) (n : ℕ) : Type 0 where
   pub pixel : ℕ
   pub is-pixel : pixel < 16
-  pub at-index : indexOf (fieldsOf block) pixel ≡ n
+  pub at-index : indexOf (fieldsOf 0 block) pixel ≡ n
 
 -- the palette value of a channel at index i, the scaled pattern; a block of one region has region 0 alone
 abbrev pub paletteValue : Bool → List ℕ → ℕ → ℕ → ℕ
-paletteValue signed block channel i = palette signed (fieldsOf block) 0 channel i
+paletteValue signed block channel i = palette signed (fieldsIn signed block) 0 channel i
 
 -- "a channel whose sixteen palette values all differ"
 pub record ChannelDiffers (signed : Bool) (block : List ℕ) : Type 0 where

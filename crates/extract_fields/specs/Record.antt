@@ -1,4 +1,4 @@
--- The 44 bytes that are written for a block. Assumes nothing.
+-- The 45 bytes that are written for a block. Assumes nothing.
 use Prim.Native.Nat.{ℕ, _-_, _/_, _%_}
 use lib.Dec.{eqb, ltb}
 use lib.ListN.{getD}
@@ -9,11 +9,12 @@ use Rattle.bc6_fields.specs.declared.FieldsRead.{FieldsRead}
 abbrev pub halfOf : ℕ → ℕ → ℕ
 halfOf value k = pick (eqb (k % 2) 0) (value % 256) (value / 256)
 
--- "answer, mode, twelve endpoints (two bytes each, low byte first), partition, region count, sixteen indices": byte k
+-- answer, format, mode, twelve endpoints (two bytes each, low byte first), partition, region count, sixteen indices: byte k
 unfoldable pub byteOf : FieldsRead → ℕ → ℕ
 byteOf r k =
     pick (eqb k 0) (r .answer)
-    (pick (eqb k 1) (r .fields .mode)
-    (pick (ltb k 26) (halfOf (getD (r .fields .endpoints) (k / 2 - 1) 0) k)
-    (pick (eqb k 26) (r .fields .partition)
-    (pick (eqb k 27) (r .fields .region1) (getD (r .fields .indices) (k - 28) 0)))))
+    (pick (eqb k 1) (r .fields .format)
+    (pick (eqb k 2) (r .fields .mode)
+    (pick (ltb k 27) (halfOf (getD (r .fields .endpoints) ((k - 3) / 2) 0) (k - 3))
+    (pick (eqb k 27) (r .fields .partition)
+    (pick (eqb k 28) (r .fields .region1) (getD (r .fields .indices) (k - 29) 0))))))

@@ -1,7 +1,7 @@
-// Standard input is a run of 16-byte blocks. For each it writes 44 bytes: the answer, the mode, twelve endpoints (two bytes each,
-// low byte first), the partition, the pixels in region 1, sixteen indices. A last piece below 16 bytes goes to the call as it is.
+// Standard input is a run of 17-byte records: a format byte and the sixteen bytes of a block. For each it writes 45 bytes: the answer,
+// the format, the mode, twelve endpoints (two bytes each, low byte first), the partition, the pixels in region 1, sixteen indices, all
+// zero but the answer on a refusal. A last piece below 17 bytes goes to the call with the block bytes that it has.
 use bc6_fields::FieldsRead;
-use bc6h_spec::Block;
 use libc::STDIN_FILENO;
 use libc::STDOUT_FILENO;
 ghost use mathlib.Core.Path.{_≡_};
@@ -11,8 +11,10 @@ ghost use lib.ListN.{length, drop};
 ghost use Rattle.laws.specs.Made.{made};
 ghost use Rattle.extract_fields.specs.Record.{halfOf, byteOf};
 
-// What is written for a block, and how many blocks are read at a time.
-const RECORD_SIZE: usize = 44;
+// What is read, what is written for it, and how many are read at a time.
+const INPUT_SIZE: usize = 17;
+
+const RECORD_SIZE: usize = 45;
 
 const BATCH: usize = 1024;
 
@@ -29,7 +31,7 @@ fn half_of(value: u16, k: usize) -> u8
 
 // Byte k of what is written for a block.
 fn byte_of(read: FieldsRead, k: usize) -> u8
-    requires { ⌜ k < 44 ⌝ }
+    requires { ⌜ k < 45 ⌝ }
     ensures { λ r. ⌜ r ≡ byteOf read k ⌝ }
 {
     let fields = read.fields;
@@ -37,25 +39,28 @@ fn byte_of(read: FieldsRead, k: usize) -> u8
         return read.answer;
     }
     if k == 1 {
+        return fields.format;
+    }
+    if k == 2 {
         return fields.mode;
     }
-    if k < 26 {
+    if k < 27 {
         let endpoints = fields.endpoints;
-        return half_of(endpoints[k / 2 - 1], k);
-    }
-    if k == 26 {
-        return fields.partition;
+        return half_of(endpoints[(k - 3) / 2], k - 3);
     }
     if k == 27 {
+        return fields.partition;
+    }
+    if k == 28 {
         return fields.region1;
     }
     let indices = fields.indices;
-    indices[k - 28]
+    indices[k - 29]
 }
 
 fn write_record(read: FieldsRead, out: &mut [u8])
-    requires { ⌜ 44 ≤ length (now out) ⌝ }
-    ensures { λ r. ⌜ now (out .exit) ≡ made (byteOf read) 44 ++ drop 44 (now (out .entry)) ⌝ }
+    requires { ⌜ 45 ≤ length (now out) ⌝ }
+    ensures { λ r. ⌜ now (out .exit) ≡ made (byteOf read) 45 ++ drop 45 (now (out .entry)) ⌝ }
 {
     let mut k = 0;
     while k < RECORD_SIZE {
@@ -64,30 +69,31 @@ fn write_record(read: FieldsRead, out: &mut [u8])
     }
 }
 
-// Where a piece that starts at `at` ends: after a block, or with the input.
+// Where a piece that starts at `at` ends: after a record, or with the input.
 fn piece_end(at: usize, size: usize) -> usize
     requires { ⌜ (at < size) × (size < 2 ^ 63) ⌝ }
-    ensures { λ r. ⌜ (at ≤ r) × (r ≤ size) ⌝ }
+    ensures { λ r. ⌜ (at < r) × (r ≤ size) ⌝ }
 {
-    if size - at < Block::SIZE {
+    if size - at < INPUT_SIZE {
         size
     } else {
-        at + Block::SIZE
+        at + INPUT_SIZE
     }
 }
 
-// The records of the blocks of `input`, and how many bytes they are.
+// What is written for the records of `input`, and how many bytes that is.
 fn write_records(input: &[u8], out: &mut [u8]) -> usize
-    requires { ⌜ 44 * ((length (now input) + 15) / 16) ≤ length (now out) ⌝ }
-    ensures { λ r. ⌜ r ≡ 44 * ((length (now (input .entry)) + 15) / 16) ⌝ }
+    requires { ⌜ 45 * ((length (now input) + 16) / 17) ≤ length (now out) ⌝ }
+    ensures { λ r. ⌜ r ≡ 45 * ((length (now (input .entry)) + 16) / 17) ⌝ }
 {
     let size = input.len();
-    let count = (size + 15) / Block::SIZE;
+    let count = (size + 16) / INPUT_SIZE;
     let mut i = 0;
     while i < count {
-        let at = Block::SIZE * i;
+        let at = INPUT_SIZE * i;
         let end = piece_end(at, size);
-        let read = bc6_fields::block_fields(&input[at..end]);
+        let start = at + 1;
+        let read = bc6_fields::block_fields(&input[start..end], input[at]);
         let to = RECORD_SIZE * i;
         write_record(read, &mut out[to..]);
         i += 1;
@@ -97,18 +103,18 @@ fn write_records(input: &[u8], out: &mut [u8]) -> usize
 
 // The same, written in one go.
 fn write_batch(input: &[u8], out: &mut [u8]) -> bool
-    requires { ⌜ 44 * ((length (now input) + 15) / 16) ≤ length (now out) ⌝ }
+    requires { ⌜ 45 * ((length (now input) + 16) / 17) ≤ length (now out) ⌝ }
 {
     let done = write_records(input, out);
     io::write_all(STDOUT_FILENO, &out[..done])
 }
 
-// Reads a batch of blocks, writes their records, and answers whether to go on.
+// Reads a batch of records, writes their fields, and answers whether to go on.
 fn extract_some() -> bool {
-    let mut input = [0u8; Block::SIZE * BATCH];
+    let mut input = [0u8; INPUT_SIZE * BATCH];
     let mut out = [0u8; RECORD_SIZE * BATCH];
     let got = io::read_full(STDIN_FILENO, &mut input);
-    write_batch(&input[..got], &mut out) && got == Block::SIZE * BATCH
+    write_batch(&input[..got], &mut out) && got == INPUT_SIZE * BATCH
 }
 
 // A proved loop has to end, and nothing says that the input does: the turns count down from a number that no run uses up.

@@ -14,64 +14,70 @@ use Rattle.bc6_fields.proofs.Calls.{mode-read}
 use Rattle.knotpasture.specs.Packed.{twoBytes, numberCount, numberAt, numbersOf, FieldsCalled}
 
 module _ (f : Fields) (k : ℕ) where
-  pub at-mode : k < 1 → f .mode ≡ numberAt f k
+  pub at-format : k < 1 → f .format ≡ numberAt f k
   unfolding numberAt
-  at-mode a = rw (lt-ltb _ _ a)
+  at-format a = rw (lt-ltb _ _ a)
 
   module _ (a : 1 ≤ k) where
-    pub at-endpoint : k < 13 → getD (f .endpoints) (k - 1) 0 ≡ numberAt f k
+    pub at-mode : k < 2 → f .mode ≡ numberAt f k
     unfolding numberAt
-    at-endpoint b = rw (le-ltb _ _ a, lt-ltb _ _ b)
+    at-mode b = rw (le-ltb _ _ a, lt-ltb _ _ b)
 
-    module _ (b : 13 ≤ k) where
-      pub at-partition : k < 14 → f .partition ≡ numberAt f k
+    module _ (b : 2 ≤ k) where
+      pub at-endpoint : k < 14 → getD (f .endpoints) (k - 2) 0 ≡ numberAt f k
       unfolding numberAt
-      at-partition c = rw (le-ltb _ _ a, le-ltb _ _ b, lt-ltb _ _ c)
+      at-endpoint c = rw (le-ltb _ _ a, le-ltb _ _ b, lt-ltb _ _ c)
 
       module _ (c : 14 ≤ k) where
-        pub at-region1 : k < 15 → f .region1 ≡ numberAt f k
+        pub at-partition : k < 15 → f .partition ≡ numberAt f k
         unfolding numberAt
-        at-region1 d = rw (le-ltb _ _ a, le-ltb _ _ b, le-ltb _ _ c, lt-ltb _ _ d)
+        at-partition d = rw (le-ltb _ _ a, le-ltb _ _ b, le-ltb _ _ c, lt-ltb _ _ d)
 
-        pub at-index : 15 ≤ k → getD (f .indices) (k - 15) 0 ≡ numberAt f k
-        unfolding numberAt
-        at-index d = rw (le-ltb _ _ a, le-ltb _ _ b, le-ltb _ _ c, le-ltb _ _ d)
+        module _ (d : 15 ≤ k) where
+          pub at-region1 : k < 16 → f .region1 ≡ numberAt f k
+          unfolding numberAt
+          at-region1 g = rw (le-ltb _ _ a, le-ltb _ _ b, le-ltb _ _ c, le-ltb _ _ d, lt-ltb _ _ g)
+
+          pub at-index : 16 ≤ k → getD (f .indices) (k - 16) 0 ≡ numberAt f k
+          unfolding numberAt
+          at-index g = rw (le-ltb _ _ a, le-ltb _ _ b, le-ltb _ _ c, le-ltb _ _ d, le-ltb _ _ g)
 
 -- ---- the field call
 
-answer-is : (number : ℕ) (block : List ℕ) → answerAt number block .answer ≡ number
-answer-is zero block = refl
-answer-is (suc number) block = refl
+answer-is : (number format : ℕ) (block : List ℕ) → answerAt number format block .answer ≡ number
+answer-is zero format block = refl
+answer-is (suc number) format block = refl
 
-refusal-called : (number : ℕ) (block lent : List ℕ) → refusalOf (length block) (modeOf block) ≡ number → (number ≡ 0 → ⊥)
-    → FieldsCalled block lent number lent
-refusal-called zero block lent e h = absurd (h refl)
-refusal-called (suc number) block lent e h = record { answers = rw e; holds = rw e }
+refusal-called : (number : ℕ) (block : List ℕ) (format : ℕ) (lent : List ℕ) → refusalOf format (length block) (modeOf block) ≡ number → (number ≡ 0 → ⊥)
+    → FieldsCalled block format lent number lent
+refusal-called zero block format lent e h = absurd (h refl)
+refusal-called (suc number) block format lent e h = record { answers = rw e; holds = rw e }
 
-module _ {block : List ℕ} {r : FieldsRead} (d : Extracted block r) (lent : List ℕ) where
-  number-of : refusalOf (length block) (modeOf block) ≡ r .answer
-  number-of = sym (ap (λ (x : FieldsRead). x .answer) (d .answers) ∙ answer-is (refusalOf (length block) (modeOf block)) block)
+module _ {block : List ℕ} {format : ℕ} {r : FieldsRead} (d : Extracted block format r) (lent : List ℕ) where
+  number-of : refusalOf format (length block) (modeOf block) ≡ r .answer
+  number-of = sym (ap (λ (x : FieldsRead). x .answer) (d .answers) ∙ answer-is (refusalOf format (length block) (modeOf block)) format block)
 
-  pub fields-refused : (r .answer ≡ 0 → ⊥) → FieldsCalled block lent (r .answer) lent
-  fields-refused h = refusal-called (r .answer) block lent number-of h
+  pub fields-refused : (r .answer ≡ 0 → ⊥) → FieldsCalled block format lent (r .answer) lent
+  fields-refused h = refusal-called (r .answer) block format lent number-of h
 
   module _ (z : r .answer ≡ 0) where
-    unrefused : refusalOf (length block) (modeOf block) ≡ 0
+    unrefused : refusalOf format (length block) (modeOf block) ≡ 0
     unrefused = number-of ∙ z
 
-    pub fields-short : length lent < numberCount → FieldsCalled block lent shortOutput lent
+    pub fields-short : length lent < numberCount → FieldsCalled block format lent shortOutput lent
     fields-short h = record { answers = rw (unrefused, lt-ltb _ _ h); holds = rw (unrefused, lt-ltb _ _ h) }
 
-    fields-are : r .fields ≡ fieldsOf block
+    fields-are : r .fields ≡ fieldsOf format block
     fields-are = ap (λ (x : FieldsRead). x .fields) (d .answers) ∙ rw unrefused
 
     pub fields-done : {word : ℕ} {after : List ℕ} → numberCount ≤ length lent → after ≡ numbersOf (r .fields) ++ drop numberCount lent
-        → word ≡ twoBytes 0 (r .fields .mode) → FieldsCalled block lent word after
+        → word ≡ twoBytes 0 (r .fields .mode) → FieldsCalled block format lent word after
     fields-done h e w =
         record {
-          answers = rw (unrefused, le-ltb _ _ h) (w ∙ ap (twoBytes 0) (sym (mode-read block fields-are)));
+          answers = rw (unrefused, le-ltb _ _ h) (w ∙ ap (twoBytes 0) (sym (mode-read block format fields-are)));
           holds = rw (unrefused, le-ltb _ _ h) (e ∙ ap (λ (f : Fields). numbersOf f ++ drop numberCount lent) fields-are);
         }
 
-pub one-fields : {block lent : List ℕ} {r s : ℕ} {a b : List ℕ} → FieldsCalled block lent r a → FieldsCalled block lent s b → (r ≡ s) × (a ≡ b)
+pub one-fields : {block : List ℕ} {format : ℕ} {lent : List ℕ} {r s : ℕ} {a b : List ℕ} → FieldsCalled block format lent r a → FieldsCalled block format lent s b
+    → (r ≡ s) × (a ≡ b)
 one-fields d e = (d .answers ∙ sym (e .answers), d .holds ∙ sym (e .holds))

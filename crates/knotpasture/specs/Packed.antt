@@ -37,42 +37,43 @@ pub record RunCalled (blocks : List ℕ) (format : ℕ) (out : List ℕ) (r : �
   pub answers : record { answer = r; blocks = done; infinite = infinite } ≡ runAnswer (runRefusal format (length blocks) (length out)) blocks format
   pub holds : after ≡ runValues (runRefusal format (length blocks) (length out)) blocks format out
 
--- a field record as numbers: mode, twelve endpoint values, partition, pixels in region 1, sixteen indices
+-- a field record as numbers: format, mode, twelve endpoint values, partition, pixels in region 1, sixteen indices
 abbrev pub numberCount : ℕ
-numberCount = 31
+numberCount = 32
 
 unfoldable pub numberAt : Fields → ℕ → ℕ
 numberAt f k =
-    pick (ltb k 1) (f .mode)
-    (pick (ltb k 13) (getD (f .endpoints) (k - 1) 0)
-    (pick (ltb k 14) (f .partition)
-    (pick (ltb k 15) (f .region1)
-    (getD (f .indices) (k - 15) 0))))
+    pick (ltb k 1) (f .format)
+    (pick (ltb k 2) (f .mode)
+    (pick (ltb k 14) (getD (f .endpoints) (k - 2) 0)
+    (pick (ltb k 15) (f .partition)
+    (pick (ltb k 16) (f .region1)
+    (getD (f .indices) (k - 16) 0)))))
 
 unfoldable pub numbersOf : Fields → List ℕ
 numbersOf f = made (numberAt f) numberCount
 
--- the field call's own refusals, 2 and 4, and then 3, where the lent numbers are too few
+-- the field call's own refusals, 1, 2 and 4, and then 3, where the lent numbers are too few
 abbrev pub withRoom : ℕ → ℕ → ℕ
 withRoom zero room = pick (ltb room numberCount) shortOutput done
 withRoom (suc number) room = suc number
 
-abbrev pub fieldsRefusal : List ℕ → ℕ → ℕ
-fieldsRefusal block room = withRoom (fields.refusalOf (length block) (modeOf block)) room
+abbrev pub fieldsRefusal : List ℕ → ℕ → ℕ → ℕ
+fieldsRefusal block format room = withRoom (fields.refusalOf format (length block) (modeOf block)) room
 
 -- the number in the low byte, the mode in the next
 abbrev pub fieldsWord : ℕ → List ℕ → ℕ
 fieldsWord zero block = twoBytes done (modeOf block)
 fieldsWord (suc number) block = suc number
 
-abbrev pub numbersAt : ℕ → List ℕ → List ℕ → List ℕ
-numbersAt zero block lent = numbersOf (fieldsOf block) ++ drop numberCount lent
-numbersAt (suc number) block lent = lent
+abbrev pub numbersAt : ℕ → List ℕ → ℕ → List ℕ → List ℕ
+numbersAt zero block format lent = numbersOf (fieldsOf format block) ++ drop numberCount lent
+numbersAt (suc number) block format lent = lent
 
 -- The field call: its answer in one word, and the lent numbers, which a refusal leaves.
-pub record FieldsCalled (block lent : List ℕ) (r : ℕ) (after : List ℕ) : Type 0 where
-  pub answers : r ≡ fieldsWord (fieldsRefusal block (length lent)) block
-  pub holds : after ≡ numbersAt (fieldsRefusal block (length lent)) block lent
+pub record FieldsCalled (block : List ℕ) (format : ℕ) (lent : List ℕ) (r : ℕ) (after : List ℕ) : Type 0 where
+  pub answers : r ≡ fieldsWord (fieldsRefusal block format (length lent)) block
+  pub holds : after ≡ numbersAt (fieldsRefusal block format (length lent)) block format lent
 
 -- a record: 0 in the low byte, the format in the next, the tile in the high half; a refusal: its number alone
 abbrev pub wordAt : ℕ → List ℕ → ℕ → ℕ

@@ -48,29 +48,32 @@ struct Numbers {
 }
 
 impl Numbers {
-    const COUNT: usize = 31;
+    const COUNT: usize = 32;
 }
 
-// Number k of a field record: mode, twelve endpoint values, partition, pixels in region 1, sixteen indices.
+// Number k of a field record: format, mode, twelve endpoint values, partition, pixels in region 1, sixteen indices.
 fn number_at(fields: Fields, k: usize) -> u16
     requires { ⌜ k < numberCount ⌝ }
     ensures { λ r. ⌜ r ≡ numberAt fields k ⌝ }
 {
     if k < 1 {
+        return fields.format as u16;
+    }
+    if k < 2 {
         return fields.mode as u16;
     }
-    if k < 13 {
-        let endpoints = fields.endpoints;
-        return endpoints[k - 1];
-    }
     if k < 14 {
-        return fields.partition as u16;
+        let endpoints = fields.endpoints;
+        return endpoints[k - 2];
     }
     if k < 15 {
+        return fields.partition as u16;
+    }
+    if k < 16 {
         return fields.region1 as u16;
     }
     let indices = fields.indices;
-    indices[k - 15] as u16
+    indices[k - 16] as u16
 }
 
 fn write_numbers(fields: Fields, numbers: &mut [u16])
@@ -83,10 +86,10 @@ fn write_numbers(fields: Fields, numbers: &mut [u16])
 }
 
 #[no_mangle]
-pub extern "C" fn knot_block_fields(block: &[u8], numbers: &mut [u16]) -> u32
-    ensures { λ r. ⌜ FieldsCalled (now (block .entry)) (now (numbers .entry)) r (now (numbers .exit)) ⌝ }
+pub extern "C" fn knot_block_fields(block: &[u8], format: u8, numbers: &mut [u16]) -> u32
+    ensures { λ r. ⌜ FieldsCalled (now (block .entry)) format (now (numbers .entry)) r (now (numbers .exit)) ⌝ }
 {
-    let read = bc6_fields::block_fields(block);
+    let read = bc6_fields::block_fields(block, format);
     if read.answer != Answer::DONE {
         return read.answer as u32;
     }

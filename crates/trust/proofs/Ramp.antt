@@ -23,13 +23,13 @@ use Rattle.bc6h_spec.specs.Layout.{row, twoRegions}
 use Rattle.bc6h_spec.specs.Regions.{mapOf, regionOf}
 use Rattle.bc6h_spec.specs.Fields.{modeIn, modeOf, gathered, indexIn, fieldsAt, fieldsOf, indexOf}
 use Rattle.bc6h_spec.specs.Picture.{palette}
-use Rattle.bc6h_spec.specs.Block.{pixelsOf}
+use Rattle.bc6h_spec.specs.Block.{formatNumber, pixelsOf}
 use Rattle.bc6h_spec.proofs.Bytes.{number-lt}
 use Rattle.bc6h_spec.proofs.Gather.{low-only}
 use Rattle.bc6h_spec.proofs.Joined.{number-joined}
 use Rattle.bc6h_spec.proofs.Modes.{low-mode}
 use Rattle.bc6h_spec.proofs.Once.{row-once}
-use Rattle.bc6h_spec.proofs.Pixel.{block-shows, pixel-shows, same-palette}
+use Rattle.bc6h_spec.proofs.Pixel.{shows-as, pixel-shows, same-palette}
 use Rattle.bc6h_spec.proofs.Reading.{at-index, fields-are, fields-mode, mode-le}
 use Rattle.copies.specs.Words.{paletteValue}
 use Rattle.trust.specs.Ramp.{ramped}
@@ -107,17 +107,20 @@ module _ (block : List ℕ) (b : IsBlock block) where
       let e : numberOf (ramped block) % 32 ≡ numberOf block % 32 = omega (arith, low-same) in
       sym (low-mode (numberOf (ramped block))) ∙ ap modeIn e ∙ low-mode (numberOf block)
 
-  module _ (from : 11 ≤ modeOf block) where
+  module _ (signed : Bool) (from : 11 ≤ modeOf block) where
+    abbrev format : ℕ
+    format = formatNumber signed
+
     one : twoRegions (modeOf block) ≡ false
     one = lt-leb (modeOf block) 10 from
 
     row-size : length (row (modeOf block)) ≡ 65
     row-size = row-once (modeOf block) (omega arith) (mode-le block) .size ∙ ap (λ (t : Bool). pick t 82 65) one
 
-    fields-of-ramped : fieldsOf (ramped block) ≡ fieldsAt (modeOf block) (numberOf (ramped block))
+    fields-of-ramped : fieldsOf format (ramped block) ≡ fieldsAt format (modeOf block) (numberOf (ramped block))
     fields-of-ramped =
-        fields-are (ramped block) (subst (λ (m : ℕ). 1 ≤ m) (sym same-mode) (omega arith))
-        ∙ ap (λ (m : ℕ). fieldsAt m (numberOf (ramped block))) same-mode
+        fields-are format (ramped block) (subst (λ (m : ℕ). 1 ≤ m) (sym same-mode) (omega arith))
+        ∙ ap (λ (m : ℕ). fieldsAt format m (numberOf (ramped block))) same-mode
 
     gathered-same : (p : ℕ) → gathered (row (modeOf block)) (numberOf (ramped block)) p ≡ gathered (row (modeOf block)) (numberOf block) p
     gathered-same p =
@@ -126,29 +129,29 @@ module _ (block : List ℕ) (b : IsBlock block) where
         (subst (λ (n : ℕ). numberOf (ramped block) % 2 ^ n ≡ numberOf block % 2 ^ n) (sym row-size) low-same)
         ∙ low-only (row (modeOf block)) (numberOf block) p
 
-    same-endpoints : fieldsOf (ramped block) .endpoints ≡ fieldsOf block .endpoints
+    same-endpoints : fieldsOf format (ramped block) .endpoints ≡ fieldsOf format block .endpoints
     unfolding fieldsAt
     same-endpoints =
         ap (λ (f : Fields). f .endpoints) fields-of-ramped
         ∙ made-cong _ _ gathered-same 12
-        ∙ sym (ap (λ (f : Fields). f .endpoints) (fields-are block (omega arith)))
+        ∙ sym (ap (λ (f : Fields). f .endpoints) (fields-are format block (omega arith)))
 
-    index-is : (k : ℕ) → k < 16 → indexOf (fieldsOf (ramped block)) k ≡ k
+    index-is : (k : ℕ) → k < 16 → indexOf (fieldsOf format (ramped block)) k ≡ k
     index-is k h =
         ap (λ (f : Fields). indexOf f k) fields-of-ramped
-        ∙ at-index (modeOf block) (numberOf (ramped block)) (omega arith) (mode-le block) k h
+        ∙ at-index format (modeOf block) (numberOf (ramped block)) (omega arith) (mode-le block) k h
         ∙ rw one (ap (λ (n : ℕ). indexIn 4 (0 ∷ []) n k) high-is ∙ eqb→eq _ _ (below-at in-order? 16 k in-order h))
 
-    region-is : (k : ℕ) → regionOf (fieldsOf (ramped block) .mode) (fieldsOf (ramped block) .partition) k ≡ 0
+    region-is : (k : ℕ) → regionOf (fieldsOf format (ramped block) .mode) (fieldsOf format (ramped block) .partition) k ≡ 0
     unfolding regionOf
     region-is k =
-        ap (λ (t : Bool). pick t (bit (mapOf (fieldsOf (ramped block) .partition)) k) 0) (ap twoRegions (fields-mode (ramped block) ∙ same-mode) ∙ one)
+        ap (λ (t : Bool). pick t (bit (mapOf (fieldsOf format (ramped block) .partition)) k) 0) (ap twoRegions (fields-mode format (ramped block) ∙ same-mode) ∙ one)
 
     -- ---- the palette
 
-    pub palette-shown : (signed : Bool) (i c : ℕ) → i < 16 → c < 3 → getD (pixelsOf signed (ramped block)) (3 * i + c) 0 ≡ paletteValue signed block c i
-    palette-shown signed i c hi hc =
-        ap (λ (l : List ℕ). getD l (3 * i + c) 0) (block-shows signed (ramped block) (subst (λ (m : ℕ). 1 ≤ m) (sym same-mode) (omega arith)))
-        ∙ pixel-shows signed (fieldsOf (ramped block)) i c hi hc
-        ∙ ap₂ (λ (r k : ℕ). palette signed (fieldsOf (ramped block)) r c k) (region-is i) (index-is i hi)
-        ∙ same-palette signed (fieldsOf (ramped block)) (fieldsOf block) (fields-mode (ramped block) ∙ same-mode ∙ sym (fields-mode block)) same-endpoints 0 c i
+    pub palette-shown : (i c : ℕ) → i < 16 → c < 3 → getD (pixelsOf signed (ramped block)) (3 * i + c) 0 ≡ paletteValue signed block c i
+    palette-shown i c hi hc =
+        ap (λ (l : List ℕ). getD l (3 * i + c) 0) (shows-as signed (ramped block) (subst (λ (m : ℕ). 1 ≤ m) (sym same-mode) (omega arith)))
+        ∙ pixel-shows signed (fieldsOf format (ramped block)) i c hi hc
+        ∙ ap₂ (λ (r k : ℕ). palette signed (fieldsOf format (ramped block)) r c k) (region-is i) (index-is i hi)
+        ∙ same-palette signed (fieldsOf format (ramped block)) (fieldsOf format block) (fields-mode format (ramped block) ∙ same-mode ∙ sym (fields-mode format block)) same-endpoints 0 c i

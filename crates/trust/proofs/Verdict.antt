@@ -38,9 +38,9 @@ module _ (block : List ℕ) where
   pub other-length : (length block ≡ 16 → ⊥) → false ≡ trusted block
   other-length h = refused (λ t. h (t .eligible .bytes .sixteen))
 
-  module _ (f : Fields) (e : f ≡ fieldsOf block) where
+  module _ (f : Fields) (e : f ≡ fieldsOf 0 block) where
     mode-is : f .mode ≡ modeOf block
-    mode-is = ap (λ (g : Fields). g .mode) e ∙ fields-mode block
+    mode-is = ap (λ (g : Fields). g .mode) e ∙ fields-mode 0 block
 
     pub mode-below : f .mode < 11 → false ≡ trusted block
     mode-below h = refused (λ t. omega (arith, mode-is, t .eligible .mode-from))
@@ -68,7 +68,7 @@ module _ (block : List ℕ) where
       is-block = record { sixteen = sixteen; byte = byte }
 
       entry-is : (c : ℕ) → c < 3 → (i : ℕ) → i < 16 → entry palette c i ≡ paletteValue false block c i
-      entry-is c hc i hi = ap (λ (l : List ℕ). getD l (3 * i + c) 0) shown ∙ palette-shown block is-block (omega (arith, mode-is)) false i c hi hc
+      entry-is c hc i hi = ap (λ (l : List ℕ). getD l (3 * i + c) 0) shown ∙ palette-shown block is-block false (omega (arith, mode-is)) i c hi hc
 
       differs-is : some (entriesDiffer palette) 3 ≡ someChannelDiffers false block
       unfolding entriesDiffer channelDiffers

@@ -102,7 +102,7 @@ pub fn is_trusted(block: &[u8]) -> bool
     if block.len() != Block::SIZE {
         return false;
     }
-    let fields = bc6_fields::fields_of(block);
+    let fields = bc6_fields::fields_of(block, 0);
     let mode = fields.mode;
     if mode < 11 {
         return false;

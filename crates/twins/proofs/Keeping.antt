@@ -10,9 +10,9 @@ use borrow.Author.Count.{below-none, below-more}
 use borrow.Author.Tests.{eq-eqb, ne-eqb}
 use Rattle.bc6h_spec.specs.Bits.{blockSize, numberOf}
 use Rattle.bc6h_spec.specs.Fields.{modeIn, modeOf}
-use Rattle.bc6h_spec.specs.Picture.{valueCount}
+use Rattle.bc6h_spec.specs.Picture.{valueCount, isSigned}
 use Rattle.bc6.specs.declared.Pixels.{Pixels}
-use Rattle.bc6.specs.Call.{isSigned, Painted}
+use Rattle.bc6.specs.Call.{Painted}
 use Rattle.bc6h_spec.proofs.Values.{length-pixels}
 use Rattle.bc6.proofs.Calls.{written, done-when}
 use Rattle.records.specs.Store.{formatOf, blockOf, recordRefusal, Unrefused, partAt}

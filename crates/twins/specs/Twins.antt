@@ -11,8 +11,8 @@ use Rattle.laws.specs.Made.{made, countOf}
 use Rattle.laws.specs.First.{firstBelow}
 use Rattle.bc6h_spec.specs.Answers.{done, shortOutput, longStore, unevenStore}
 use Rattle.bc6h_spec.specs.Fields.{modeOf}
+use Rattle.bc6h_spec.specs.Picture.{isSigned}
 use Rattle.bc6h_spec.specs.Block.{pixelsOf}
-use Rattle.bc6.specs.Call.{isSigned}
 use Rattle.records.specs.Store.{recordSize, storeLimit, recordsIn, formatOf, blockOf, recordRefusal, Unrefused}
 use Rattle.twins.specs.declared.TwinList.{TwinList}
 

@@ -7,7 +7,7 @@ use Rattle.bc6_fields.proofs.Whole.{few-ones, fixup-range, narrow, part
 use Rattle.bc6_fields.proofs.fields_from.Statement.{statement}
 use Rattle.bc6_fields.proofs.fields_from.Tie as tie
 
-part : (c : tie.Then1) → getD (c .before .before .args .t2) 13 0 < 32
+part : (c : tie.Then1) → getD (c .before .before .args .t3) 13 0 < 32
 part c = let p = c .before .before .pre in partition-fits _ _ (p .0) (p .1) (p .2)
 
 new-p2-requires : tie.Need-new-p2-requires
@@ -15,23 +15,23 @@ new-p2-requires c κs =
     let f = fixup-range _ (part (c .before .before .before)) (c .before .before .of .ensures) in
     (search needs, search needs, f .0, f .1)
 
-cast-partition : tie.Need-cast-t20
+cast-partition : tie.Need-cast-t21
 cast-partition c = let h = part (c .before .before .before .before) in search needs
 
-cast-ones : tie.Need-cast-t22
+cast-ones : tie.Need-cast-t23
 cast-ones c = let h = few-ones _ (c .count-ones .ensures) in search needs
 
 returns : tie.Need-returns
 returns c =
     let p = c .before .before .before .before .before .before .before .before .pre in
-    two-regions _ _ (p .0) (p .1) (p .2) (c .before .before .before .before .before .before .before .endpoints-of .ensures)
+    two-regions _ _ (p .0) (p .1) (p .2) _ (c .before .before .before .before .before .before .before .endpoints-of .ensures)
     (c .before .before .before .before .before .of .ensures) (c .before .before .before .before .before .before .if1 .taken)
     (c .before .before .before .before .skip .ensures) (c .before .before .new-p2 .ensures) (c .indices-of .ensures) (c .before .count-ones .ensures)
 
 returns-2 : tie.Need-returns-2
 returns-2 c =
     let p = c .before .before .before .before .before .pre in
-    one-region _ _ (p .0) (p .1) (p .2) (c .before .before .before .before .endpoints-of .ensures) (c .before .before .before .if1 .left)
+    one-region _ _ (p .0) (p .1) (p .2) _ (c .before .before .before .before .endpoints-of .ensures) (c .before .before .before .if1 .left)
     (c .before .before .skip2 .ensures) (c .before .new-p1 .ensures) (c .indices-of2 .ensures)
 
 pub fields-from-spec : {M : Type 1} → statement M

@@ -11,12 +11,12 @@ modes c = in-modes _ _ (c .before .extract-mode .ensures) (c .if1 .left)
 returns : tie.Need-returns
 returns c =
     let read = c .before .before in
-    reserved _ (read .before .new .ensures) (read .extract-mode .ensures) (c .before .if1 .taken) (c .none .ensures)
+    reserved _ _ (read .before .new .ensures) (read .extract-mode .ensures) (c .before .if1 .taken) (c .none .ensures)
 
 returns-2 : tie.Need-returns-2
 returns-2 c =
     let read = c .before .before .before in
-    unreserved _ (read .before .new .ensures) (read .extract-mode .ensures) (c .before .before .if1 .left) (c .fields-from .ensures)
+    unreserved _ _ (read .before .new .ensures) (read .extract-mode .ensures) (c .before .before .if1 .left) (c .fields-from .ensures)
 
 pub plain-fields-spec : {M : Type 1} → statement M
 plain-fields-spec =

@@ -15,28 +15,35 @@ returns-2 c = rw (ne-eqb _ _ (c .before .if1 .left), eq-eqb _ _ (c .if2 .taken))
 
 returns-3 : tie.Need-returns-3
 unfolding byteOf
-returns-3 c =
-    let s = c .before .before in
-    rw (ne-eqb _ _ (s .before .before .if1 .left), ne-eqb _ _ (s .before .if2 .left), lt-ltb _ _ (s .if3 .taken)) (c .half-of .ensures)
+returns-3 c = rw (ne-eqb _ _ (c .before .before .if1 .left), ne-eqb _ _ (c .before .if2 .left), eq-eqb _ _ (c .if3 .taken))
 
 returns-4 : tie.Need-returns-4
 unfolding byteOf
 returns-4 c =
-    let s = c .before in
-    rw (ne-eqb _ _ (s .before .before .if1 .left), ne-eqb _ _ (s .before .if2 .left), le-ltb _ _ (s .if3 .left), eq-eqb _ _ (c .if4 .taken))
+    let s = c .before .before in
+    let t = s .before in
+    rw (ne-eqb _ _ (t .before .before .if1 .left), ne-eqb _ _ (t .before .if2 .left), ne-eqb _ _ (t .if3 .left), lt-ltb _ _ (s .if4 .taken)) (c .half-of .ensures)
 
 returns-5 : tie.Need-returns-5
 unfolding byteOf
 returns-5 c =
-    let s = c .before .before in
-    rw (ne-eqb _ _ (s .before .before .if1 .left), ne-eqb _ _ (s .before .if2 .left), le-ltb _ _ (s .if3 .left), ne-eqb _ _ (c .before .if4 .left), eq-eqb _ _ (c .if5 .taken))
+    let t = c .before .before in
+    rw
+    (ne-eqb _ _ (t .before .before .if1 .left), ne-eqb _ _ (t .before .if2 .left), ne-eqb _ _ (t .if3 .left), le-ltb _ _ (c .before .if4 .left), eq-eqb _ _ (c .if5 .taken))
 
 returns-6 : tie.Need-returns-6
 unfolding byteOf
 returns-6 c =
-    let s = c .before .before .before in
+    let t = c .before .before .before in
     rw
-    (ne-eqb _ _ (s .before .before .if1 .left), ne-eqb _ _ (s .before .if2 .left), le-ltb _ _ (s .if3 .left), ne-eqb _ _ (c .before .before .if4 .left), ne-eqb _ _ (c .before .if5 .left))
+    (ne-eqb _ _ (t .before .before .if1 .left), ne-eqb _ _ (t .before .if2 .left), ne-eqb _ _ (t .if3 .left), le-ltb _ _ (c .before .before .if4 .left), ne-eqb _ _ (c .before .if5 .left), eq-eqb _ _ (c .if6 .taken))
+
+returns-7 : tie.Need-returns-7
+unfolding byteOf
+returns-7 c =
+    let t = c .before .before .before .before in
+    rw
+    (ne-eqb _ _ (t .before .before .if1 .left), ne-eqb _ _ (t .before .if2 .left), ne-eqb _ _ (t .if3 .left), le-ltb _ _ (c .before .before .before .if4 .left), ne-eqb _ _ (c .before .before .if5 .left), ne-eqb _ _ (c .before .if6 .left))
 
 pub byte-of-spec : {M : Type 1} → statement M
 byte-of-spec =
@@ -44,13 +51,15 @@ byte-of-spec =
     (tie.spec
     returns
     returns-2
+    returns-3
+    (λ c. search needs)
     (λ c. search needs)
     (λ c. search needs)
     (λ c. search needs)
     (λ c κs. search needs)
-    returns-3
     returns-4
     returns-5
+    returns-6
     (λ c. search needs)
     (λ c. search needs)
-    returns-6)
+    returns-7)

@@ -11,10 +11,10 @@ use Rattle.extract_fields.proofs.write_record.Statement.{statement}
 use Rattle.extract_fields.proofs.write_record.Tie as tie
 
 abbrev Inv-loop : tie.InvT-loop
-Inv-loop read out₀ k₀ out k = (k ≤ 44) × ((length out ≡ length out₀) × (out ≡ made (byteOf read) k ++ drop k out₀))
+Inv-loop read out₀ k₀ out k = (k ≤ 45) × ((length out ≡ length out₀) × (out ≡ made (byteOf read) k ++ drop k out₀))
 
 abbrev μ-loop : tie.MeasureT-loop
-μ-loop read out₀ k₀ out k = 44 - k
+μ-loop read out₀ k₀ out k = 45 - k
 
 loop-holds : tie.Need-loop-holds Inv-loop μ-loop
 loop-holds c = (search needs, (refl, made-none _ _))

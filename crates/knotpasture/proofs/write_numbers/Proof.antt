@@ -11,10 +11,10 @@ use Rattle.knotpasture.proofs.write_numbers.Statement.{statement}
 use Rattle.knotpasture.proofs.write_numbers.Tie as tie
 
 abbrev Inv-loop : tie.InvT-loop
-Inv-loop fields numbers₀ k₀ numbers k = (k ≤ 31) × (numbers ≡ made (numberAt fields) k ++ drop k numbers₀) × (length numbers ≡ length numbers₀)
+Inv-loop fields numbers₀ k₀ numbers k = (k ≤ 32) × (numbers ≡ made (numberAt fields) k ++ drop k numbers₀) × (length numbers ≡ length numbers₀)
 
 abbrev μ-loop : tie.MeasureT-loop
-μ-loop fields numbers₀ k₀ numbers k = 31 - k
+μ-loop fields numbers₀ k₀ numbers k = 32 - k
 
 loop-holds : tie.Need-loop-holds Inv-loop μ-loop
 loop-holds c = (search needs, made-none _ _, refl)

@@ -91,7 +91,7 @@ fn fields_in(block: &[u8], signed: bool) -> Fields
     requires { ⌜ length (now block) ≡ 16 ⌝ }
     ensures { λ r. ⌜ r ≡ fieldsIn signed (now (block .entry)) ⌝ }
 {
-    bc6_fields::fields_of(block, signed as u8)
+    bc6_fields::fields_in(BitStream::new(block), signed as u8)
 }
 
 // The sixteen triples of a block; a reserved mode shows zeros.

@@ -14,7 +14,7 @@ ghost use Rattle.bcn_util.specs.Indexed.{indexAt};
 ghost use Rattle.bc6h_spec.specs.Layout.{row};
 ghost use Rattle.bc6h_spec.specs.Fields.{modeIn, gathered, fieldsAt, fieldsOf};
 ghost use Rattle.bc6_fields.specs.Call.{Extracted};
-ghost use Rattle.bc6_fields.specs.Places.{entry};
+ghost use Rattle.bc6_fields.specs.Places.{entry, fieldsFrom};
 
 // The mode number, 0 for a reserved mode.
 pub fn extract_mode(stream: BitStream) -> usize
@@ -91,18 +91,24 @@ fn fields_from(format: u8, mode: usize, places: [u16; 14], stream: BitStream) ->
     }
 }
 
-// The fields of a block of a format, read by runs. A reserved mode has none.
-pub fn fields_of(block: &[u8], format: u8) -> Fields
-    requires { ⌜ length (now block) ≡ 16 ⌝ }
-    ensures { λ r. ⌜ r ≡ fieldsOf format (now (block .entry)) ⌝ }
+// The fields of a block of a format, read by runs. A reserved mode has none. (It takes the block's bits, and not its bytes: a slice that
+// is only handed on is stored and read back.)
+pub fn fields_in(stream: BitStream, format: u8) -> Fields
+    ensures { λ r. ⌜ r ≡ fieldsFrom format (number stream) ⌝ }
 {
-    let stream = BitStream::new(block);
     let mode = extract_mode(stream);
     if mode == 0 {
         return Fields::none();
     }
     let places = bc6_runs::read_places(mode, stream);
     fields_from(format, mode, places, stream)
+}
+
+pub fn fields_of(block: &[u8], format: u8) -> Fields
+    requires { ⌜ length (now block) ≡ 16 ⌝ }
+    ensures { λ r. ⌜ r ≡ fieldsOf format (now (block .entry)) ⌝ }
+{
+    fields_in(BitStream::new(block), format)
 }
 
 // The same, read bit by bit as the table says.

@@ -1,7 +1,7 @@
 -- `bc6_fields::plain_fields` meets its contract. Assumes nothing.
 use borrow.Author.Needs.{needs}
 use Prim.Native.Nat.{_≤_}
-use Rattle.bc6_fields.proofs.Whole.{in-modes, reserved, unreserved}
+use Rattle.bc6_fields.proofs.Whole.{in-modes, reserved, unreserved, of-block}
 use Rattle.bc6_fields.proofs.plain_fields.Statement.{statement}
 use Rattle.bc6_fields.proofs.plain_fields.Tie as tie
 
@@ -11,12 +11,12 @@ modes c = in-modes _ _ (c .before .extract-mode .ensures) (c .if1 .left)
 returns : tie.Need-returns
 returns c =
     let read = c .before .before in
-    reserved _ _ (read .before .new .ensures) (read .extract-mode .ensures) (c .before .if1 .taken) (c .none .ensures)
+    of-block _ _ (read .before .new .ensures) (reserved _ _ (read .extract-mode .ensures) (c .before .if1 .taken) (c .none .ensures))
 
 returns-2 : tie.Need-returns-2
 returns-2 c =
     let read = c .before .before .before in
-    unreserved _ _ (read .before .new .ensures) (read .extract-mode .ensures) (c .before .before .if1 .left) (c .fields-from .ensures)
+    of-block _ _ (read .before .new .ensures) (unreserved _ _ (read .extract-mode .ensures) (c .before .before .if1 .left) (c .fields-from .ensures))
 
 pub plain-fields-spec : {M : Type 1} → statement M
 plain-fields-spec =

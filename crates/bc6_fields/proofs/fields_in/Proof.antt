@@ -1,0 +1,26 @@
+-- `bc6_fields::fields_in` meets its contract. Assumes nothing.
+use borrow.Author.Needs.{needs}
+use Prim.Native.Nat.{_≤_}
+use Rattle.bc6_fields.proofs.Whole.{in-modes, reserved, unreserved}
+use Rattle.bc6_fields.proofs.fields_in.Statement.{statement}
+use Rattle.bc6_fields.proofs.fields_in.Tie as tie
+
+modes : (c : tie.Else1) → (1 ≤ c .before .extract-mode .result) × (c .before .extract-mode .result ≤ 14)
+modes c = in-modes _ _ (c .before .extract-mode .ensures) (c .if1 .left)
+
+returns : tie.Need-returns
+returns c = reserved _ _ (c .before .before .extract-mode .ensures) (c .before .if1 .taken) (c .none .ensures)
+
+returns-2 : tie.Need-returns-2
+returns-2 c = unreserved _ _ (c .before .before .before .extract-mode .ensures) (c .before .before .if1 .left) (c .fields-from .ensures)
+
+pub fields-in-spec : {M : Type 1} → statement M
+fields-in-spec =
+    tie.close
+    (tie.spec
+    (λ c κs. search needs)
+    (λ c κs. search needs)
+    returns
+    (λ c κs. modes c)
+    (λ c κs. (modes (c .before) .0, modes (c .before) .1, c .read-places .ensures))
+    returns-2)

@@ -31,7 +31,9 @@ enum knot_answer {
     KNOT_UNEVEN_STORE = 6,  /* store length not a multiple of KNOT_RECORD_SIZE */
     KNOT_SPARE_BYTE = 7,    /* a record's spare byte is not zero */
     KNOT_NO_RECORD = 8,     /* record number not below the number of records */
-    KNOT_UNEVEN_BLOCKS = 9  /* block bytes not a multiple of KNOT_BLOCK_SIZE */
+    KNOT_UNEVEN_BLOCKS = 9, /* block bytes not a multiple of KNOT_BLOCK_SIZE */
+    KNOT_INVALID_RECORD = 10, /* field record that no block has */
+    KNOT_BAD_BUFFER = 11    /* lent block buffer not KNOT_BLOCK_SIZE bytes */
 };
 
 enum knot_format { KNOT_UNSIGNED = 0, KNOT_SIGNED = 1 };
@@ -88,6 +90,17 @@ uint32_t knot_blocks_pixels(const uint8_t *blocks, size_t blocks_length, uint8_t
  * Answers the number in the low byte and the mode in the next. Refusals: 1, 2, 4, 3 (fewer than 32 numbers of room).
  */
 uint32_t knot_block_fields(const uint8_t *block, size_t block_length, uint8_t format, uint16_t *numbers, size_t numbers_length);
+
+/* The block of a field record, the way back of knot_block_fields: numbers as it writes them, out is then the sixteen bytes.
+ *
+ * A record is valid when its format is 0 or 1, its mode 1 to 14, each endpoint value fits its width (those of the last two
+ * endpoints are 0 in modes 11 to 14), the partition is below 32 (0 in modes 11 to 14), the region count is that of the
+ * partition, each index fits, and the indices of pixel 0 and of region 1's fix-up pixel have a zero top bit. Of a valid record
+ * knot_block_fields gives the same numbers back; and of the fields of a block this gives the same bytes back.
+ *
+ * Answers the number alone. Refusals: 1, 10 (also for another count of numbers than 32), 11, in this order.
+ */
+uint32_t knot_write_block(const uint16_t *numbers, size_t numbers_length, uint8_t *out, size_t out_length);
 
 /* Record n of a store of 24-byte records: tile number (4 bytes, low byte first), format, three zero bytes, block.
  *

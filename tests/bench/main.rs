@@ -1,6 +1,6 @@
 //! Blocks per second, ours and the Rust's in one run, both built for release: for each format and group of modes, over 4,096
-//! blocks that stay in cache and over 64 MiB of blocks; the call over a run of blocks against a call for each; and the twin
-//! list's two worst stores against decoding their blocks.
+//! blocks that stay in cache and over 64 MiB of blocks; the call over a run of blocks against a call for each; a block written
+//! from its fields against decoding it; and the twin list's two worst stores against decoding their blocks.
 //!
 //!     bench                  the table
 //!     bench ours|rust        decodes 100,000 mixed blocks with one side, in `counted`, for a count of instructions
@@ -21,6 +21,8 @@ extern "C" {
     fn clock_gettime(clock: i32, time: *mut Time) -> i32;
     fn knot_block_pixels(block: *const u8, block_length: usize, format: u8, out: *mut u16, out_length: usize) -> u32;
     fn knot_blocks_pixels(blocks: *const u8, blocks_length: usize, format: u8, out: *mut u16, out_length: usize, done: *mut usize, infinite: *mut usize) -> u32;
+    fn knot_block_fields(block: *const u8, block_length: usize, format: u8, numbers: *mut u16, room: usize) -> u32;
+    fn knot_write_block(numbers: *const u16, count: usize, out: *mut u8, room: usize) -> u32;
     fn knot_twin_list(store: *const u8, store_length: usize, marks: *mut u8, marks_length: usize) -> u64;
 }
 
@@ -99,6 +101,9 @@ fn table() {
         }
     }
     runs(&groups[0].1);
+    for (group, modes) in &groups {
+        writing(group, modes);
+    }
     twins(&groups[0].1);
 }
 
@@ -132,6 +137,25 @@ fn runs(modes: &[&Mode]) {
             println!("{count:<12} {name:9} {:>16.1} {:>16.1} {:>6.2}", cost(whole), cost(each), each / whole);
         }
     }
+}
+
+/// Nanoseconds a block: written from its fields, and decoded.
+fn writing(group: &str, modes: &[&Mode]) {
+    let blocks = blocks_of(modes, 4096);
+    let mut records = vec![[0u16; 32]; blocks.len()];
+    for (block, numbers) in blocks.iter().zip(&mut records) {
+        unsafe { knot_block_fields(block.as_ptr(), 16, 0, numbers.as_mut_ptr(), 32) };
+    }
+    let mut written = vec![[0u8; 16]; blocks.len()];
+    let mut write_all = || {
+        for (numbers, block) in black_box(&records).iter().zip(&mut written) {
+            unsafe { knot_write_block(numbers.as_ptr(), 32, block.as_mut_ptr(), 16) };
+        }
+    };
+    let (write, decode) = best(&mut write_all, || decode_all(&blocks, 1, 0, ours));
+    assert!(written == blocks);
+    let cost = |seconds: f64| seconds * 1e9 / blocks.len() as f64;
+    println!("writing, {group}: {:.1} ns a block; decoding {:.1} ns; {:.1} times", cost(write), cost(decode), write / decode);
 }
 
 fn record(block: [u8; 16]) -> [u8; 24] {

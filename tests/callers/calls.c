@@ -146,9 +146,9 @@ static void fields(void)
     untouch();
     /* the order 1, 2, 4, 3 */
     for (size_t length = 15; length <= 17; length++) {
-        CHECK(knot_block_fields(B1, length, 2, values, 31) == KNOT_BAD_FORMAT);
+        CHECK(knot_block_fields(B2, length, 2, values, 31) == KNOT_BAD_FORMAT);
         for (uint8_t format = 0; format < 2; format++)
-            CHECK(length == 16 || knot_block_fields(B1, length, format, values, 31) == KNOT_BAD_BLOCK);
+            CHECK(knot_block_fields(B2, length, format, values, 31) == (length == 16 ? KNOT_RESERVED_MODE : KNOT_BAD_BLOCK));
     }
     CHECK(knot_block_fields(NULL, 0, 255, NULL, 0) == KNOT_BAD_FORMAT);
     CHECK(knot_block_fields(NULL, 0, 0, NULL, 0) == KNOT_BAD_BLOCK);
@@ -164,6 +164,99 @@ static void fields(void)
     CHECK(all(2, 5, 0) && values[5] == 0x3FF && all(6, 31, 0) && values[31] == 15 && all(32, 64, UNTOUCHED));
     answer = knot_block_fields(B9, 16, KNOT_UNSIGNED, values, 32);
     CHECK(KNOT_MODE(answer) == 10 && values[0] == KNOT_UNSIGNED && values[8] == 0x3F && values[11] == 0 && values[14] == 13 && values[15] == 8);
+}
+
+static uint8_t written[18];
+
+static void untouch_bytes(void)
+{
+    for (size_t k = 0; k < 18; k++) written[k] = 0xA5;
+}
+
+static int untouched_bytes(void)
+{
+    for (size_t k = 0; k < 18; k++)
+        if (written[k] != 0xA5) return 0;
+    return 1;
+}
+
+/* The numbers of a block, one of them changed, are refused and nothing is written. */
+static void refused_with(const uint8_t *block, size_t place, uint16_t number)
+{
+    knot_block_fields(block, 16, KNOT_UNSIGNED, values, 32);
+    values[place] = number;
+    CHECK(knot_write_block(values, 32, written, 16) == KNOT_INVALID_RECORD && untouched_bytes());
+}
+
+/* Each mode's widths: the first endpoint's, and red, green and blue of the others. */
+static const uint8_t widths[15][4] = {
+    {0}, {10, 5, 5, 5}, {7, 6, 6, 6}, {11, 5, 4, 4}, {11, 4, 5, 4}, {11, 4, 4, 5}, {9, 5, 5, 5}, {8, 6, 5, 5},
+    {8, 5, 6, 5}, {8, 5, 5, 6}, {6, 6, 6, 6}, {10, 10, 10, 10}, {11, 9, 9, 9}, {12, 8, 8, 8}, {16, 4, 4, 4}};
+
+static unsigned width_of(unsigned mode, size_t place)
+{
+    if (place < 3) return widths[mode][0];
+    return place < 6 || mode <= 10 ? widths[mode][1 + place % 3] : 0;
+}
+
+/* A mode's record with every number at its largest comes back from its block; with any number one higher it is refused. */
+static void largest(unsigned mode)
+{
+    unsigned two = mode <= 10;
+    uint16_t numbers[32] = {(uint16_t)(mode % 2), (uint16_t)mode};
+    for (size_t place = 0; place < 12; place++) numbers[2 + place] = (uint16_t)((1u << width_of(mode, place)) - 1);
+    numbers[14] = two ? 13 : 0;
+    numbers[15] = two ? 8 : 0;
+    for (size_t pixel = 0; pixel < 16; pixel++)
+        numbers[16 + pixel] = (two ? 7 : 15) >> (pixel == 0 || (two && pixel == 15));
+    untouch_bytes();
+    for (size_t place = 1; place < 32; place++) {
+        if (numbers[place] == 0xFFFF) continue;
+        numbers[place]++;
+        CHECK(knot_write_block(numbers, 32, written, 16) == KNOT_INVALID_RECORD && untouched_bytes());
+        numbers[place]--;
+    }
+    CHECK(knot_write_block(numbers, 32, written, 16) == KNOT_DONE && written[16] == 0xA5 && written[17] == 0xA5);
+    CHECK(knot_block_fields(written, 16, (uint8_t)numbers[0], values, 32) == mode << 8);
+    for (size_t place = 0; place < 32; place++) CHECK(values[place] == numbers[place]);
+}
+
+static void writing(void)
+{
+    untouch_bytes();
+    /* the order 1, 10, 11 */
+    knot_block_fields(B3, 16, KNOT_SIGNED, values, 32);
+    values[0] = 2, values[1] = 0;
+    CHECK(knot_write_block(values, 32, written, 15) == KNOT_BAD_FORMAT);
+    values[0] = 256;
+    CHECK(knot_write_block(values, 32, written, 16) == KNOT_BAD_FORMAT);
+    values[0] = 1;
+    CHECK(knot_write_block(values, 32, written, 15) == KNOT_INVALID_RECORD);
+    CHECK(knot_write_block(NULL, 0, NULL, 0) == KNOT_INVALID_RECORD);
+    values[1] = 11;
+    CHECK(knot_write_block(values, 31, written, 16) == KNOT_INVALID_RECORD);
+    CHECK(knot_write_block(values, 33, written, 16) == KNOT_INVALID_RECORD);
+    for (size_t room = 0; room <= 18; room++)
+        CHECK(room == 16 || knot_write_block(values, 32, written, room) == KNOT_BAD_BUFFER);
+    CHECK(untouched_bytes());
+    refused_with(B3, 1, 0);         /* mode */
+    refused_with(B3, 1, 15);
+    refused_with(B3, 1, 11 + 256);
+    refused_with(B3, 8, 1);         /* a third endpoint in one region */
+    refused_with(B3, 14, 1);        /* a partition in one region */
+    refused_with(B3, 15, 1);        /* a region count in one region */
+    refused_with(B3, 16, 8);        /* pixel 0's top bit */
+    refused_with(B9, 14, 32);       /* partition */
+    refused_with(B9, 15, 7);        /* region count */
+    refused_with(B9, 31, 4);        /* the fix-up pixel's top bit */
+    for (unsigned mode = 1; mode <= 14; mode++) largest(mode);
+
+    const uint8_t *blocks[] = {B1, B3, B4, B5, B6, B9};
+    for (size_t n = 0; n < sizeof blocks / sizeof *blocks; n++) {
+        CHECK(KNOT_ANSWER(knot_block_fields(blocks[n], 16, n % 2, values, 32)) == KNOT_DONE);
+        CHECK(knot_write_block(values, 32, written, 16) == KNOT_DONE);
+        for (size_t k = 0; k < 16; k++) CHECK(written[k] == blocks[n][k]);
+    }
 }
 
 static uint8_t store[48001];
@@ -249,6 +342,7 @@ int main(void)
     pixels();
     runs();
     fields();
+    writing();
     records();
     twins();
     trusted();

@@ -7,6 +7,7 @@ mod knot {
             pub fn knot_block_pixels(block: *const u8, block_length: usize, format: u8, out: *mut u16, out_length: usize) -> u32;
             pub fn knot_blocks_pixels(blocks: *const u8, blocks_length: usize, format: u8, out: *mut u16, out_length: usize, done: *mut usize, infinite: *mut usize) -> u32;
             pub fn knot_block_fields(block: *const u8, block_length: usize, format: u8, numbers: *mut u16, numbers_length: usize) -> u32;
+            pub fn knot_write_block(numbers: *const u16, numbers_length: usize, out: *mut u8, out_length: usize) -> u32;
             pub fn knot_record_at(store: *const u8, store_length: usize, n: usize) -> u64;
             pub fn knot_record_block(store: *const u8, store_length: usize, n: usize) -> usize;
             pub fn knot_tile_at(store: *const u8, store_length: usize, n: usize) -> u32;
@@ -38,6 +39,15 @@ mod knot {
         let mut numbers = [0; 32];
         match unsafe { c::knot_block_fields(block.as_ptr(), block.len(), format, numbers.as_mut_ptr(), numbers.len()) } as u8 {
             0 => Ok(numbers),
+            number => Err(number),
+        }
+    }
+
+    /// The block of a field record, or a refusal's number.
+    pub fn write_block(numbers: &[u16]) -> Result<[u8; 16], u8> {
+        let mut block = [0; 16];
+        match unsafe { c::knot_write_block(numbers.as_ptr(), numbers.len(), block.as_mut_ptr(), block.len()) } as u8 {
+            0 => Ok(block),
             number => Err(number),
         }
     }
@@ -125,6 +135,20 @@ fn fields() {
     assert_eq!(numbers.iter().map(|&number| u32::from(number)).sum::<u32>(), 1 + 11 + 0x3FF + 15);
 }
 
+fn writing() {
+    for block in [B1, B3, B4, B6] {
+        let numbers = knot::block_fields(&block, 1).unwrap();
+        assert_eq!(knot::write_block(&numbers), Ok(block));
+        let mut other = numbers;
+        other[0] = 2;
+        assert_eq!(knot::write_block(&other), Err(1));
+        other[0] = 0;
+        other[31] += 16;
+        assert_eq!(knot::write_block(&other), Err(10));
+        assert_eq!(knot::write_block(&numbers[1..]), Err(10));
+    }
+}
+
 fn store() {
     let store = [record(7, 0, B3), record(8, 0, B4), record(9, 1, B6), record(10, 2, B1)].concat();
     let mut marks = [9; 5];
@@ -158,6 +182,7 @@ fn main() {
     pixels();
     runs();
     fields();
+    writing();
     store();
     trusted();
     println!("Rust: every check holds");

@@ -5,6 +5,7 @@ extern "C" {
     fn knot_block_pixels(block: *const u8, block_length: usize, format: u8, out: *mut u16, out_length: usize) -> u32;
     fn knot_blocks_pixels(blocks: *const u8, blocks_length: usize, format: u8, out: *mut u16, out_length: usize, done: *mut usize, infinite: *mut usize) -> u32;
     fn knot_block_fields(block: *const u8, block_length: usize, format: u8, numbers: *mut u16, room: usize) -> u32;
+    fn knot_write_block(numbers: *const u16, count: usize, out: *mut u8, room: usize) -> u32;
 }
 
 /// What stands in lent values before a call, to see which are written.
@@ -68,6 +69,17 @@ fn compare_fields(block: [u8; 16], format: u8, tally: &mut Tally) {
     }
 }
 
+/// The fields of a block, written: the block again, and where it has none a refusal that writes nothing.
+fn compare_written(block: [u8; 16], format: u8, tally: &mut Tally) {
+    let (mut numbers, mut again) = ([0; 32], [0xA5; 16]);
+    let refused = fields(&block, format, &mut numbers) & 0xFF != 0;
+    let answer = unsafe { knot_write_block(numbers.as_ptr(), 32, again.as_mut_ptr(), 16) };
+    tally.compared += 1;
+    if (answer, again) != if refused { (10, [0xA5; 16]) } else { (0, block) } {
+        tally.differs("fields written", format, &block);
+    }
+}
+
 /// Every length of block from 0 to 40 and of output from 0 to 100, every format: the number of document 01's table, first met
 /// wins, and on a refusal no value changed.
 fn compare_refusals(tally: &mut Tally) {
@@ -127,6 +139,7 @@ pub fn compare(extent: &Extent, tally: &mut Tally) {
             compare_pixels(block, 0, tally);
             compare_pixels(block, 1, tally);
             compare_fields(block, block[15] % 2, tally);
+            compare_written(block, block[15] % 2, tally);
             run.push(block);
             if run.len() > runs % 100 {
                 compare_run(&run, (runs % 2) as u8, tally);
@@ -135,8 +148,8 @@ pub fn compare(extent: &Extent, tally: &mut Tally) {
             }
         });
         let runs = runs - before.1;
-        let blocks = (tally.compared - before.0 - runs as u64) / 3;
-        println!("{name}: {blocks} blocks, as unsigned, as signed, by fields and in {runs} runs");
+        let blocks = (tally.compared - before.0 - runs as u64) / 4;
+        println!("{name}: {blocks} blocks, as unsigned, as signed, by fields, written back, and in {runs} runs");
     });
     let before = tally.compared;
     compare_refusals(tally);

@@ -1,7 +1,7 @@
 //! Feeds our decoder and the Rust the same blocks and compares every value, mode, field and refusal.
 //!
 //!     compare short|long [SEED]                     through the archive (built with --cfg archive)
-//!     compare programs DECODE EXTRACT [SEED]        through the programs decode_blocks and extract_fields
+//!     compare programs DECODE EXTRACT WRITE [SEED]  through the programs decode_blocks, extract_fields and write_blocks
 //!     compare entries SEED                          writes the list that the program replay reads
 //!     compare emit COUNT FORMAT SEED                writes 17-byte records, COUNT of them random, for other drivers
 mod blocks;
@@ -87,11 +87,11 @@ fn main() -> ExitCode {
         Some("short") => archive::compare(&Extent { pair_step: 7, random: 50_000, seed: number(&words, 1, 1) }, &mut tally),
         #[cfg(archive)]
         Some("long") => archive::compare(&Extent { pair_step: 1, random: 5_000_000, seed: number(&words, 1, 1) }, &mut tally),
-        Some("programs") if words.len() >= 3 => programs::compare(&words[1], &words[2], number(&words, 3, 1), &mut tally),
+        Some("programs") if words.len() >= 4 => programs::compare(&words[1], &words[2], &words[3], number(&words, 4, 1), &mut tally),
         Some("entries") => return programs::entries(number(&words, 1, 1)),
         Some("emit") => return programs::emit(number(&words, 1, 1), number(&words, 2, 0), number(&words, 3, 1)),
         _ => {
-            eprintln!("usage: compare short|long [SEED] | programs DECODE EXTRACT [SEED] | entries SEED | emit COUNT FORMAT SEED");
+            eprintln!("usage: compare short|long [SEED] | programs DECODE EXTRACT WRITE [SEED] | entries SEED | emit COUNT FORMAT SEED");
             return ExitCode::from(2);
         }
     }

@@ -1,4 +1,5 @@
-//! Our side as programs: decode_blocks (17 bytes in, 98 out) and extract_fields (17 in, 45 out).
+//! Our side as programs: decode_blocks (17 bytes in, 98 out), extract_fields (17 in, 45 out), and write_blocks (44 in, 17 out),
+//! which is given what extract_fields writes after its answers.
 use crate::blocks::{Mode, NAMED};
 use crate::{field_numbers, Tally};
 use std::io::{BufWriter, Read, Write};
@@ -47,6 +48,16 @@ fn extracted(record: &[u8]) -> Vec<u8> {
     bytes
 }
 
+/// What write_blocks writes of the fields of a record: the block again, or 10 and zeros where there are none.
+fn written_back(record: &[u8]) -> [u8; 17] {
+    let mut answer = [0; 17];
+    match extracted(record)[0] {
+        0 => answer[1..].copy_from_slice(&record[1..]),
+        _ => answer[0] = 10,
+    }
+    answer
+}
+
 fn sample(seed: u64) -> Vec<[u8; 16]> {
     let mut blocks = NAMED.to_vec();
     for mode in Mode::all() {
@@ -72,7 +83,7 @@ fn compare_run(what: &str, records: &[u8], output: &[u8], expected: &[u8], each:
     }
 }
 
-pub fn compare(decode: &str, extract: &str, seed: u64, tally: &mut Tally) {
+pub fn compare(decode: &str, extract: &str, write: &str, seed: u64, tally: &mut Tally) {
     let blocks = sample(seed);
     let mut records = Vec::new();
     for (n, block) in blocks.iter().enumerate() {
@@ -85,7 +96,11 @@ pub fn compare(decode: &str, extract: &str, seed: u64, tally: &mut Tally) {
     let expected: Vec<u8> = records.chunks(17).flat_map(decoded).collect();
     compare_run("decode_blocks", &records, &answers(decode, &records), &expected, 98, tally);
     let expected: Vec<u8> = records.chunks(17).flat_map(extracted).collect();
-    compare_run("extract_fields", &records, &answers(extract, &records), &expected, 45, tally);
+    let fields = answers(extract, &records);
+    compare_run("extract_fields", &records, &fields, &expected, 45, tally);
+    let fields: Vec<u8> = fields.chunks(45).flat_map(|piece| &piece[1..]).copied().collect();
+    let expected: Vec<u8> = records.chunks(17).flat_map(written_back).collect();
+    compare_run("write_blocks", &records, &answers(write, &fields), &expected, 17, tally);
 }
 
 /// B1 to B11, every block of at most two bits over each code or two short of all, and random ones.

@@ -2,6 +2,7 @@
 use mathlib.Core.Path.{_≡_, _∙_, refl, sym, ap}
 use mathlib.Core.List.{List}
 use Prim.Native.Nat.{ℕ, _<_, _≤_}
+use native.Mathlib.Omega.{arith}
 use lib.ListN.{length}
 use borrow.Author.Tests.{lt-ltb, le-ltb, eq-eqb, ne-eqb}
 use Rattle.bc6h_spec.specs.declared.Fields.{Fields}
@@ -30,6 +31,11 @@ module _ (block : List ℕ) (format : ℕ) {f : Fields} where
 
       pub all-read : (modeOf block ≡ 0 → ⊥) → f ≡ fieldsOf format block → Extracted block format (record { answer = done; fields = f })
       all-read ne e = record { answers = rw (le-ltb 1 format k, eq-eqb (length block) blockSize l, ne-eqb (modeOf block) 0 ne, e) refl }
+
+-- an unreserved block of format 0 or 1 is read
+pub block-read : (block : List ℕ) (format : ℕ) → length block ≡ blockSize → format ≤ 1 → 1 ≤ modeOf block → {r : FieldsRead} → Extracted block format r
+    → r ≡ record { answer = done; fields = fieldsOf format block }
+block-read block format l k m x = one-outcome x (all-read block format k l (λ z. omega arith) refl)
 
 -- the mode of the fields that were read
 pub mode-read : (block : List ℕ) (format : ℕ) {f : Fields} → f ≡ fieldsOf format block → modeOf block ≡ f .mode

@@ -1088,6 +1088,13 @@ const DESTINATIONS: [u8; 1080] = [
     42,
 ];
 
+// The whole table, for a loop over a row of it.
+pub fn codes() -> [u8; 1080]
+    ensures { λ r. ⌜ r ≡ table ⌝ }
+{
+    DESTINATIONS
+}
+
 // The code at a place of the table. (No decoder calls this for each bit: the array is copied for each read.)
 pub fn destination(at: usize) -> u8
     requires { ⌜ at < 1080 ⌝ }

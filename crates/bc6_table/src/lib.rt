@@ -1,5 +1,5 @@
 // The bits before the indices, bit by bit, each put where the table of 1,080 codes says.
-mod destinations;
+pub mod destinations;
 
 use bcn_util::BitStream;
 use destinations::destination;

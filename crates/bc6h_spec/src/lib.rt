@@ -59,8 +59,12 @@ impl Answer {
 
     pub const UNEVEN_BLOCKS: u8 = 9;
 
+    pub const INVALID_RECORD: u8 = 10;
+
+    pub const BAD_BUFFER: u8 = 11;
+
     // The constants are the numbers of specs/Answers.
-    pub fn all() -> [u8; 10]
+    pub fn all() -> [u8; 12]
         ensures { λ r. ⌜ r ≡ answers ⌝ }
     {
         [
@@ -74,6 +78,8 @@ impl Answer {
             Answer::SPARE_BYTE,
             Answer::NO_RECORD,
             Answer::UNEVEN_BLOCKS,
+            Answer::INVALID_RECORD,
+            Answer::BAD_BUFFER,
         ]
     }
 }

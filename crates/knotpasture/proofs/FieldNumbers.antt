@@ -1,9 +1,8 @@
--- A field record as numbers, and the field call's word. Assumes nothing.
-use mathlib.Core.Path.{_≡_, refl, sym, ap, _∙_}
+-- The field call and the writer over a record as numbers. Assumes nothing.
+use mathlib.Core.Path.{_≡_, refl, sym, ap, subst, _∙_}
 use mathlib.Core.List.{List, _++_}
-use Prim.Native.Nat.{ℕ, zero, suc, _+_, _-_, _*_, _<_, _≤_}
-use native.Mathlib.Omega.{arith}
-use lib.ListN.{length, getD, drop}
+use Prim.Native.Nat.{ℕ, zero, suc, _<_, _≤_}
+use lib.ListN.{length, drop}
 use borrow.Author.Tests.{lt-ltb, le-ltb}
 use Rattle.bc6h_spec.specs.declared.Fields.{Fields}
 use Rattle.bc6h_spec.specs.Answers.{shortOutput}
@@ -11,36 +10,9 @@ use Rattle.bc6h_spec.specs.Fields.{modeOf, fieldsOf}
 use Rattle.bc6_fields.specs.declared.FieldsRead.{FieldsRead}
 use Rattle.bc6_fields.specs.Call.{refusalOf, answerAt, Extracted}
 use Rattle.bc6_fields.proofs.Calls.{mode-read}
-use Rattle.knotpasture.specs.Packed.{twoBytes, numberCount, numberAt, numbersOf, FieldsCalled}
-
-module _ (f : Fields) (k : ℕ) where
-  pub at-format : k < 1 → f .format ≡ numberAt f k
-  unfolding numberAt
-  at-format a = rw (lt-ltb _ _ a)
-
-  module _ (a : 1 ≤ k) where
-    pub at-mode : k < 2 → f .mode ≡ numberAt f k
-    unfolding numberAt
-    at-mode b = rw (le-ltb _ _ a, lt-ltb _ _ b)
-
-    module _ (b : 2 ≤ k) where
-      pub at-endpoint : k < 14 → getD (f .endpoints) (k - 2) 0 ≡ numberAt f k
-      unfolding numberAt
-      at-endpoint c = rw (le-ltb _ _ a, le-ltb _ _ b, lt-ltb _ _ c)
-
-      module _ (c : 14 ≤ k) where
-        pub at-partition : k < 15 → f .partition ≡ numberAt f k
-        unfolding numberAt
-        at-partition d = rw (le-ltb _ _ a, le-ltb _ _ b, le-ltb _ _ c, lt-ltb _ _ d)
-
-        module _ (d : 15 ≤ k) where
-          pub at-region1 : k < 16 → f .region1 ≡ numberAt f k
-          unfolding numberAt
-          at-region1 g = rw (le-ltb _ _ a, le-ltb _ _ b, le-ltb _ _ c, le-ltb _ _ d, lt-ltb _ _ g)
-
-          pub at-index : 16 ≤ k → getD (f .indices) (k - 16) 0 ≡ numberAt f k
-          unfolding numberAt
-          at-index g = rw (le-ltb _ _ a, le-ltb _ _ b, le-ltb _ _ c, le-ltb _ _ d, le-ltb _ _ g)
+use Rattle.bc6_writer.specs.Call.{Written}
+use Rattle.bc6_numbers.specs.Numbers.{numberCount, numbersOf}
+use Rattle.knotpasture.specs.Packed.{twoBytes, FieldsCalled}
 
 -- ---- the field call
 
@@ -81,3 +53,9 @@ module _ {block : List ℕ} {format : ℕ} {r : FieldsRead} (d : Extracted block
 pub one-fields : {block : List ℕ} {format : ℕ} {lent : List ℕ} {r s : ℕ} {a b : List ℕ} → FieldsCalled block format lent r a → FieldsCalled block format lent s b
     → (r ≡ s) × (a ≡ b)
 one-fields d e = (d .answers ∙ sym (e .answers), d .holds ∙ sym (e .holds))
+
+-- ---- the writer
+
+-- what the writer leaves is told of the record that the numbers make
+pub of-numbers : {f g : Fields} {lent : List ℕ} {r : ℕ} {after : List ℕ} → f ≡ g → Written f lent r after → Written g lent r after
+of-numbers {f} {g} {lent} {r} {after} e w = subst (λ (h : Fields). Written h lent r after) e w

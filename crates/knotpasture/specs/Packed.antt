@@ -3,13 +3,12 @@ use mathlib.Core.Path.{_≡_}
 use mathlib.Core.List.{List, _++_}
 use Prim.Native.Nat.{ℕ, zero, suc, _+_, _-_, _*_}
 use lib.Dec.{ltb}
-use lib.ListN.{length, getD, drop}
+use lib.ListN.{length, drop}
 use Rattle.laws.specs.Pick.{pick}
-use Rattle.laws.specs.Made.{made}
-use Rattle.bc6h_spec.specs.declared.Fields.{Fields}
 use Rattle.bc6h_spec.specs.Answers.{done, shortOutput}
 use Rattle.bc6h_spec.specs.Fields.{modeOf, fieldsOf}
 use Rattle.bc6_fields.specs.Call as fields
+use Rattle.bc6_numbers.specs.Numbers.{numberCount, numbersOf}
 use Rattle.bc6.specs.declared.Pixels.{Pixels}
 use Rattle.bc6.specs.Call.{refusalOf, answerAt, valuesAt}
 use Rattle.bc6_blocks.specs.Run.{runRefusal, runAnswer, runValues}
@@ -36,22 +35,6 @@ pub record PixelsCalled (block : List ℕ) (format : ℕ) (out : List ℕ) (r : 
 pub record RunCalled (blocks : List ℕ) (format : ℕ) (out : List ℕ) (r : ℕ) (after : List ℕ) (done infinite : ℕ) : Type 0 where
   pub answers : record { answer = r; blocks = done; infinite = infinite } ≡ runAnswer (runRefusal format (length blocks) (length out)) blocks format
   pub holds : after ≡ runValues (runRefusal format (length blocks) (length out)) blocks format out
-
--- a field record as numbers: format, mode, twelve endpoint values, partition, pixels in region 1, sixteen indices
-abbrev pub numberCount : ℕ
-numberCount = 32
-
-unfoldable pub numberAt : Fields → ℕ → ℕ
-numberAt f k =
-    pick (ltb k 1) (f .format)
-    (pick (ltb k 2) (f .mode)
-    (pick (ltb k 14) (getD (f .endpoints) (k - 2) 0)
-    (pick (ltb k 15) (f .partition)
-    (pick (ltb k 16) (f .region1)
-    (getD (f .indices) (k - 16) 0)))))
-
-unfoldable pub numbersOf : Fields → List ℕ
-numbersOf f = made (numberAt f) numberCount
 
 -- the field call's own refusals, 1, 2 and 4, and then 3, where the lent numbers are too few
 abbrev pub withRoom : ℕ → ℕ → ℕ

@@ -1,15 +1,17 @@
 // The public calls for C and Rust, as include/knotpasture.h declares them. A slice is a pointer and a length.
+use bc6_numbers::Numbers;
 use bc6h_spec::Answer;
-use bc6h_spec::Fields;
 use records::Record;
 use records::RecordReading;
 ghost use mathlib.Core.Path.{_≡_};
 ghost use mathlib.Core.List.{_++_};
 ghost use Prim.Native.Nat.{_+_, _*_, _<_, _≤_};
 ghost use lib.ListN.{length, drop};
+ghost use Rattle.bc6_numbers.specs.Numbers.{fieldsFrom};
+ghost use Rattle.bc6_writer.specs.Call.{Written};
 ghost use Rattle.copies.specs.Trust.{trusted};
 ghost use Rattle.records.specs.Store.{recordRefusal, tileAt};
-ghost use Rattle.knotpasture.specs.Packed.{twoBytes, numberCount, numberAt, numbersOf, readingWord, offsetAt, PixelsCalled, RunCalled, FieldsCalled, TwinsCalled};
+ghost use Rattle.knotpasture.specs.Packed.{twoBytes, readingWord, offsetAt, PixelsCalled, RunCalled, FieldsCalled, TwinsCalled};
 
 // Two bytes as one word, the first the lowest.
 fn two_bytes(low: u8, high: u8) -> u32
@@ -42,49 +44,6 @@ pub extern "C" fn knot_blocks_pixels(
     run.answer as u32
 }
 
-// A field record as a run of numbers.
-struct Numbers {
-    count: usize,
-}
-
-impl Numbers {
-    const COUNT: usize = 32;
-}
-
-// Number k of a field record: format, mode, twelve endpoint values, partition, pixels in region 1, sixteen indices.
-fn number_at(fields: Fields, k: usize) -> u16
-    requires { ⌜ k < numberCount ⌝ }
-    ensures { λ r. ⌜ r ≡ numberAt fields k ⌝ }
-{
-    if k < 1 {
-        return fields.format as u16;
-    }
-    if k < 2 {
-        return fields.mode as u16;
-    }
-    if k < 14 {
-        let endpoints = fields.endpoints;
-        return endpoints[k - 2];
-    }
-    if k < 15 {
-        return fields.partition as u16;
-    }
-    if k < 16 {
-        return fields.region1 as u16;
-    }
-    let indices = fields.indices;
-    indices[k - 16] as u16
-}
-
-fn write_numbers(fields: Fields, numbers: &mut [u16])
-    requires { ⌜ numberCount ≤ length (now numbers) ⌝ }
-    ensures { λ _. ⌜ now (numbers .exit) ≡ numbersOf fields ++ drop numberCount (now (numbers .entry)) ⌝ }
-{
-    for k in 0..Numbers::COUNT {
-        numbers[k] = number_at(fields, k);
-    }
-}
-
 #[no_mangle]
 pub extern "C" fn knot_block_fields(block: &[u8], format: u8, numbers: &mut [u16]) -> u32
     ensures { λ r. ⌜ FieldsCalled (now (block .entry)) format (now (numbers .entry)) r (now (numbers .exit)) ⌝ }
@@ -97,8 +56,15 @@ pub extern "C" fn knot_block_fields(block: &[u8], format: u8, numbers: &mut [u16
         return Answer::SHORT_OUTPUT as u32;
     }
     let fields = read.fields;
-    write_numbers(fields, numbers);
+    bc6_numbers::write_numbers(fields, numbers);
     two_bytes(Answer::DONE, fields.mode)
+}
+
+#[no_mangle]
+pub extern "C" fn knot_write_block(numbers: &[u16], out: &mut [u8]) -> u32
+    ensures { λ r. ⌜ Written (fieldsFrom (now (numbers .entry))) (now (out .entry)) r (now (out .exit)) ⌝ }
+{
+    bc6_writer::write_block(bc6_numbers::fields_from(numbers), out) as u32
 }
 
 #[no_mangle]

@@ -6,9 +6,9 @@ use Prim.Native.Nat.{_-_, _≤_}
 use lib.ListN.{length, drop, length-set}
 use Rattle.laws.specs.Made.{made}
 use Rattle.laws.proofs.Rows.{made-none, made-store, made-upto}
-use Rattle.knotpasture.specs.Packed.{numberAt, numbersOf}
-use Rattle.knotpasture.proofs.write_numbers.Statement.{statement}
-use Rattle.knotpasture.proofs.write_numbers.Tie as tie
+use Rattle.bc6_numbers.specs.Numbers.{numberAt, numbersOf}
+use Rattle.bc6_numbers.proofs.write_numbers.Statement.{statement}
+use Rattle.bc6_numbers.proofs.write_numbers.Tie as tie
 
 abbrev Inv-loop : tie.InvT-loop
 Inv-loop fields numbers₀ k₀ numbers k = (k ≤ 32) × (numbers ≡ made (numberAt fields) k ++ drop k numbers₀) × (length numbers ≡ length numbers₀)

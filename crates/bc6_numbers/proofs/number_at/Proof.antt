@@ -1,7 +1,7 @@
 use borrow.Author.Needs.{needs}
-use Rattle.knotpasture.proofs.FieldNumbers.{at-format, at-mode, at-endpoint, at-partition, at-region1, at-index}
-use Rattle.knotpasture.proofs.number_at.Statement.{statement}
-use Rattle.knotpasture.proofs.number_at.Tie as tie
+use Rattle.bc6_numbers.proofs.Record.{at-format, at-mode, at-endpoint, at-partition, at-region1, at-index}
+use Rattle.bc6_numbers.proofs.number_at.Statement.{statement}
+use Rattle.bc6_numbers.proofs.number_at.Tie as tie
 
 returns : tie.Need-returns
 returns c = at-format _ _ (search needs)

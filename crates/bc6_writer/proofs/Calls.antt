@@ -1,0 +1,47 @@
+-- What follows from the writer's statement, and what it takes to show it. Assumes nothing.
+use mathlib.Core.Path.{_≡_, _∙_, refl, sym, ap}
+use mathlib.Core.Bool.{Bool, true, false}
+use mathlib.Core.List.{List}
+use Prim.Native.Nat.{ℕ, _≤_, _<_}
+use lib.ListN.{length}
+use borrow.Author.Tests.{lt-ltb, le-ltb, eq-eqb, ne-eqb}
+use Rattle.laws.proofs.Search.{holds}
+use Rattle.bc6h_spec.specs.declared.Fields.{Fields}
+use Rattle.bc6h_spec.specs.Answers.{done, badFormat, invalidRecord, badBuffer}
+use Rattle.bc6h_spec.specs.Bits.{blockSize}
+use Rattle.bc6h_spec.specs.Fields.{Valid}
+use Rattle.bc6h_spec.specs.Writer.{numberFrom, bytesOf, blockOf}
+use Rattle.bc6_writer.specs.Validity.{valid}
+use Rattle.bc6_writer.specs.Call.{Written}
+use Rattle.bc6_writer.proofs.Validity.{sound}
+
+-- the statement admits one outcome
+pub one-outcome : {f : Fields} {lent : List ℕ} {r s : ℕ} {a b : List ℕ} → Written f lent r a → Written f lent s b → (r ≡ s) × (a ≡ b)
+one-outcome p q = (p .answers ∙ sym (q .answers), p .holds ∙ sym (q .holds))
+
+pub is-known : (f : Fields) {r : Bool} → r ≡ valid f → r ≡ true → Valid f
+is-known f e t = sound f (holds (sym e ∙ t))
+
+module _ (f : Fields) (lent : List ℕ) where
+  pub bad-format : 1 < f .format → Written f lent badFormat lent
+  bad-format h = record { answers = rw (lt-ltb 1 (f .format) h) refl; holds = rw (lt-ltb 1 (f .format) h) refl }
+
+  module _ (k : f .format ≤ 1) {r : Bool} (e : r ≡ valid f) where
+    pub bad-record : r ≡ false → Written f lent invalidRecord lent
+    bad-record t = record { answers = rw (le-ltb 1 (f .format) k, sym e ∙ t) refl; holds = rw (le-ltb 1 (f .format) k, sym e ∙ t) refl }
+
+    module _ (t : r ≡ true) where
+      pub bad-buffer : (length lent ≡ blockSize → ⊥) → Written f lent badBuffer lent
+      bad-buffer n =
+          record {
+            answers = rw (le-ltb 1 (f .format) k, sym e ∙ t, ne-eqb (length lent) blockSize n) refl;
+            holds = rw (le-ltb 1 (f .format) k, sym e ∙ t, ne-eqb (length lent) blockSize n) refl;
+          }
+
+      pub all-written : {after : List ℕ} {n : ℕ} → length lent ≡ blockSize → after ≡ bytesOf 16 n → n ≡ numberFrom f → Written f lent done after
+      unfolding blockOf
+      all-written l ea en =
+          record {
+            answers = rw (le-ltb 1 (f .format) k, sym e ∙ t, eq-eqb (length lent) blockSize l) refl;
+            holds = rw (le-ltb 1 (f .format) k, sym e ∙ t, eq-eqb (length lent) blockSize l) (ea ∙ ap (bytesOf 16) en);
+          }

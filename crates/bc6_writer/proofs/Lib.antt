@@ -1,0 +1,8 @@
+pub mod Validity
+pub mod Sizes
+pub mod Verdict
+pub mod Scattering
+pub mod Packing
+pub mod Joining
+pub mod Calls
+pub mod Undone

@@ -1,0 +1,66 @@
+-- `bc6_writer::table_words` meets its contract: a row of the table, in two parts. Assumes nothing.
+use borrow.Author.Needs.{needs}
+use mathlib.Core.Path.{_≡_}
+use Prim.Native.Nat.{_+_, _≤_}
+use native.Mathlib.Omega.{arith}
+use Rattle.bc6_writer.proofs.Scattering as laws
+use Rattle.bc6_writer.proofs.table_words.Statement.{statement}
+use Rattle.bc6_writer.proofs.table_words.Tie as tie
+
+add-middle : tie.Need-add-middle
+add-middle c = let p = c .before .before .pre in let h = laws.start-fits _ (p .0) (p .1) (c .row-start .ensures) in search needs
+
+fit : (c : tie.After-table-bits) → (c .before .row-start .result + 64 ≤ c .before .row-start .result + c .table-bits .result) × (c .before .row-start .result + c .table-bits .result ≤ 1080)
+fit c = let p = c .before .before .before .pre in laws.parts-fit _ (p .0) (p .1) (c .before .row-start .ensures) (c .table-bits .ensures)
+
+add-end : tie.Need-add-end
+add-end c = let h = fit c .1 in search needs
+
+part-low-end : tie.Need-part-scattered-bits-end
+part-low-end c = let h = fit (c .before) in search needs
+
+requires-low : tie.Need-scattered-bits-requires
+requires-low c κs =
+    let p = c .before .before .before .before .before .pre in
+    laws.low-places _ (p .0) (p .1) (laws.low-part _ (p .0) (p .1) (c .before .before .before .before .codes .ensures) (c .before .before .before .row-start .ensures))
+
+sub-high : tie.Need-sub-scattered-bits-2
+sub-high c = let h = fit (c .before .before .before) in search needs
+
+part-high-start : tie.Need-part-scattered-bits-start-2
+part-high-start c = let h = fit (c .before .before .before .before) in search needs
+
+part-high-end : tie.Need-part-scattered-bits-end-2
+part-high-end c = let h = fit (c .before .before .before .before) in search needs
+
+requires-high : tie.Need-scattered-bits-requires-2
+requires-high c κs =
+    let p = c .before .before .before .before .before .before .before .before .pre in
+    laws.high-places _ (p .0) (p .1) (laws.high-part _ (p .0) (p .1) (c .before .before .before .before .before .before .before .codes .ensures) (c .before .before .before .before .before .before .row-start .ensures) (c .before .before .before .before .before .table-bits .ensures))
+
+returns : tie.Need-returns
+returns c =
+    let p = c .before .before .before .before .before .before .before .before .before .pre in
+    laws.words-joined _ (p .0) (p .1) _ (c .before .before .before .scattered-bits .ensures)
+    (laws.low-part _ (p .0) (p .1) (c .before .before .before .before .before .before .before .before .codes .ensures) (c .before .before .before .before .before .before .before .row-start .ensures))
+    (c .scattered-bits2 .ensures)
+    (laws.high-part _ (p .0) (p .1) (c .before .before .before .before .before .before .before .before .codes .ensures) (c .before .before .before .before .before .before .before .row-start .ensures) (c .before .before .before .before .before .before .table-bits .ensures))
+
+pub table-words-spec : {M : Type 1} → statement M
+table-words-spec =
+    tie.close
+    (tie.spec
+    (λ c κs. search needs)
+    (λ c κs. search needs)
+    add-middle
+    (λ c κs. search needs)
+    add-end
+    (λ c. search needs)
+    (λ c. search needs)
+    part-low-end
+    requires-low
+    sub-high
+    part-high-start
+    part-high-end
+    requires-high
+    returns)

@@ -1,0 +1,26 @@
+-- What the writer answers, and what the lent bytes then are. Assumes nothing.
+use mathlib.Core.Path.{_≡_}
+use mathlib.Core.List.{List}
+use Prim.Native.Nat.{ℕ, zero, suc}
+use lib.Dec.{eqb, ltb}
+use lib.ListN.{length}
+use Rattle.laws.specs.Pick.{pick}
+use Rattle.bc6h_spec.specs.declared.Fields.{Fields}
+use Rattle.bc6h_spec.specs.Answers.{done, badFormat, invalidRecord, badBuffer}
+use Rattle.bc6h_spec.specs.Bits.{blockSize}
+use Rattle.bc6h_spec.specs.Writer.{blockOf}
+use Rattle.bc6_writer.specs.Validity.{valid}
+
+-- "Refusals: 10, invalid record; 11, lent block buffer not 16 bytes; order 1, 10, 11"
+abbrev pub refusalOf : Fields → ℕ → ℕ
+refusalOf f room = pick (ltb 1 (f .format)) badFormat (pick (valid f) (pick (eqb room blockSize) done badBuffer) invalidRecord)
+
+-- "nothing is written" on refusal; else the block
+abbrev pub bytesAt : ℕ → Fields → List ℕ → List ℕ
+bytesAt zero f lent = blockOf f
+bytesAt (suc n) f lent = lent
+
+-- the whole outcome of the call
+pub record Written (f : Fields) (lent : List ℕ) (r : ℕ) (after : List ℕ) : Type 0 where
+  pub answers : r ≡ refusalOf f (length lent)
+  pub holds : after ≡ bytesAt (refusalOf f (length lent)) f lent

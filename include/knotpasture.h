@@ -129,11 +129,12 @@ uint64_t knot_twin_list(const uint8_t *store, size_t store_length, uint8_t *mark
 #define KNOT_TWIN_COUNT(word) ((unsigned)((word) >> 32 & 0xFFFF))
 #define KNOT_BAD_COUNT(word) ((unsigned)((word) >> 48))
 
-/* Whether a block, read as unsigned, is of mode 11, 12 or 13, has a pixel at index 0 and one at index 15, and has a channel
- * whose sixteen palette values all differ. Another block of the same mode with a pixel at index 0 and one at index 15 that
- * shows the same 48 values then has the same sixteen bytes: deleting one of the two loses nothing. False for any other length.
+/* Whether a block, read in a format, is of mode 1 to 13; each of its regions has a pixel at index 0 and one at the last index, 7
+ * in two regions and 15 in one, and a channel whose palette values all differ; and, if signed, no endpoint is after the transform
+ * the lowest number of its precision. Two such blocks of one format, mode and partition that show the same 48 values are the same
+ * sixteen bytes: deleting one of the two loses nothing. False for any other format or length.
  */
-bool knot_is_trusted(const uint8_t *block, size_t block_length);
+bool knot_is_trusted(const uint8_t *block, size_t block_length, uint8_t format);
 
 #ifdef __cplusplus
 }

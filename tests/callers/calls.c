@@ -332,9 +332,17 @@ static void twins(void)
 
 static void trusted(void)
 {
-    CHECK(!knot_is_trusted(NULL, 0) && !knot_is_trusted(B3, 15) && !knot_is_trusted(B1, 17));
-    CHECK(knot_is_trusted(B3, 16) && knot_is_trusted(B4, 16));
-    CHECK(!knot_is_trusted(B1, 16) && !knot_is_trusted(B2, 16) && !knot_is_trusted(B5, 16) && !knot_is_trusted(B6, 16));
+    /* two regions, red from 0 to 63; signed with an end at -32, and with its neighbour */
+    static const uint8_t two[16] = {0x1E, 0, 0, 0, 0xF8, 0x01, 0, 0, 0x80, 0x1F, 0x70, 0, 0, 0, 0, 0x38};
+    static const uint8_t least[16] = {0x1E, 0, 0, 0, 0xF8, 0, 0, 0, 0xC0, 0x0F, 0x70, 0, 0, 0, 0, 0x38};
+    static const uint8_t next[16] = {0x1E, 0, 0, 0, 0xF8, 0, 0, 0, 0xC2, 0x0F, 0x70, 0, 0, 0, 0, 0x38};
+    CHECK(!knot_is_trusted(NULL, 0, KNOT_UNSIGNED) && !knot_is_trusted(B3, 15, KNOT_UNSIGNED) && !knot_is_trusted(B1, 17, KNOT_UNSIGNED));
+    CHECK(knot_is_trusted(B3, 16, KNOT_UNSIGNED) && knot_is_trusted(B4, 16, KNOT_UNSIGNED));
+    CHECK(!knot_is_trusted(B3, 16, 2) && !knot_is_trusted(B3, 16, 255));
+    CHECK(!knot_is_trusted(B1, 16, KNOT_UNSIGNED) && !knot_is_trusted(B2, 16, KNOT_UNSIGNED));
+    CHECK(!knot_is_trusted(B5, 16, KNOT_UNSIGNED) && !knot_is_trusted(B6, 16, KNOT_UNSIGNED) && !knot_is_trusted(B6, 16, KNOT_SIGNED));
+    CHECK(knot_is_trusted(two, 16, KNOT_UNSIGNED) && knot_is_trusted(two, 16, KNOT_SIGNED));
+    CHECK(knot_is_trusted(least, 16, KNOT_UNSIGNED) && !knot_is_trusted(least, 16, KNOT_SIGNED) && knot_is_trusted(next, 16, KNOT_SIGNED));
 }
 
 int main(void)

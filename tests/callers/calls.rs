@@ -12,7 +12,7 @@ mod knot {
             pub fn knot_record_block(store: *const u8, store_length: usize, n: usize) -> usize;
             pub fn knot_tile_at(store: *const u8, store_length: usize, n: usize) -> u32;
             pub fn knot_twin_list(store: *const u8, store_length: usize, marks: *mut u8, marks_length: usize) -> u64;
-            pub fn knot_is_trusted(block: *const u8, block_length: usize) -> bool;
+            pub fn knot_is_trusted(block: *const u8, block_length: usize, format: u8) -> bool;
         }
     }
 
@@ -76,8 +76,8 @@ mod knot {
         if word as u8 == 0 { Ok([16, 32, 48].map(|shift| (word >> shift) as u16)) } else { Err(word as u8) }
     }
 
-    pub fn is_trusted(block: &[u8]) -> bool {
-        unsafe { c::knot_is_trusted(block.as_ptr(), block.len()) }
+    pub fn is_trusted(block: &[u8], format: u8) -> bool {
+        unsafe { c::knot_is_trusted(block.as_ptr(), block.len(), format) }
     }
 }
 
@@ -174,8 +174,8 @@ fn store() {
 }
 
 fn trusted() {
-    assert!(knot::is_trusted(&B3) && knot::is_trusted(&B4));
-    assert!(!knot::is_trusted(&B1) && !knot::is_trusted(&B6) && !knot::is_trusted(&B3[..15]) && !knot::is_trusted(&[]));
+    assert!(knot::is_trusted(&B3, 0) && knot::is_trusted(&B4, 0) && !knot::is_trusted(&B3, 2));
+    assert!(!knot::is_trusted(&B1, 0) && !knot::is_trusted(&B6, 1) && !knot::is_trusted(&B3[..15], 0) && !knot::is_trusted(&[], 0));
 }
 
 fn main() {

@@ -1,10 +1,12 @@
 // Audits the twins of a store: reads it from standard input and prints, for each record that is marked a twin, its tile, the first
-// earlier record that it equals and that record's tile, whether the two blocks are the same bytes, and whether demand 3 covers them.
+// earlier record that it equals and that record's tile, whether the two blocks are the same bytes, and whether the copies theorem
+// covers them. The last line has how many are covered, and how many were before, by demand 3 alone.
 
 ghost use Prim.Native.Nat.{_+_, _≤_};
 ghost use lib.ListN.{length};
 ghost use Rattle.records.specs.Store.{recordsIn};
 use bc6h_spec::Answer;
+use cleanup::is_by_demand_3;
 use cleanup::is_covered;
 use libc::STDIN_FILENO;
 use records::Record;
@@ -37,6 +39,7 @@ struct Finding {
     first: usize,
     same: bool,
     covered: bool,
+    by_demand_3: bool,
 }
 
 fn examine(store: &[u8], n: usize) -> Finding {
@@ -45,6 +48,7 @@ fn examine(store: &[u8], n: usize) -> Finding {
         first,
         same: same_bytes(record_block(store, n), record_block(store, first)),
         covered: is_covered(store, n, first),
+        by_demand_3: is_by_demand_3(store, n, first),
     }
 }
 
@@ -53,6 +57,7 @@ struct Tally {
     same: usize,
     other: usize,
     covered: usize,
+    by_demand_3: usize,
 }
 
 impl Tally {
@@ -67,6 +72,7 @@ impl Tally {
             same: 0,
             other: 0,
             covered: 0,
+            by_demand_3: 0,
         }
     }
 }
@@ -126,6 +132,7 @@ fn print_twins(text: &mut [u8], store: &[u8], marks: &[u8]) -> Tally
     let mut same: usize = 0;
     let mut other: usize = 0;
     let mut covered: usize = 0;
+    let mut by_demand_3: usize = 0;
     let mut end: usize = 0;
     for n in 0..count {
         if marks[n] != Mark::TWIN {
@@ -142,6 +149,7 @@ fn print_twins(text: &mut [u8], store: &[u8], marks: &[u8]) -> Tally
         same += one_if(finding.same);
         other += one_if(!finding.same);
         covered += one_if(finding.covered);
+        by_demand_3 += one_if(finding.by_demand_3);
     }
     let written = print(text, end);
     Tally {
@@ -149,6 +157,7 @@ fn print_twins(text: &mut [u8], store: &[u8], marks: &[u8]) -> Tally
         same,
         other,
         covered,
+        by_demand_3,
     }
 }
 
@@ -158,6 +167,7 @@ fn print_tally(text: &mut [u8], tally: Tally)
     let mut end = put_count(text, 0, b"same ", tally.same as u64);
     end = put_count(text, end, b" other ", tally.other as u64);
     end = put_count(text, end, b" covered ", tally.covered as u64);
+    end = put_count(text, end, b" before ", tally.by_demand_3 as u64);
     end = put(text, end, b"\n");
     print(text, end);
 }

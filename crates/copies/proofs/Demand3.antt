@@ -1,4 +1,5 @@
--- Demand 3: two blocks of one mode, 11, 12 or 13, that show the same picture, are the same sixteen bytes. Assumes nothing.
+-- Demand 3: two blocks of one mode, 11, 12 or 13, that show the same picture, are the same sixteen bytes. A corollary of the wider
+-- theorem. Assumes nothing.
 use mathlib.Core.Path.{_≡_, refl, sym, _∙_}
 use mathlib.Core.Logic.{_⊎_, inl, inr, ⊎-elim}
 use mathlib.Core.Bool.{false, true≢false}
@@ -12,16 +13,20 @@ use Rattle.bc6h_spec.specs.Regions.{regionOf}
 use Rattle.bc6h_spec.specs.Fields.{modeOf, fieldsOf, Valid}
 use Rattle.bc6h_spec.proofs.Reading.{fields-valid, fields-mode}
 use Rattle.copies.specs.Words.{PixelAt, ChannelDiffers, Eligible, Demand3}
-use Rattle.copies.specs.Wide.{Reaches, Differs, Spanning}
-use Rattle.copies.proofs.Wide.{same-block}
+use Rattle.copies.specs.Wide.{Reaches, Differs, Spanning, Suited}
+use Rattle.copies.proofs.Wide.{copies}
 
 pub demand3 : Demand3
 unfolding regionOf
 demand3 x y ex ey m d e =
-    same-block false x y (ex .bytes) (ey .bytes) (omega (arith, ex .mode-from)) (ex .mode-to) m
-    (valid x ex .partition-zero (one x ex) ∙ sym (valid y ey .partition-zero (one y ey)))
-    (spanning x ex) (spanning y ey)
-    (λ r k. only r (rw (lt-leb (modeOf x) 10 (ex .mode-from)) at k)) e
+    copies 0 0 x y (suited x ex) (suited y ey)
+    (record {
+      one-mode = m;
+      one-partition = valid x ex .partition-zero (one x ex) ∙ sym (valid y ey .partition-zero (one y ey));
+      differ = λ r k. only r (rw (lt-leb (modeOf x) 10 (ex .mode-from)) at k);
+      one-format = refl;
+    })
+    e
   where
     valid : (b : List ℕ) → Eligible b → Valid (fieldsOf 0 b)
     valid b v = fields-valid 0 b (lit≤ tt) (omega (arith, v .mode-from))
@@ -41,6 +46,9 @@ demand3 x y ex ey m d e =
           highest = λ r k. rw (one b v) (reaches b v 15 (v .highest) r (rw (one b v) at k));
           not-least = λ q. absurd (true≢false (sym q));
         }
+
+    suited : (b : List ℕ) → Eligible b → Suited 0 b
+    suited b v = record { known-format = lit≤ tt; bytes = v .bytes; spanning = spanning b v; mode-from = omega (arith, v .mode-from); mode-to = v .mode-to }
 
     differs : (b : List ℕ) → Eligible b → ChannelDiffers false b → Differs false (fieldsOf 0 b) 0
     differs b v q =

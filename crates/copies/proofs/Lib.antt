@@ -1,7 +1,10 @@
 pub mod Demand3
-pub mod Trust
-pub mod Needed
 pub mod Wide
+pub mod Trust
+pub mod Premises
+pub mod Pairs
+pub mod Needed
+pub mod WideNeeded
 pub mod SameFields
 pub mod Region
 pub mod Palettes

@@ -1,15 +1,18 @@
--- The words of the wider theorem, region by region, in either format: document 02's T-07. Assumes nothing.
+-- Demand 3 on more tiles, two-region modes and two signed blocks, in the words of document 02's T-07. Assumes nothing.
 use mathlib.Core.Path.{_≡_}
-use mathlib.Core.Logic.{_≢_}
+use mathlib.Core.Logic.{_⊎_, _≢_}
 use mathlib.Core.Bool.{Bool, true}
+use mathlib.Core.List.{List}
 use Prim.Native.Nat.{ℕ, _-_, _*_, _^_, _≤_, _<_}
 use lib.IntN.{pos, negℤ}
 use Rattle.laws.specs.Pick.{pick}
 use Rattle.bc6h_spec.specs.declared.Fields.{Fields}
+use Rattle.bc6h_spec.specs.Bits.{IsBlock}
 use Rattle.bc6h_spec.specs.Layout.{twoRegions, precision}
 use Rattle.bc6h_spec.specs.Regions.{regionOf}
-use Rattle.bc6h_spec.specs.Fields.{indexOf}
-use Rattle.bc6h_spec.specs.Picture.{endpoint, palette}
+use Rattle.bc6h_spec.specs.Fields.{modeOf, fieldsOf, indexOf}
+use Rattle.bc6h_spec.specs.Picture.{isSigned, endpoint, palette}
+use Rattle.bc6h_spec.specs.Block.{pixelsOf}
 
 -- how many regions a mode has, and the last index of its palettes
 abbrev pub regions : ℕ → ℕ
@@ -18,22 +21,61 @@ regions mode = pick (twoRegions mode) 2 1
 abbrev pub lastIndex : ℕ → ℕ
 lastIndex mode = pick (twoRegions mode) 7 15
 
--- "each region has a pixel at index 0 and one at 7": region r has one at index n
+-- region r has a pixel at index n
 pub record Reaches (f : Fields) (r n : ℕ) : Type 0 where
   pub pixel : ℕ
   pub is-pixel : pixel < 16
   pub in-region : regionOf (f .mode) (f .partition) pixel ≡ r
   pub at-index : indexOf f pixel ≡ n
 
--- "a channel whose eight palette values differ", in region r
+-- region r has "a channel whose eight palette values differ", sixteen where there is one region
 pub record Differs (signed : Bool) (f : Fields) (r : ℕ) : Type 0 where
   pub channel : ℕ
   pub is-channel : channel < 3
   pub all-differ : (i j : ℕ) → i ≤ lastIndex (f .mode) → j ≤ lastIndex (f .mode) → palette signed f r channel i ≡ palette signed f r channel j → i ≡ j
 
--- each region reaches both ends of its palette; and of two signed blocks, "no endpoint, after the transform, is −2^(p−1)"
+-- each region has a pixel at index n
+abbrev pub AllReach : Fields → ℕ → Type 0
+AllReach f n = (r : ℕ) → r < regions (f .mode) → Reaches f r n
+
+-- for each region one of two blocks has such a channel
+abbrev pub RegionsDiffer : ℕ → List ℕ → ℕ → List ℕ → Type 0
+RegionsDiffer format x other y =
+    (r : ℕ) → r < regions (modeOf x) → Differs (isSigned format) (fieldsOf format x) r ⊎ Differs (isSigned other) (fieldsOf other y) r
+
+-- no endpoint of a signed block is −2^(p−1)
+abbrev pub NoLeast : Bool → Fields → Type 0
+NoLeast signed f = signed ≡ true → (e c : ℕ) → e < 2 * regions (f .mode) → c < 3
+    → endpoint signed f e c ≢ negℤ (pos (2 ^ (precision (f .mode) - 1)))
+
+-- what is asked of the fields of each block
 pub record Spanning (signed : Bool) (f : Fields) : Type 0 where
-  pub lowest : (r : ℕ) → r < regions (f .mode) → Reaches f r 0
-  pub highest : (r : ℕ) → r < regions (f .mode) → Reaches f r (lastIndex (f .mode))
-  pub not-least : signed ≡ true → (e c : ℕ) → e < 2 * regions (f .mode) → c < 3
-      → endpoint signed f e c ≢ negℤ (pos (2 ^ (precision (f .mode) - 1)))
+  -- "in each block each region has a pixel at index 0 and one at 7", at 15 where there is one region
+  pub lowest : AllReach f 0
+  pub highest : AllReach f (lastIndex (f .mode))
+  -- "no endpoint, after the transform, is −2^(p−1)"
+  pub not-least : NoLeast signed f
+
+-- what is asked of each block
+pub record Suited (format : ℕ) (block : List ℕ) : Type 0 where
+  pub known-format : format ≤ 1
+  pub bytes : IsBlock block
+  pub spanning : Spanning (isSigned format) (fieldsOf format block)
+  -- a mode, which a reserved block has not; "Mode 14 remains left out."
+  pub mode-from : 1 ≤ modeOf block
+  pub mode-to : modeOf block ≤ 13
+
+-- what is asked of the two
+pub record Matched (format : ℕ) (x : List ℕ) (other : ℕ) (y : List ℕ) : Type 0 where
+  -- "same mode and same partition"
+  pub one-mode : modeOf x ≡ modeOf y
+  pub one-partition : fieldsOf format x .partition ≡ fieldsOf other y .partition
+  -- "for each region at least one of the two blocks has a channel whose eight palette values differ"
+  pub differ : RegionsDiffer format x other y
+  -- "never one of each format"
+  pub one-format : format ≡ other
+
+-- The theorem, whole: two such blocks that show the same 48 values are the same sixteen bytes.
+abbrev pub Copies : Type 0
+Copies = (format other : ℕ) (x y : List ℕ) → Suited format x → Suited other y → Matched format x other y
+    → pixelsOf (isSigned format) x ≡ pixelsOf (isSigned other) y → x ≡ y

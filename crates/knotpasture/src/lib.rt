@@ -110,8 +110,8 @@ pub extern "C" fn knot_twin_list(store: &[u8], marks: &mut [u8]) -> u64
 }
 
 #[no_mangle]
-pub extern "C" fn knot_is_trusted(block: &[u8]) -> bool
-    ensures { λ r. ⌜ r ≡ trusted (now (block .entry)) ⌝ }
+pub extern "C" fn knot_is_trusted(block: &[u8], format: u8) -> bool
+    ensures { λ r. ⌜ r ≡ trusted format (now (block .entry)) ⌝ }
 {
-    trust::is_trusted(block)
+    trust::is_trusted(block, format)
 }

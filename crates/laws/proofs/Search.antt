@@ -1,9 +1,9 @@
 -- What the tests of Search find, and that they find whatever there is. Assumes nothing.
-use mathlib.Core.Path.{_≡_, refl, sym, ap, subst}
+use mathlib.Core.Path.{_≡_, refl, sym, ap, _∙_, subst}
 use mathlib.Core.Logic.{_⊎_, inl, inr, ⊎-elim}
 use mathlib.Core.Bool.{Bool, true, false, not}
 use mathlib.Core.List.{List, [], _∷_}
-use Prim.Native.Nat.{ℕ, zero, suc, _+_, _<_, _≤_}
+use Prim.Native.Nat.{ℕ, zero, suc, _+_, _-_, _<_, _≤_}
 use native.Mathlib.Nat.{not-suc-le-zero, le-of-suc-le-suc, eq-or-lt-of-le}
 use native.Mathlib.Decide.{decLt}
 use native.Mathlib.Numerals.{add-one}
@@ -12,7 +12,7 @@ use lib.Dec.{T, eqb, eqb→eq, eqb-refl, T-not, not-T}
 use lib.ListN.{length, getD}
 use borrow.Author.Tests.{eq-eqb}
 use Rattle.laws.specs.Pick.{both, either}
-use Rattle.laws.specs.Every.{every, same}
+use Rattle.laws.specs.Every.{below, every, same}
 use Rattle.laws.specs.Search.{some, equals, repeated, distinct}
 use Rattle.laws.proofs.Tests.{both-left, both-right}
 
@@ -28,6 +28,11 @@ is-true false t = absurd t
 pub is-false : (b : Bool) → (T b → ⊥) → b ≡ false
 is-false true f = absurd (f tt)
 is-false false f = refl
+
+-- two tests that hold together are the same
+pub same-test : (a b : Bool) → (T a → T b) → (T b → T a) → a ≡ b
+same-test true b f g = sym (is-true b (f tt))
+same-test false b f g = sym (is-false b g)
 
 pub both-hold : (a b : Bool) → T a → T b → T (both a b)
 both-hold true b s t = t
@@ -55,6 +60,10 @@ every-at f (x ∷ xs) (suc k) d t h = every-at f xs k d (both-right (f x) (every
 pub every-all {ℓ} : {A : Type ℓ} (f : A → Bool) (l : List A) (d : A) → ((k : ℕ) → T (f (getD l k d))) → T (every f l)
 every-all f [] d h = tt
 every-all f (x ∷ xs) d h = both-hold (f x) (every f xs) (h 0) (every-all f xs d (λ k. h (suc k)))
+
+pub below-all : (f : ℕ → Bool) (n : ℕ) → ((k : ℕ) → k < n → T (f k)) → T (below f n)
+below-all f zero h = tt
+below-all f (suc n) h = both-hold (f n) (below f n) (h n (omega arith)) (below-all f n (λ k l. h k (omega arith)))
 
 pub record Found (f : ℕ → Bool) (n : ℕ) : Type 0 where
   pub place : ℕ
@@ -128,6 +137,19 @@ apart-distinct f n h =
     let b : Found (equals f (a .place)) (a .place) = some-found (equals f (a .place)) (a .place) (a .there) in
     let e : a .place ≡ b .place = h (a .place) (b .place) (a .inside) (omega arith) (eqb→eq _ _ (b .there)) in
     omega arith)
+
+-- read from the other end
+pub distinct-turned : (f : ℕ → ℕ) (n : ℕ) → distinct (λ i. f (n - 1 - i)) n ≡ distinct f n
+distinct-turned f n =
+    same-test (distinct (λ i. f (n - 1 - i)) n) (distinct f n)
+    (λ t. apart-distinct f n (λ i j hi hj e.
+    let back : (k : ℕ) → k < n → n - 1 - (n - 1 - k) ≡ k = λ k h. omega arith in
+    let q : n - 1 - i ≡ n - 1 - j =
+    distinct-apart (λ k. f (n - 1 - k)) n t (n - 1 - i) (n - 1 - j) (omega arith) (omega arith) (ap f (back i hi) ∙ e ∙ ap f (sym (back j hj))) in
+    omega arith))
+    (λ t. apart-distinct (λ i. f (n - 1 - i)) n (λ i j hi hj e.
+    let q : n - 1 - i ≡ n - 1 - j = distinct-apart f n t (n - 1 - i) (n - 1 - j) (omega arith) (omega arith) e in
+    omega arith))
 
 pub same-self : (l : List ℕ) → T (same l l)
 same-self [] = tt

@@ -1,1 +1,2 @@
 pub mod Ramp
+pub mod Least

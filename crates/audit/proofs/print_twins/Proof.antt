@@ -8,10 +8,11 @@ use Rattle.audit.proofs.print_twins.Statement.{statement}
 use Rattle.audit.proofs.print_twins.Tie as tie
 
 abbrev Inv-loop : tie.InvT-loop
-Inv-loop text₀ store marks count same₀ other₀ covered₀ end₀ n₀ text same other covered end n = (n ≤ count) × (end ≤ length text) × (length text ≡ length text₀) × (same ≤ n) × (other ≤ n) × (covered ≤ n)
+Inv-loop text₀ store marks count same₀ other₀ covered₀ by-demand-3₀ end₀ n₀ text same other covered by-demand-3 end n =
+    (n ≤ count) × (end ≤ length text) × (length text ≡ length text₀) × (same ≤ n) × (other ≤ n) × (covered ≤ n) × (by-demand-3 ≤ n)
 
 abbrev μ-loop : tie.MeasureT-loop
-μ-loop text₀ store marks count same₀ other₀ covered₀ end₀ n₀ text same other covered end n = count - n
+μ-loop text₀ store marks count same₀ other₀ covered₀ by-demand-3₀ end₀ n₀ text same other covered by-demand-3 end n = count - n
 
 -- room for a line is left, or was made
 room : (c : tie.Joined2 Inv-loop μ-loop) → c .if2 .end + 128 ≤ length (c .before .before .before .before .loop .text)
@@ -71,6 +72,12 @@ one-if-requires-3 c κs = search needs
 add-covered : tie.Need-add-covered Inv-loop μ-loop
 add-covered c = search needs
 
+one-if-requires-4 : tie.Need-one-if-requires-4 Inv-loop μ-loop
+one-if-requires-4 c κs = search needs
+
+add-by-demand-3 : tie.Need-add-by-demand-3 Inv-loop μ-loop
+add-by-demand-3 c = search needs
+
 add-n-2 : tie.Need-add-n-2 Inv-loop μ-loop
 add-n-2 c = search needs
 
@@ -78,7 +85,7 @@ loop-less-2 : tie.Need-loop-less-2 Inv-loop μ-loop
 loop-less-2 c = search needs
 
 loop-again-2 : tie.Need-loop-again-2 Inv-loop μ-loop
-loop-again-2 c = let r = room (c .before .before .before .before .before .before .before .before .before) in let p = c .before .before .before .before .before .before .put-twin .ensures in search needs
+loop-again-2 c = let r = room (c .before .before .before .before .before .before .before .before .before .before) in let p = c .before .before .before .before .before .before .before .put-twin .ensures in search needs
 
 print-requires-2 : tie.Need-print-requires-2 Inv-loop μ-loop
 print-requires-2 c κs = search needs
@@ -113,6 +120,8 @@ print-twins-spec =
     add-other
     one-if-requires-3
     add-covered
+    one-if-requires-4
+    add-by-demand-3
     add-n-2
     loop-less-2
     loop-again-2

@@ -1,5 +1,5 @@
+-- `cleanup::is_covered` meets its contract. Assumes nothing.
 use borrow.Author.Needs.{needs}
-use mathlib.Core.Path.{sym, _∙_}
 use Rattle.records.proofs.Readings.{unrefused, format-is, refused}
 use Rattle.cleanup.proofs.Covering as laws
 use Rattle.cleanup.proofs.is_covered.Statement.{statement}
@@ -27,13 +27,19 @@ enum-told-2 : tie.Need-enum-told-2
 enum-told-2 c = search needs
 
 returns-2 : tie.Need-returns-2
-returns-2 c = laws.covered-other-refused _ _ _ (unrefused (c .before .before .before .before .before .before .record-at .ensures) (c .before .before .before .before .found .given .1)) (refused (c .before .before .record-at2 .ensures) (c .enum-told2 .given .1))
+returns-2 c =
+    let f = c .before .before .before .before in
+    laws.covered-other-refused _ _ _ (unrefused (f .before .before .record-at .ensures) (f .found .given .1))
+    (refused (c .before .before .record-at2 .ensures) (c .enum-told2 .given .1))
 
 returns-3 : tie.Need-returns-3
-returns-3 c = laws.covered-signed _ _ _ (unrefused (c .before .before .before .before .before .before .before .before .before .record-at .ensures) (c .before .before .before .before .before .before .before .found .given .1)) (unrefused (c .before .before .before .before .before .record-at2 .ensures) (c .before .before .before .kept .given .1)) (λ e. c .if1 .taken (format-is (c .before .before .before .before .before .before .before .before .before .record-at .ensures) (c .before .before .before .before .before .before .before .found .given .1) ∙ e))
-
-returns-4 : tie.Need-returns-4
-returns-4 c = laws.covered-other-signed _ _ _ (unrefused (c .before .before .before .before .before .before .before .before .before .before .before .record-at .ensures) (c .before .before .before .before .before .before .before .before .before .found .given .1)) (unrefused (c .before .before .before .before .before .before .before .record-at2 .ensures) (c .before .before .before .before .before .kept .given .1)) (sym (format-is (c .before .before .before .before .before .before .before .before .before .before .before .record-at .ensures) (c .before .before .before .before .before .before .before .before .before .found .given .1)) ∙ c .before .before .if1 .left) (λ e. c .if2 .taken (format-is (c .before .before .before .before .before .before .before .record-at2 .ensures) (c .before .before .before .before .before .kept .given .1) ∙ e))
+returns-3 c =
+    let k = c .before .before .before .before in
+    let r = k .before .before in
+    let f = r .before .before in
+    let s = f .before .before in
+    laws.covered-two-formats _ _ _ (unrefused (s .record-at .ensures) (f .found .given .1)) (unrefused (r .record-at2 .ensures) (k .kept .given .1))
+    (format-is (s .record-at .ensures) (f .found .given .1)) (format-is (r .record-at2 .ensures) (k .kept .given .1)) (c .if1 .taken)
 
 record-block-requires : tie.Need-record-block-requires
 record-block-requires c κs = search needs
@@ -44,8 +50,16 @@ record-block-requires-2 c κs = search needs
 is-covered-pair-requires : tie.Need-is-covered-pair-requires
 is-covered-pair-requires c κs = search needs
 
-returns-5 : tie.Need-returns-5
-returns-5 c = laws.covered-blocks _ _ _ (unrefused (c .before .before .before .before .before .before .before .before .before .before .before .before .before .before .record-at .ensures) (c .before .before .before .before .before .before .before .before .before .before .before .before .found .given .1)) (unrefused (c .before .before .before .before .before .before .before .before .before .before .record-at2 .ensures) (c .before .before .before .before .before .before .before .before .kept .given .1)) (sym (format-is (c .before .before .before .before .before .before .before .before .before .before .before .before .before .before .record-at .ensures) (c .before .before .before .before .before .before .before .before .before .before .before .before .found .given .1)) ∙ c .before .before .before .before .before .if1 .left) (sym (format-is (c .before .before .before .before .before .before .before .before .before .before .record-at2 .ensures) (c .before .before .before .before .before .before .before .before .kept .given .1)) ∙ c .before .before .before .if2 .left) (c .before .before .record-block .ensures) (c .before .record-block2 .ensures) (c .is-covered-pair .ensures)
+returns-4 : tie.Need-returns-4
+returns-4 c =
+    let e = c .before .before .before in
+    let k = e .before .before .before .before in
+    let r = k .before .before in
+    let f = r .before .before in
+    let s = f .before .before in
+    laws.covered-blocks _ _ _ (unrefused (s .record-at .ensures) (f .found .given .1)) (unrefused (r .record-at2 .ensures) (k .kept .given .1))
+    (format-is (s .record-at .ensures) (f .found .given .1)) (format-is (r .record-at2 .ensures) (k .kept .given .1)) (e .if1 .left)
+    (c .before .before .record-block .ensures) (c .before .record-block2 .ensures) (c .is-covered-pair .ensures)
 
 pub is-covered-spec : {M : Type 1} → statement M
 is-covered-spec =
@@ -60,8 +74,7 @@ is-covered-spec =
     enum-told-2
     returns-2
     returns-3
-    returns-4
     record-block-requires
     record-block-requires-2
     is-covered-pair-requires
-    returns-5)
+    returns-4)

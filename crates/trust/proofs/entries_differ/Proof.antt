@@ -10,10 +10,10 @@ use Rattle.trust.proofs.entries_differ.Statement.{statement}
 use Rattle.trust.proofs.entries_differ.Tie as tie
 
 abbrev Inv-loop : tie.InvT-loop
-Inv-loop palette channel i₀ i = (i ≤ 16) × (some (repeated (entry palette channel)) i ≡ false)
+Inv-loop palettes first count channel i₀ i = (i ≤ count) × (some (repeated (entry palettes first channel)) i ≡ false)
 
 abbrev μ-loop : tie.MeasureT-loop
-μ-loop palette channel i₀ i = 16 - i
+μ-loop palettes first count channel i₀ i = count - i
 
 loop-holds : tie.Need-loop-holds Inv-loop μ-loop
 loop-holds c = (search needs, some-none _)

@@ -11,16 +11,19 @@ use Rattle.trust.proofs.is_repeated.Statement.{statement}
 use Rattle.trust.proofs.is_repeated.Tie as tie
 
 abbrev Inv-loop : tie.InvT-loop
-Inv-loop palette channel i value k₀ k = (k ≤ i) × (some (equals (entry palette channel) i) k ≡ false)
+Inv-loop palettes first channel i value k₀ k = (k ≤ i) × (some (equals (entry palettes first channel) i) k ≡ false)
 
 abbrev μ-loop : tie.MeasureT-loop
-μ-loop palette channel i value k₀ k = i - k
+μ-loop palettes first channel i value k₀ k = i - k
+
+add-value : tie.Need-add-value Inv-loop μ-loop
+add-value c = search needs
 
 mul-value : tie.Need-mul-value Inv-loop μ-loop
 mul-value c = search needs
 
-add-value : tie.Need-add-value Inv-loop μ-loop
-add-value c = search needs
+add-value-2 : tie.Need-add-value-2 Inv-loop μ-loop
+add-value-2 c = search needs
 
 mul-value-2 : tie.Need-mul-value-2 Inv-loop μ-loop
 mul-value-2 c = search needs
@@ -31,11 +34,14 @@ element-copy-out-value c = search needs
 loop-holds : tie.Need-loop-holds Inv-loop μ-loop
 loop-holds c = (search needs, some-none _)
 
+add-if1 : tie.Need-add-if1 Inv-loop μ-loop
+add-if1 c = search needs
+
 mul-if1 : tie.Need-mul-if1 Inv-loop μ-loop
 mul-if1 c = search needs
 
-add-if1 : tie.Need-add-if1 Inv-loop μ-loop
-add-if1 c = search needs
+add-if1-2 : tie.Need-add-if1-2 Inv-loop μ-loop
+add-if1-2 c = search needs
 
 mul-if1-2 : tie.Need-mul-if1-2 Inv-loop μ-loop
 mul-if1-2 c = search needs
@@ -64,13 +70,15 @@ is-repeated-spec =
     (tie.spec
     Inv-loop
     μ-loop
-    mul-value
     add-value
+    mul-value
+    add-value-2
     mul-value-2
     element-copy-out-value
     loop-holds
-    mul-if1
     add-if1
+    mul-if1
+    add-if1-2
     mul-if1-2
     element-copy-out-if1
     returns

@@ -1,63 +1,59 @@
 -- `trust::is_trusted` meets its contract. Assumes nothing.
 use borrow.Author.Needs.{needs}
-use borrow.Author.Tests.{not-true, not-false}
-use Rattle.trust.proofs.Verdict.{other-length, mode-below, mode-above, no-lowest, no-highest, decided}
+use Rattle.trust.proofs.Verdict.{other-format, other-length, reserved, mode-above, valid, ambiguous, decided}
 use Rattle.trust.proofs.is_trusted.Statement.{statement}
 use Rattle.trust.proofs.is_trusted.Tie as tie
 
 returns : tie.Need-returns
-returns c = other-length _ (c .if1 .taken)
+returns c = other-format _ _ (c .if1 .taken)
+
+returns-2 : tie.Need-returns-2
+returns-2 c = other-length _ _ (c .if2 .taken)
 
 fields-of-requires : tie.Need-fields-of-requires
 fields-of-requires c κs = search needs
 
-returns-2 : tie.Need-returns-2
-returns-2 c = mode-below _ _ (c .before .fields-of .ensures) (c .if2 .taken)
-
 returns-3 : tie.Need-returns-3
-returns-3 c = mode-above _ _ (c .before .before .fields-of .ensures) (c .if3 .taken)
-
-has-pixel-at-requires : tie.Need-has-pixel-at-requires
-has-pixel-at-requires c κs = search needs
+returns-3 c = reserved _ _ _ (c .before .fields-of .ensures) (c .if3 .taken)
 
 returns-4 : tie.Need-returns-4
-returns-4 c =
-    no-lowest _ _ (c .before .before .before .before .before .fields-of .ensures) _
-    (c .before .has-pixel-at .ensures) (not-true _ (c .if4 .taken))
+returns-4 c = mode-above _ _ _ (c .before .before .fields-of .ensures) (c .if4 .taken)
 
-has-pixel-at-requires-2 : tie.Need-has-pixel-at-requires-2
-has-pixel-at-requires-2 c κs = search needs
+is-ambiguous-requires : tie.Need-is-ambiguous-requires
+is-ambiguous-requires c κs =
+    let f = c .before .before in
+    valid (f .before .before .before .before .args .format) _ _ (f .fields-of .ensures) (search needs) (c .before .if3 .left)
 
 returns-5 : tie.Need-returns-5
-returns-5 c =
-    no-highest _ _ (c .before .before .before .before .before .before .before .fields-of .ensures) _
-    (c .before .has-pixel-at2 .ensures) (not-true _ (c .if5 .taken))
+returns-5 c = ambiguous _ _ _ (c .before .before .before .before .fields-of .ensures) _ (c .before .is-ambiguous .ensures) (c .if5 .taken)
 
-palette-of-requires : tie.Need-palette-of-requires
-palette-of-requires c κs = search needs
+palettes-of-requires : tie.Need-palettes-of-requires
+palettes-of-requires c κs = search needs
 
-some-channel-differs-requires : tie.Need-some-channel-differs-requires
-some-channel-differs-requires c κs = search needs
+all-pass-requires : tie.Need-all-pass-requires
+all-pass-requires c κs =
+    let f = c .before .before .before .before .before .before in
+    valid (f .before .before .before .before .args .format) _ _ (f .fields-of .ensures) (search needs) (c .before .before .before .before .before .if3 .left) .partition-fits
 
 returns-6 : tie.Need-returns-6
 returns-6 c =
-    decided _ _ (c .before .before .before .before .before .before .before .before .before .before .fields-of .ensures) _ (c .before .before .palette-of .ensures) (search needs) (λ k. c .before .before .before .before .before .before .before .before .before .before .before .before .shared-slice-known .given k .fits) (search needs) (search needs) _ _ _
-    (c .before .before .before .before .before .before .has-pixel-at .ensures) (not-false _ (c .before .before .before .before .before .if4 .left))
-    (c .before .before .before .before .has-pixel-at2 .ensures) (not-false _ (c .before .before .before .if5 .left))
-    (c .some-channel-differs .ensures)
+    let e = c .before .before .before in
+    let a = e .before in
+    let f = a .before .before .before in
+    decided _ _ _ (f .fields-of .ensures) _ (c .before .before .palettes-of .ensures) (search needs) (λ k. f .before .before .before .shared-slice-known .given k .fits)
+    (search needs) (a .before .before .if3 .left) (search needs) _ _ (a .is-ambiguous .ensures) (e .if5 .left) (c .all-pass .ensures)
 
 pub is-trusted-spec : {M : Type 1} → statement M
 is-trusted-spec =
     tie.close
     (tie.spec
     returns
-    fields-of-requires
     returns-2
+    fields-of-requires
     returns-3
-    has-pixel-at-requires
     returns-4
-    has-pixel-at-requires-2
+    is-ambiguous-requires
     returns-5
-    palette-of-requires
-    some-channel-differs-requires
+    palettes-of-requires
+    all-pass-requires
     returns-6)

@@ -1,56 +1,23 @@
 -- `trust::ramped` meets its contract. Assumes nothing.
 use borrow.Author.Needs.{needs}
-use Rattle.laws.specs.Made.{made}
-use Rattle.trust.proofs.Ramp.{ramped-bytes}
+use mathlib.Core.Path.{refl, _∙_}
+use Rattle.trust.specs.Ramp.{ramped}
 use Rattle.trust.proofs.ramped.Statement.{statement}
 use Rattle.trust.proofs.ramped.Tie as tie
 
-shared-slice-read-t3 : tie.Need-shared-slice-read-t3
-shared-slice-read-t3 c = search needs
-
-shared-slice-read-t5 : tie.Need-shared-slice-read-t5
-shared-slice-read-t5 c = search needs
-
-shared-slice-read-t7 : tie.Need-shared-slice-read-t7
-shared-slice-read-t7 c = search needs
-
-shared-slice-read-t9 : tie.Need-shared-slice-read-t9
-shared-slice-read-t9 c = search needs
-
-shared-slice-read-t11 : tie.Need-shared-slice-read-t11
-shared-slice-read-t11 c = search needs
-
-shared-slice-read-t13 : tie.Need-shared-slice-read-t13
-shared-slice-read-t13 c = search needs
-
-shared-slice-read-t15 : tie.Need-shared-slice-read-t15
-shared-slice-read-t15 c = search needs
-
-shared-slice-read-t17 : tie.Need-shared-slice-read-t17
-shared-slice-read-t17 c = search needs
-
-shared-slice-read-t19 : tie.Need-shared-slice-read-t19
-shared-slice-read-t19 c = search needs
-
-add-t21 : tie.Need-add-t21
-add-t21 c = search needs
+ramped-two-requires : tie.Need-ramped-two-requires
+ramped-two-requires c κs = search needs
 
 returns : tie.Need-returns
-unfolding made
-returns c = ramped-bytes _ (search needs)
+unfolding ramped
+returns c = c .ramped-two .ensures ∙ rw (c .before .if1 .taken) refl
+
+ramped-one-requires : tie.Need-ramped-one-requires
+ramped-one-requires c κs = search needs
+
+returns-2 : tie.Need-returns-2
+unfolding ramped
+returns-2 c = c .ramped-one .ensures ∙ rw (c .before .if1 .left) refl
 
 pub ramped-spec : {M : Type 1} → statement M
-ramped-spec =
-    tie.close
-    (tie.spec
-    shared-slice-read-t3
-    shared-slice-read-t5
-    shared-slice-read-t7
-    shared-slice-read-t9
-    shared-slice-read-t11
-    shared-slice-read-t13
-    shared-slice-read-t15
-    shared-slice-read-t17
-    shared-slice-read-t19
-    add-t21
-    returns)
+ramped-spec = tie.close (tie.spec ramped-two-requires returns ramped-one-requires returns-2)

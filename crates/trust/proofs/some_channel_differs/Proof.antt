@@ -10,10 +10,10 @@ use Rattle.trust.proofs.some_channel_differs.Statement.{statement}
 use Rattle.trust.proofs.some_channel_differs.Tie as tie
 
 abbrev Inv-loop : tie.InvT-loop
-Inv-loop palette channel₀ channel = (channel ≤ 3) × (some (entriesDiffer palette) channel ≡ false)
+Inv-loop palettes first count channel₀ channel = (channel ≤ 3) × (some (entriesDiffer palettes first count) channel ≡ false)
 
 abbrev μ-loop : tie.MeasureT-loop
-μ-loop palette channel₀ channel = 3 - channel
+μ-loop palettes first count channel₀ channel = 3 - channel
 
 loop-holds : tie.Need-loop-holds Inv-loop μ-loop
 loop-holds c = (search needs, some-none _)

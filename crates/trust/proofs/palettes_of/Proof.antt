@@ -1,11 +1,10 @@
--- `trust::palette_of` meets its contract. Assumes nothing.
+-- `trust::palettes_of` meets its contract. Assumes nothing.
 use mathlib.Core.Path.{ap, _∙_}
-use mathlib.Core.Bool.{false}
 use borrow.Author.Needs.{needs}
 use Rattle.bc6h_spec.specs.Block.{pixelsOf}
 use Rattle.trust.proofs.Verdict.{values-written}
-use Rattle.trust.proofs.palette_of.Statement.{statement}
-use Rattle.trust.proofs.palette_of.Tie as tie
+use Rattle.trust.proofs.palettes_of.Statement.{statement}
+use Rattle.trust.proofs.palettes_of.Tie as tie
 
 ramped-requires : tie.Need-ramped-requires
 ramped-requires c κs = search needs
@@ -21,11 +20,11 @@ block-pixels-requires c κs = search needs
 
 returns : tie.Need-returns
 returns c =
-    values-written (c .before .block-pixels .ensures) (search needs) (search needs)
-    ∙ ap (pixelsOf false) (c .before .before .before .before .ramped .ensures)
+    values-written _ (c .before .block-pixels .ensures) (search needs) (search needs) (search needs)
+    ∙ ap (pixelsOf _) (c .before .before .before .before .ramped .ensures)
 
-pub palette-of-spec : {M : Type 1} → statement M
-palette-of-spec =
+pub palettes-of-spec : {M : Type 1} → statement M
+palettes-of-spec =
     tie.close
     (tie.spec
     ramped-requires

@@ -33,7 +33,8 @@ enum knot_answer {
     KNOT_NO_RECORD = 8,     /* record number not below the number of records */
     KNOT_UNEVEN_BLOCKS = 9, /* block bytes not a multiple of KNOT_BLOCK_SIZE */
     KNOT_INVALID_RECORD = 10, /* field record that no block has */
-    KNOT_BAD_BUFFER = 11    /* lent block buffer not KNOT_BLOCK_SIZE bytes */
+    KNOT_BAD_BUFFER = 11,   /* lent block buffer not KNOT_BLOCK_SIZE bytes */
+    KNOT_RESERVED_BLOCK = 12 /* reserved block in the store, from the strict twin list only */
 };
 
 enum knot_format { KNOT_UNSIGNED = 0, KNOT_SIGNED = 1 };
@@ -128,6 +129,15 @@ uint64_t knot_twin_list(const uint8_t *store, size_t store_length, uint8_t *mark
 #define KNOT_KEPT_COUNT(word) ((unsigned)((word) >> 16 & 0xFFFF))
 #define KNOT_TWIN_COUNT(word) ((unsigned)((word) >> 32 & 0xFFFF))
 #define KNOT_BAD_COUNT(word) ((unsigned)((word) >> 48))
+
+/* The twin list of a store in which no record is damaged. A damaged record is one that is not refused and has a reserved mode;
+ * a store with one is refused whole. Where the number is 0, answer and marks are those of knot_twin_list.
+ *
+ * Refusals: 5, 6, 3, 12. With 12 the number of the first damaged record is in bits 16 to 31.
+ */
+uint64_t knot_strict_twin_list(const uint8_t *store, size_t store_length, uint8_t *marks, size_t marks_length);
+
+#define KNOT_DAMAGED_RECORD(word) ((unsigned)((word) >> 16 & 0xFFFF))
 
 /* Whether a block, read in a format, is of mode 1 to 13; each of its regions has a pixel at index 0 and one at the last index, 7
  * in two regions and 15 in one, and a channel whose palette values all differ; and, if signed, no endpoint is after the transform

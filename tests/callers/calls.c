@@ -330,6 +330,41 @@ static void twins(void)
     CHECK(KNOT_KEPT_COUNT(answer) == 2000 && marks[0] == KNOT_KEPT && marks[1] == KNOT_KEPT && marks[1999] == KNOT_KEPT);
 }
 
+static void strict(void)
+{
+    put_four();
+    CHECK(knot_strict_twin_list(NULL, 0, NULL, 0) == KNOT_DONE);
+    CHECK(knot_strict_twin_list(store, 96, marks, 4) == knot_twin_list(store, 96, marks, 4));
+    for (size_t n = 0; n < 2001; n++) marks[n] = 9;
+    CHECK(knot_strict_twin_list(store, 96, marks, 5) == knot_twin_list(store, 96, marks + 5, 5));
+    for (size_t n = 0; n < 5; n++) CHECK(marks[n] == marks[n + 5]);
+
+    for (size_t n = 0; n < 2001; n++) marks[n] = 9;
+    put_record(3, 10, 2, B2);
+    CHECK(KNOT_ANSWER(knot_strict_twin_list(store, 96, marks + 4, 4)) == KNOT_DONE && marks[7] == KNOT_BAD);
+    put_record(3, 10, 1, B2);
+    store[24 * 3 + 6] = 1;
+    CHECK(KNOT_ANSWER(knot_strict_twin_list(store, 96, marks + 4, 4)) == KNOT_DONE && marks[7] == KNOT_BAD);
+
+    put_record(3, 10, 1, B2);
+    uint64_t answer = knot_strict_twin_list(store, 96, marks, 4);
+    CHECK(KNOT_ANSWER(answer) == KNOT_RESERVED_BLOCK && KNOT_DAMAGED_RECORD(answer) == 3);
+    put_record(1, 8, 0, B2);
+    CHECK(knot_strict_twin_list(store, 96, marks, 4) == (KNOT_RESERVED_BLOCK | 1 << 16));
+    CHECK(knot_strict_twin_list(store, 96, marks, 3) == KNOT_SHORT_OUTPUT);
+    CHECK(knot_strict_twin_list(store, 97, marks, 4) == KNOT_UNEVEN_STORE);
+    CHECK(knot_strict_twin_list(store, 48001, marks, 4) == KNOT_LONG_STORE);
+    put_record(0, 7, 0, B2);
+    CHECK(knot_strict_twin_list(store, 24, marks, 1) == KNOT_RESERVED_BLOCK);
+    CHECK(knot_strict_twin_list(store, 24, NULL, 0) == KNOT_SHORT_OUTPUT);
+    for (size_t n = 0; n < 4; n++) CHECK(marks[n] == 9);
+
+    for (size_t n = 0; n < 2000; n++) put_record(n, 1, 0, B1);
+    put_record(1999, 1, 0, B2);
+    answer = knot_strict_twin_list(store, 48000, marks, 2000);
+    CHECK(KNOT_ANSWER(answer) == KNOT_RESERVED_BLOCK && KNOT_DAMAGED_RECORD(answer) == 1999 && marks[0] == 9);
+}
+
 static void trusted(void)
 {
     /* two regions, red from 0 to 63; signed with an end at -32, and with its neighbour */
@@ -353,6 +388,7 @@ int main(void)
     writing();
     records();
     twins();
+    strict();
     trusted();
     printf("C: %u checks, %u failed\n", checks, failures);
     return failures != 0;

@@ -12,6 +12,7 @@ mod knot {
             pub fn knot_record_block(store: *const u8, store_length: usize, n: usize) -> usize;
             pub fn knot_tile_at(store: *const u8, store_length: usize, n: usize) -> u32;
             pub fn knot_twin_list(store: *const u8, store_length: usize, marks: *mut u8, marks_length: usize) -> u64;
+            pub fn knot_strict_twin_list(store: *const u8, store_length: usize, marks: *mut u8, marks_length: usize) -> u64;
             pub fn knot_is_trusted(block: *const u8, block_length: usize, format: u8) -> bool;
         }
     }
@@ -74,6 +75,12 @@ mod knot {
     pub fn twin_list(store: &[u8], marks: &mut [u8]) -> Result<[u16; 3], u8> {
         let word = unsafe { c::knot_twin_list(store.as_ptr(), store.len(), marks.as_mut_ptr(), marks.len()) };
         if word as u8 == 0 { Ok([16, 32, 48].map(|shift| (word >> shift) as u16)) } else { Err(word as u8) }
+    }
+
+    /// The same of a store without damaged records; or a refusal's number, with the first damaged record where that is why.
+    pub fn strict_twin_list(store: &[u8], marks: &mut [u8]) -> Result<[u16; 3], (u8, u16)> {
+        let word = unsafe { c::knot_strict_twin_list(store.as_ptr(), store.len(), marks.as_mut_ptr(), marks.len()) };
+        if word as u8 == 0 { Ok([16, 32, 48].map(|shift| (word >> shift) as u16)) } else { Err((word as u8, (word >> 16) as u16)) }
     }
 
     pub fn is_trusted(block: &[u8], format: u8) -> bool {
@@ -173,6 +180,19 @@ fn store() {
     assert_eq!([3, 4].map(|n| knot::tile_at(&store, n)), [10, 0]);
 }
 
+fn strict() {
+    let whole = [record(7, 0, B3), record(8, 0, B4), record(10, 2, B2)].concat();
+    let damaged = [record(7, 0, B3), record(8, 0, B3), record(9, 1, B2)].concat();
+    let mut marks = [9; 4];
+    assert_eq!(knot::strict_twin_list(&damaged, &mut marks), Err((12, 2)));
+    assert_eq!(knot::strict_twin_list(&damaged, &mut marks[..2]), Err((3, 0)));
+    assert_eq!(knot::strict_twin_list(&damaged[1..], &mut marks), Err((6, 0)));
+    assert_eq!(knot::strict_twin_list(&[0x13; 48001], &mut marks), Err((5, 0)));
+    assert_eq!(marks, [9; 4]);
+    assert_eq!(knot::strict_twin_list(&whole, &mut marks), Ok([1, 1, 1]));
+    assert_eq!(marks, [0, 1, 2, 9]);
+}
+
 fn trusted() {
     assert!(knot::is_trusted(&B3, 0) && knot::is_trusted(&B4, 0) && !knot::is_trusted(&B3, 2));
     assert!(!knot::is_trusted(&B1, 0) && !knot::is_trusted(&B6, 1) && !knot::is_trusted(&B3[..15], 0) && !knot::is_trusted(&[], 0));
@@ -184,6 +204,7 @@ fn main() {
     fields();
     writing();
     store();
+    strict();
     trusted();
     println!("Rust: every check holds");
 }

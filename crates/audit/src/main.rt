@@ -17,22 +17,11 @@ use text::put;
 use text::put_count;
 use text::put_field;
 use text::put_refusal;
+use text::same_bytes;
 use twins::Mark;
 use twins::TwinList;
 use twins::first_twin;
 use twins::twin_list;
-
-fn same_bytes(a: &[u8], b: &[u8]) -> bool {
-    if a.len() != b.len() {
-        return false;
-    }
-    for k in 0..a.len() {
-        if a[k] != b[k] {
-            return false;
-        }
-    }
-    true
-}
 
 // What a twin and the first record that it equals have in common.
 struct Finding {

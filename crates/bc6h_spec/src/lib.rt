@@ -63,8 +63,10 @@ impl Answer {
 
     pub const BAD_BUFFER: u8 = 11;
 
+    pub const RESERVED_BLOCK: u8 = 12;
+
     // The constants are the numbers of specs/Answers.
-    pub fn all() -> [u8; 12]
+    pub fn all() -> [u8; 13]
         ensures { λ r. ⌜ r ≡ answers ⌝ }
     {
         [
@@ -80,6 +82,7 @@ impl Answer {
             Answer::UNEVEN_BLOCKS,
             Answer::INVALID_RECORD,
             Answer::BAD_BUFFER,
+            Answer::RESERVED_BLOCK,
         ]
     }
 }

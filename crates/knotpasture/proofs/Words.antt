@@ -3,7 +3,11 @@ use mathlib.Core.Path.{_≡_, refl, sym, ap, _∙_}
 use mathlib.Core.List.{List, [], _∷_}
 use Prim.Native.Nat.{ℕ, zero, suc, _+_, _*_, _<_, _≤_}
 use native.Mathlib.Omega.{arith}
+use lib.Dec.{eqb}
 use lib.ListN.{length}
+use borrow.Author.Tests.{eqb-true, eqb-false}
+use Rattle.laws.proofs.Tests.{cases}
+use Rattle.bc6h_spec.specs.Answers.{done, reservedBlock}
 use Rattle.bc6.specs.declared.Pixels.{Pixels}
 use Rattle.bc6.specs.Call.{Painted}
 use Rattle.bc6_blocks.specs.declared.BlocksPixels.{BlocksPixels}
@@ -15,9 +19,12 @@ use Rattle.records.specs.Store.{recordSize, headSize, storeLimit, tileOf, forma
 use Rattle.records.proofs.Refusals.{known}
 use Rattle.records.proofs.Readings.{unrefused, refused}
 use Rattle.twins.specs.declared.TwinList.{TwinList}
-use Rattle.twins.specs.Twins.{answerAt, listRefusal, Listed}
-use Rattle.twins.proofs.Listing.{answer-number, counts-add-up, whole}
-use Rattle.knotpasture.specs.Packed.{pixelsWord, PixelsCalled, RunCalled, wordAt, readingWord, offsetAt, twinsWord, TwinsCalled}
+use Rattle.twins.specs.Twins.{refusal, Listed}
+use Rattle.twins.proofs.Listing.{refused-alone, counts-add-up, whole}
+use Rattle.strict.specs.declared.StrictList.{StrictList}
+use Rattle.strict.specs.Strict.{StrictlyListed}
+use Rattle.strict.proofs.Strictness as strict
+use Rattle.knotpasture.specs.Packed.{pixelsWord, PixelsCalled, RunCalled, wordAt, readingWord, offsetAt, twinsWord, TwinsCalled, strictWord, StrictCalled}
 
 -- ---- the pixels call
 
@@ -79,25 +86,45 @@ module _ {store : List ℕ} {n : ℕ} {x : RecordReading} (d : Read store n x) w
   pub inside : {r : Record} → x ≡ reading.Record r → n * recordSize < storeLimit
   inside e = let k = known store n (unrefused d e) in omega arith
 
--- ---- the twin list
+-- ---- the twin lists
 
-number-alone : (number : ℕ) (store : List ℕ) → (number ≡ 0 → ⊥) → twinsWord (answerAt number store) ≡ number
-number-alone zero store h = absurd (h refl)
-number-alone (suc number) store h = omega arith
+no-counts : {number : ℕ} {list : TwinList} → list ≡ refusal number → list .kept + list .twins + list .bad ≤ 2000
+no-counts e = rw e (omega arith)
 
 module _ {store lent after : List ℕ} {r : TwinList} (d : Listed store lent r after) where
-  twins-called : {word : ℕ} → word ≡ twinsWord r → TwinsCalled store lent word after
+  pub twins-called : {word : ℕ} → word ≡ twinsWord r → TwinsCalled store lent word after
   twins-called e = record { answers = e ∙ ap twinsWord (d .answers); holds = d .holds }
 
-  pub list-refused : (r .answer ≡ 0 → ⊥) → TwinsCalled store lent (r .answer) after
-  list-refused h =
-      let n = answer-number d in
-      twins-called (n ∙ sym (number-alone (listRefusal (length store) (length lent)) store (λ e. h (n ∙ e))) ∙ ap twinsWord (sym (d .answers)))
+  -- no count is above the number of records, 2,000
+  few-done : r .answer ≡ done → r .kept + r .twins + r .bad ≤ 2000
+  few-done z = let w = whole d z in let c = counts-add-up d z in omega arith
 
-  module _ (z : r .answer ≡ 0) where
-    pub list-done : TwinsCalled store lent (r .kept * 0x10000 + r .twins * 0x100000000 + r .bad * 0x1000000000000) after
-    list-done = twins-called (omega arith)
+  pub few : r .kept + r .twins + r .bad ≤ 2000
+  few =
+      cases (eqb (r .answer) done) (λ z. few-done (eqb-true _ _ z)) (λ f. no-counts (refused-alone d (eqb-false _ _ f)))
 
-    -- no count is above the number of records, 2,000
-    pub few : r .kept + r .twins + r .bad ≤ 2000
-    few = let w = whole d z in let c = counts-add-up d z in omega arith
+module _ {store lent after : List ℕ} {r : StrictList} (d : StrictlyListed store lent r after) where
+  pub strict-called : {word : ℕ} → word ≡ strictWord r → StrictCalled store lent word after
+  strict-called e = record { answers = e ∙ ap strictWord (d .answers); holds = d .holds }
+
+  pub strict-few : r .list .kept + r .list .twins + r .list .bad ≤ 2000
+  strict-few =
+      cases (eqb (r .list .answer) done) (λ z. few (strict.list-is d (eqb-true _ _ z)))
+      (λ f. no-counts (strict.refused-alone d (eqb-false _ _ f)))
+
+  pub strict-number : r .list .answer ≤ reservedBlock
+  strict-number = rw (strict.answer-number d) (strict.refusal-small store (length lent))
+
+  -- and so is the number of the first damaged record
+  pub first-few : r .reserved ≤ 2000
+  first-few =
+      cases (eqb (r .list .answer) reservedBlock)
+      (λ z. let k = known store (r .reserved) (strict.told-damaged d (eqb-true _ _ z) .unrefused) in omega arith)
+      (λ f. let e = strict.told-none d (eqb-false _ _ f) in omega arith)
+
+pub one-list : {store lent : List ℕ} {r s : ℕ} {a b : List ℕ} → TwinsCalled store lent r a → TwinsCalled store lent s b → (r ≡ s) × (a ≡ b)
+one-list d e = (d .answers ∙ sym (e .answers), d .holds ∙ sym (e .holds))
+
+pub one-strict-list : {store lent : List ℕ} {r s : ℕ} {a b : List ℕ} → StrictCalled store lent r a → StrictCalled store lent s b
+    → (r ≡ s) × (a ≡ b)
+one-strict-list d e = (d .answers ∙ sym (e .answers), d .holds ∙ sym (e .holds))

@@ -14,8 +14,10 @@ use Rattle.bc6.specs.Call.{refusalOf, answerAt, valuesAt}
 use Rattle.bc6_blocks.specs.Run.{runRefusal, runAnswer, runValues}
 use Rattle.records.specs.Store.{recordSize, headSize, tileOf, formatOf, recordRefusal}
 use Rattle.twins.specs.declared.TwinList.{TwinList}
+use Rattle.strict.specs.declared.StrictList.{StrictList}
 use Rattle.twins.specs.Twins.{listRefusal, marksAt}
 use Rattle.twins.specs.Twins as twins
+use Rattle.strict.specs.Strict.{strictRefusal, strictAnswerAt, strictMarksAt}
 
 -- two bytes, the first the lowest
 abbrev pub twoBytes : ℕ → ℕ → ℕ
@@ -79,3 +81,12 @@ twinsWord list = list .answer + list .kept * 0x10000 + list .twins * 0x100000000
 pub record TwinsCalled (store lent : List ℕ) (r : ℕ) (after : List ℕ) : Type 0 where
   pub answers : r ≡ twinsWord (twins.answerAt (listRefusal (length store) (length lent)) store)
   pub holds : after ≡ marksAt (listRefusal (length store) (length lent)) store lent
+
+-- the same; and in the lowest of the three fields, which a refusal leaves free, the first damaged record
+abbrev pub strictWord : StrictList → ℕ
+strictWord strict = twinsWord (strict .list) + strict .reserved * 0x10000
+
+-- The strict twin list: its answer in one word, and the lent marks as the call leaves them.
+pub record StrictCalled (store lent : List ℕ) (r : ℕ) (after : List ℕ) : Type 0 where
+  pub answers : r ≡ strictWord (strictAnswerAt (strictRefusal store (length lent)) store)
+  pub holds : after ≡ strictMarksAt (strictRefusal store (length lent)) store lent

@@ -3,6 +3,7 @@ use bc6_numbers::Numbers;
 use bc6h_spec::Answer;
 use records::Record;
 use records::RecordReading;
+use twins::TwinList;
 ghost use mathlib.Core.Path.{_≡_};
 ghost use mathlib.Core.List.{_++_};
 ghost use Prim.Native.Nat.{_+_, _*_, _<_, _≤_};
@@ -11,7 +12,7 @@ ghost use Rattle.bc6_numbers.specs.Numbers.{fieldsFrom};
 ghost use Rattle.bc6_writer.specs.Call.{Written};
 ghost use Rattle.copies.specs.Trust.{trusted};
 ghost use Rattle.records.specs.Store.{recordRefusal, tileAt};
-ghost use Rattle.knotpasture.specs.Packed.{twoBytes, readingWord, offsetAt, PixelsCalled, RunCalled, FieldsCalled, TwinsCalled};
+ghost use Rattle.knotpasture.specs.Packed.{twoBytes, readingWord, offsetAt, twinsWord, PixelsCalled, RunCalled, FieldsCalled, TwinsCalled, StrictCalled};
 
 // Two bytes as one word, the first the lowest.
 fn two_bytes(low: u8, high: u8) -> u32
@@ -96,17 +97,30 @@ pub extern "C" fn knot_tile_at(store: &[u8], n: usize) -> u32
     records::tile_at(store, n)
 }
 
+// The number and the counts of a twin list.
+fn list_word(list: TwinList) -> u64
+    requires { ⌜ list .kept + list .twins + list .bad ≤ 2000 ⌝ }
+    ensures { λ r. ⌜ r ≡ twinsWord list ⌝ }
+{
+    (list.answer as u64)
+        + (list.kept as u64) * 0x10000
+        + (list.twins as u64) * 0x100000000
+        + (list.bad as u64) * 0x1000000000000
+}
+
 #[no_mangle]
 pub extern "C" fn knot_twin_list(store: &[u8], marks: &mut [u8]) -> u64
     ensures { λ r. ⌜ TwinsCalled (now (store .entry)) (now (marks .entry)) r (now (marks .exit)) ⌝ }
 {
-    let list = twins::twin_list(store, marks);
-    if list.answer != Answer::DONE {
-        return list.answer as u64;
-    }
-    (list.kept as u64) * 0x10000
-        + (list.twins as u64) * 0x100000000
-        + (list.bad as u64) * 0x1000000000000
+    list_word(twins::twin_list(store, marks))
+}
+
+#[no_mangle]
+pub extern "C" fn knot_strict_twin_list(store: &[u8], marks: &mut [u8]) -> u64
+    ensures { λ r. ⌜ StrictCalled (now (store .entry)) (now (marks .entry)) r (now (marks .exit)) ⌝ }
+{
+    let strict = strict::strict_twin_list(store, marks);
+    list_word(strict.list) + (strict.reserved as u64) * 0x10000
 }
 
 #[no_mangle]

@@ -29,6 +29,10 @@ pub both-right : (a b : Bool) → T (both a b) → T b
 both-right true b t = t
 both-right false b t = absurd t
 
+pub both-true : (a b : Bool) → both a b ≡ true → (a ≡ true) × (b ≡ true)
+both-true true b e = (refl, e)
+both-true false b e = absurd (subst T (sym e) tt)
+
 -- the other test, where the first fails
 pub either-right : (a b : Bool) → a ≡ false → T (either a b) → T b
 either-right true b e t = absurd (subst T e tt)

@@ -1,9 +1,12 @@
-// Lists a store: reads it from standard input and prints a line a record, and a last line with the counts.
+// Lists a store: reads it from standard input and prints a line a record, and a last line with the counts. With the word --strict
+// a store with a damaged record is refused.
 
 ghost use mathlib.Core.Path.{_≡_};
 ghost use Prim.Native.Nat.{_+_, _≤_, _<_};
 ghost use lib.ListN.{length};
+ghost use Rattle.bc6h_spec.specs.Answers.{done};
 ghost use Rattle.records.specs.Store.{recordsIn};
+ghost use Rattle.twins.specs.Twins.{Listed};
 use bc6::block_pixels;
 use bc6h_spec::Answer;
 use bc6h_spec::Block;
@@ -13,12 +16,14 @@ use records::RecordReading;
 use records::record_at;
 use records::record_block;
 use records::tile_at;
+use strict::strict_twin_list;
 use text::print;
 use text::put;
 use text::put_count;
 use text::put_field;
 use text::put_hex;
 use text::put_refusal;
+use text::same_bytes;
 use twins::TwinList;
 use twins::twin_list;
 
@@ -119,10 +124,20 @@ fn print_refusal(text: &mut [u8], answer: u8)
     print(text, end);
 }
 
-fn print_store(store: &[u8], marks: &mut [u8], text: &mut [u8])
+fn list_records(store: &[u8], marks: &mut [u8], strict: bool) -> TwinList
+    ensures { λ r. ⌜ (r .answer ≡ done → Listed (now (store .entry)) (now (marks .entry)) r (now (marks .exit))) ⌝ }
+{
+    if strict {
+        let answer = strict_twin_list(store, marks);
+        return answer.list;
+    }
+    twin_list(store, marks)
+}
+
+fn print_store(store: &[u8], marks: &mut [u8], text: &mut [u8], strict: bool)
     requires { ⌜ 128 ≤ length (now text) ⌝ }
 {
-    let list = twin_list(store, marks);
+    let list = list_records(store, marks, strict);
     if list.answer != Answer::DONE {
         print_refusal(text, list.answer);
         return;
@@ -132,10 +147,16 @@ fn print_store(store: &[u8], marks: &mut [u8], text: &mut [u8])
     }
 }
 
+fn is_strict() -> bool {
+    let mut word = [0u8; 8];
+    let size = os::arg(1, &mut word);
+    same_bytes(&word[..size], b"--strict")
+}
+
 fn main() {
     let mut input = [0u8; Record::STORE + 1];
     let size = io::read_full(STDIN_FILENO, &mut input);
     let mut marks = [0u8; TwinList::RECORDS];
     let mut text = [0u8; Line::TEXT];
-    print_store(&input[..size], &mut marks, &mut text);
+    print_store(&input[..size], &mut marks, &mut text, is_strict());
 }

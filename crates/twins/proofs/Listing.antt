@@ -38,11 +38,21 @@ module _ (size room : ℕ) where
   unfolding listRefusal
   fine h w l = rw (le-ltb _ _ h, eq-eqb _ _ w, le-ltb _ _ l)
 
+  pub refusal-small : listRefusal size room ≤ unevenStore
+  unfolding listRefusal
+  refusal-small =
+      cases (ltb storeLimit size) (λ a. rw a (omega arith))
+      (λ a. cases (eqb (size % recordSize) 0)
+      (λ b. cases (ltb room (size / recordSize)) (λ e. rw (a, b, e) (omega arith)) (λ e. rw (a, b, e) (omega arith)))
+      (λ b. rw (a, b) (omega arith)))
+
 -- ---- the statement, at each return
 
 module _ (store lent : List ℕ) where
-  pub listed-refused : (k : ℕ) {r : TwinList} → listRefusal (length store) (length lent) ≡ suc k → r ≡ refusal (suc k) → Listed store lent r lent
-  listed-refused k a e = record { answers = rw a e; holds = rw a }
+  pub listed-refused : (number : ℕ) {r : TwinList} → number ≡ listRefusal (length store) (length lent) → (number ≡ done → ⊥) → r ≡ refusal number
+      → Listed store lent r lent
+  listed-refused zero a z e = absurd (z refl)
+  listed-refused (suc k) a z e = let s = sym a in record { answers = rw s e; holds = rw s }
 
   marks-length : length (marksOf store) ≡ recordsIn store
   unfolding marksOf
@@ -69,6 +79,14 @@ module _ {store lent after : List ℕ} {r : TwinList} (d : Listed store lent r a
 
   pub answer-number : r .answer ≡ listRefusal (length store) (length lent)
   answer-number = ap (λ (x : TwinList). x .answer) (d .answers) ∙ answer-is (listRefusal (length store) (length lent)) store
+
+  -- a refusal is its number alone: every count is zero
+  pub refused-alone : (r .answer ≡ done → ⊥) → r ≡ refusal (r .answer)
+  refused-alone n = d .answers ∙ go (listRefusal (length store) (length lent)) refl ∙ ap refusal (sym answer-number)
+    where
+      go : (k : ℕ) → listRefusal (length store) (length lent) ≡ k → answerAt k store ≡ refusal k
+      go zero q = absurd (n (answer-number ∙ q))
+      go (suc k) q = refl
 
   module _ (z : r .answer ≡ done) where
     unrefused : listRefusal (length store) (length lent) ≡ done
@@ -109,19 +127,22 @@ module _ {store lent after : List ℕ} {r : TwinList} (d : Listed store lent r a
     counts-add-up = rw counts (count-three (markAt store) (mark-small store) (recordsIn store))
 
 -- a done list's store is whole, and its marks have room
-pub record Whole (store lent : List ℕ) : Type 0 where
-  pub fits : length store ≤ storeLimit
-  pub even : length store % recordSize ≡ 0
-  pub room : recordsIn store ≤ length lent
+pub record Whole (size lent : ℕ) : Type 0 where
+  pub fits : size ≤ storeLimit
+  pub even : size % recordSize ≡ 0
+  pub room : size / recordSize ≤ lent
 
-whole-by : (store lent : List ℕ) → listRefusal (length store) (length lent) ≡ done → Whole store lent
+whole-by : (size lent : ℕ) → listRefusal size lent ≡ done → Whole size lent
 unfolding listRefusal
-whole-by store lent z =
-    cases (ltb storeLimit (length store)) (λ t. absurd (omega (arith, rw t at z)))
-    (λ a. cases (eqb (length store % recordSize) 0)
-    (λ b. cases (ltb (length lent) (recordsIn store)) (λ t. absurd (omega (arith, rw (a, b, t) at z)))
+whole-by size lent z =
+    cases (ltb storeLimit size) (λ t. absurd (omega (arith, rw t at z)))
+    (λ a. cases (eqb (size % recordSize) 0)
+    (λ b. cases (ltb lent (size / recordSize)) (λ t. absurd (omega (arith, rw (a, b, t) at z)))
     (λ e. record { fits = ltb-false _ _ a; even = eqb-true _ _ b; room = ltb-false _ _ e }))
     (λ f. absurd (omega (arith, rw (a, f) at z))))
 
-pub whole : {store lent after : List ℕ} {r : TwinList} → Listed store lent r after → r .answer ≡ done → Whole store lent
-whole {store} {lent} d z = whole-by store lent (sym (answer-number d) ∙ z)
+pub whole-when : {size lent number : ℕ} → number ≡ listRefusal size lent → number ≡ done → Whole size lent
+whole-when {size} {lent} e z = whole-by size lent (sym e ∙ z)
+
+pub whole : {store lent after : List ℕ} {r : TwinList} → Listed store lent r after → r .answer ≡ done → Whole (length store) (length lent)
+whole {store} {lent} d z = whole-by (length store) (length lent) (sym (answer-number d) ∙ z)

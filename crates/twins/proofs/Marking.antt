@@ -10,7 +10,7 @@ use borrow.Author.Tests.{eq-eqb, ne-eqb, eqb-true, eqb-false, lt-ltb, le-ltb, lt
 use Rattle.laws.specs.Pick.{pick, both}
 use Rattle.laws.specs.Every.{same}
 use Rattle.laws.specs.First.{firstBelow}
-use Rattle.laws.proofs.Tests.{cases}
+use Rattle.laws.proofs.Tests.{cases, both-true}
 use Rattle.laws.proofs.Firsts.{first-end, first-at, first-passes, first-least, first-never}
 use Rattle.laws.proofs.Sameness.{true-false, not-so, same-so, same-means}
 use Rattle.bc6h_spec.specs.Answers.{done}
@@ -30,10 +30,6 @@ pub is-refused : (store : List ℕ) (n : ℕ) → (Unrefused store n → ⊥) �
 is-refused store n r = ne-eqb _ _ r
 
 -- ---- which records hold a picture
-
-both-true : (a b : Bool) → both a b ≡ true → (a ≡ true) × (b ≡ true)
-both-true true b e = (refl, e)
-both-true false b e = absurd (true-false (sym e))
 
 not-means : (b : Bool) → not b ≡ true → b ≡ false
 not-means true e = absurd (true-false (sym e))

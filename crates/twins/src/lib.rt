@@ -9,7 +9,7 @@ ghost use Rattle.laws.specs.Made.{countOf};
 ghost use Rattle.bc6h_spec.specs.Fields.{modeOf};
 ghost use Rattle.bc6h_spec.specs.Picture.{valueCount};
 ghost use Rattle.records.specs.Store.{recordsIn, formatOf, blockOf, Unrefused};
-ghost use Rattle.twins.specs.Twins.{pictureAt, marks, Reserved, holding, showing, alike, firstTwin, marksOf, refusal, Listed};
+ghost use Rattle.twins.specs.Twins.{pictureAt, marks, Reserved, holding, showing, alike, firstTwin, marksOf, listRefusal, refusal, Listed};
 ghost use Rattle.twins.specs.Kept.{pictureIn, kindAt, printOf, Pictured, Decoded};
 use bc6::block_pixels;
 use bc6_fields::extract_mode;
@@ -58,7 +58,7 @@ impl TwinList {
     // The kind of a record that holds no picture; that of another is its format.
     const NO_PICTURE: u64 = 2;
 
-    fn refused(answer: u8) -> TwinList
+    pub fn refused(answer: u8) -> TwinList
         ensures { λ r. ⌜ r ≡ refusal answer ⌝ }
     {
         TwinList {
@@ -125,7 +125,7 @@ fn decode_record(store: &[u8], n: usize, format: u8, out: &mut [u16])
 }
 
 // The mode of record n, which is not refused; 0 for a reserved one.
-fn mode_at(store: &[u8], n: usize) -> usize
+pub fn mode_at(store: &[u8], n: usize) -> usize
     requires { ⌜ Unrefused (now store) n ⌝ }
     ensures { λ r. ⌜ r ≡ modeOf (blockOf (now (store .entry)) n) ⌝ }
 {
@@ -237,25 +237,35 @@ fn count_of(marks: &[u8], mark: u8) -> usize
     count
 }
 
+// Why a twin list over the store, with room for so many marks, is refused.
+pub fn list_refusal(store: &[u8], room: usize) -> u8
+    ensures { λ r. ⌜ r ≡ listRefusal (length (now (store .entry))) room ⌝ }
+{
+    if store.len() > Record::STORE {
+        return Answer::LONG_STORE;
+    }
+    if store.len() % Record::SIZE != 0 {
+        return Answer::UNEVEN_STORE;
+    }
+    if room < store.len() / Record::SIZE {
+        return Answer::SHORT_OUTPUT;
+    }
+    Answer::DONE
+}
+
 // Marks the records of a store, one mark a record, and counts the marks of each kind.
 pub fn twin_list(store: &[u8], marks: &mut [u8]) -> TwinList
     ensures { λ r. ⌜ Listed (now (store .entry)) (now (marks .entry)) r (now (marks .exit)) ⌝ }
 {
-    if store.len() > Record::STORE {
-        return TwinList::refused(Answer::LONG_STORE);
-    }
-    if store.len() % Record::SIZE != 0 {
-        return TwinList::refused(Answer::UNEVEN_STORE);
-    }
-    let count = store.len() / Record::SIZE;
-    if marks.len() < count {
-        return TwinList::refused(Answer::SHORT_OUTPUT);
+    let refusal = list_refusal(store, marks.len());
+    if refusal != Answer::DONE {
+        return TwinList::refused(refusal);
     }
     let mut pictures = [0u16; TwinList::VALUES];
     let mut prints = [0u64; TwinList::RECORDS];
     decode_records(store, &mut pictures, &mut prints);
     mark_records(store, &pictures, &prints, marks);
-    let made = &marks[..count];
+    let made = &marks[..store.len() / Record::SIZE];
     TwinList {
         answer: Answer::DONE,
         kept: count_of(made, Mark::KEPT),

@@ -4,8 +4,8 @@ use Rattle.twins.proofs.Listing.{whole}
 use Rattle.listing.proofs.print_store.Statement.{statement}
 use Rattle.listing.proofs.print_store.Tie as tie
 
-twin-list-requires : tie.Need-twin-list-requires
-twin-list-requires c κs = search needs
+list-records-requires : tie.Need-list-records-requires
+list-records-requires c κs = search needs
 
 print-refusal-requires : tie.Need-print-refusal-requires
 print-refusal-requires c κs = search needs
@@ -20,7 +20,7 @@ returns : tie.Need-returns
 returns c = search needs
 
 print-records-requires : tie.Need-print-records-requires
-print-records-requires c κs = let w = whole (c .before .before .before .before .before .before .twin-list .ensures) (c .before .before .if1 .left) in (search needs, omega arith)
+print-records-requires c κs = let z = c .before .before .if1 .left in let w = whole (c .before .before .before .before .before .before .list-records .ensures z) z in (search needs, omega arith)
 
 print-counts-requires : tie.Need-print-counts-requires
 print-counts-requires c κs = search needs
@@ -47,7 +47,7 @@ pub print-store-spec : {M : Type 1} → statement M
 print-store-spec =
     tie.close
     (tie.spec
-    twin-list-requires
+    list-records-requires
     print-refusal-requires
     same-length
     same-length-2

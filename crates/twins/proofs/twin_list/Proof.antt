@@ -1,28 +1,19 @@
 use borrow.Author.Needs.{needs}
-use mathlib.Core.Path.{sym}
+use mathlib.Core.Path.{sym, _∙_}
 use native.Mathlib.Omega.{arith}
 use lib.Seq.{length-take-le}
 use Rattle.twins.proofs.Listing as laws
 use Rattle.twins.proofs.twin_list.Statement.{statement}
 use Rattle.twins.proofs.twin_list.Tie as tie
 
+list-refusal-requires : tie.Need-list-refusal-requires
+list-refusal-requires c κs = search needs
+
 refused-requires : tie.Need-refused-requires
 refused-requires c κs = search needs
 
 returns : tie.Need-returns
-returns c = laws.listed-refused _ _ 4 (laws.long _ _ (search needs)) (c .refused .ensures)
-
-refused-requires-2 : tie.Need-refused-requires-2
-refused-requires-2 c κs = search needs
-
-returns-2 : tie.Need-returns-2
-returns-2 c = laws.listed-refused _ _ 5 (laws.uneven _ _ (search needs) (search needs)) (c .refused2 .ensures)
-
-refused-requires-3 : tie.Need-refused-requires-3
-refused-requires-3 c κs = search needs
-
-returns-3 : tie.Need-returns-3
-returns-3 c = laws.listed-refused _ _ 2 (laws.short _ _ (search needs) (search needs) (search needs)) (c .refused3 .ensures)
+returns c = laws.listed-refused _ _ _ (c .before .before .list-refusal .ensures) (c .before .if1 .taken) (c .refused .ensures)
 
 slice-aggregate-decode-records : tie.Need-slice-aggregate-decode-records
 slice-aggregate-decode-records c = search needs
@@ -31,7 +22,7 @@ slice-aggregate-decode-records-2 : tie.Need-slice-aggregate-decode-records-2
 slice-aggregate-decode-records-2 c = search needs
 
 decode-records-requires : tie.Need-decode-records-requires
-decode-records-requires c κs = search needs
+decode-records-requires c κs = let w = laws.whole-when (c .before .before .before .list-refusal .ensures) (c .before .before .if1 .left) in search needs
 
 slice-aggregate-mark-records : tie.Need-slice-aggregate-mark-records
 slice-aggregate-mark-records c = search needs
@@ -40,13 +31,13 @@ slice-aggregate-mark-records-2 : tie.Need-slice-aggregate-mark-records-2
 slice-aggregate-mark-records-2 c = search needs
 
 mark-records-requires : tie.Need-mark-records-requires
-mark-records-requires c κs = (search needs, (search needs, (search needs, c .before .before .before .before .before .decode-records .ensures)))
+mark-records-requires c κs = let w = laws.whole-when (c .before .before .before .before .before .before .before .before .before .list-refusal .ensures) (c .before .before .before .before .before .before .before .before .if1 .left) in (search needs, (search needs, (search needs, c .before .before .before .before .before .decode-records .ensures)))
 
 slice-reshare-prefix-made : tie.Need-slice-reshare-prefix-made
-slice-reshare-prefix-made c = search needs
+slice-reshare-prefix-made c = let w = laws.whole-when (c .before .before .before .before .before .before .before .before .before .before .before .before .list-refusal .ensures) (c .before .before .before .before .before .before .before .before .before .before .before .if1 .left) in search needs
 
 slice-aggregate-made : tie.Need-slice-aggregate-made
-slice-aggregate-made c = sym (length-take-le _ _ (omega arith))
+slice-aggregate-made c = let w = laws.whole-when (c .before .before .before .before .before .before .before .before .before .before .before .before .before .list-refusal .ensures) (c .before .before .before .before .before .before .before .before .before .before .before .before .if1 .left) in sym (length-take-le _ _ (omega arith))
 
 count-of-requires : tie.Need-count-of-requires
 count-of-requires c κs = search needs
@@ -60,19 +51,16 @@ count-of-requires-3 c κs = search needs
 same-length : tie.Need-same-length
 same-length c = search needs
 
-returns-4 : tie.Need-returns-4
-returns-4 c = laws.listed-done _ _ (laws.fine _ _ (search needs) (search needs) (search needs)) (c .before .before .before .before .before .before .mark-records .ensures) (c .before .before .count-of .ensures) (c .before .count-of2 .ensures) (c .count-of3 .ensures)
+returns-2 : tie.Need-returns-2
+returns-2 c = laws.listed-done _ _ (sym (c .before .before .before .before .before .before .before .before .before .before .before .before .before .before .before .before .list-refusal .ensures) ∙ c .before .before .before .before .before .before .before .before .before .before .before .before .before .before .before .if1 .left) (c .before .before .before .before .before .before .mark-records .ensures) (c .before .before .count-of .ensures) (c .before .count-of2 .ensures) (c .count-of3 .ensures)
 
 pub twin-list-spec : {M : Type 1} → statement M
 twin-list-spec =
     tie.close
     (tie.spec
+    list-refusal-requires
     refused-requires
     returns
-    refused-requires-2
-    returns-2
-    refused-requires-3
-    returns-3
     slice-aggregate-decode-records
     slice-aggregate-decode-records-2
     decode-records-requires
@@ -85,4 +73,4 @@ twin-list-spec =
     count-of-requires-2
     count-of-requires-3
     same-length
-    returns-4)
+    returns-2)

@@ -1,8 +1,8 @@
 use borrow.Author.Needs.{needs}
 use Prim.Native.Nat.{_≤_, _-_}
 use lib.ListN.{length}
-use Rattle.audit.proofs.same_bytes.Statement.{statement}
-use Rattle.audit.proofs.same_bytes.Tie as tie
+use Rattle.text.proofs.same_bytes.Statement.{statement}
+use Rattle.text.proofs.same_bytes.Tie as tie
 
 abbrev Inv-loop : tie.InvT-loop
 Inv-loop a b k₀ k-end k = k ≤ length a

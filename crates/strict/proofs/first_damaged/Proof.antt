@@ -1,0 +1,51 @@
+use borrow.Author.Needs.{needs}
+use mathlib.Core.Path.{_≡_, sym, _∙_}
+use Prim.Native.Nat.{_≤_, _-_}
+use Rattle.laws.specs.First.{firstBelow}
+use Rattle.laws.proofs.Firsts.{first-none, first-more, first-end, first-at}
+use Rattle.strict.specs.Strict.{damaged, firstDamaged}
+use Rattle.strict.proofs.first_damaged.Statement.{statement}
+use Rattle.strict.proofs.first_damaged.Tie as tie
+
+abbrev Inv-loop : tie.InvT-loop
+Inv-loop store count n₀ n = (n ≤ count) × (firstBelow (damaged store) n ≡ n)
+
+abbrev μ-loop : tie.MeasureT-loop
+μ-loop store count n₀ n = count - n
+
+loop-holds : tie.Need-loop-holds Inv-loop μ-loop
+loop-holds c = (search needs, first-none _)
+
+is-damaged-requires : tie.Need-is-damaged-requires Inv-loop μ-loop
+is-damaged-requires c κs = search needs
+
+returns : tie.Need-returns Inv-loop μ-loop
+unfolding firstDamaged
+returns c = sym (first-at _ _ _ (c .before .before .before .loop .inv .1) (sym (c .before .is-damaged .ensures) ∙ c .if1 .taken) (search needs))
+
+add-n : tie.Need-add-n Inv-loop μ-loop
+add-n c = search needs
+
+loop-less : tie.Need-loop-less Inv-loop μ-loop
+loop-less c = search needs
+
+loop-again : tie.Need-loop-again Inv-loop μ-loop
+loop-again c = (search needs, first-more _ _ (c .before .before .before .loop .inv .1) (sym (c .before .is-damaged .ensures) ∙ c .if1 .left))
+
+returns-2 : tie.Need-returns-2 Inv-loop μ-loop
+unfolding firstDamaged
+returns-2 c = sym (first-end _ _ _ (search needs) (search needs) (c .before .loop .inv .1))
+
+pub first-damaged-spec : {M : Type 1} → statement M
+first-damaged-spec =
+    tie.close
+    (tie.spec
+    Inv-loop
+    μ-loop
+    loop-holds
+    is-damaged-requires
+    returns
+    add-n
+    loop-less
+    loop-again
+    returns-2)

@@ -15,7 +15,8 @@ use borrow.Author.Tests.{eq-eqb, lt-leb}
 use Rattle.laws.specs.Pick.{both}
 use Rattle.laws.specs.Every.{every}
 use Rattle.laws.proofs.Tests.{both-left, both-right, below-at}
-use Rattle.laws.proofs.Search.{holds, both-hold, every-at, every-all, below-all, Found, some-found, some-at, distinct-apart, apart-distinct}
+use Rattle.laws.proofs.Below.{below-all}
+use Rattle.laws.proofs.Search.{holds, both-hold, every-at, every-all, Found, some-found, some-at, distinct-apart, apart-distinct}
 use Rattle.bc6h_spec.specs.declared.Fields.{Fields}
 use Rattle.bc6h_spec.specs.Bits.{blockSize, IsBlock}
 use Rattle.bc6h_spec.specs.Layout.{twoRegions, precision}

@@ -61,10 +61,6 @@ pub every-all {ℓ} : {A : Type ℓ} (f : A → Bool) (l : List A) (d : A) → (
 every-all f [] d h = tt
 every-all f (x ∷ xs) d h = both-hold (f x) (every f xs) (h 0) (every-all f xs d (λ k. h (suc k)))
 
-pub below-all : (f : ℕ → Bool) (n : ℕ) → ((k : ℕ) → k < n → T (f k)) → T (below f n)
-below-all f zero h = tt
-below-all f (suc n) h = both-hold (f n) (below f n) (h n (omega arith)) (below-all f n (λ k l. h k (omega arith)))
-
 pub record Found (f : ℕ → Bool) (n : ℕ) : Type 0 where
   pub place : ℕ
   pub inside : place < n

@@ -18,7 +18,7 @@ use Rattle.bc6h_spec.proofs.Shown.{unsigned-finite}
 use Rattle.bc6_half.specs.declared.Half.{Half}
 use Rattle.bc6_half.specs.Halves.{marked}
 use Rattle.bc6_palette.specs.Colours.{black}
-use Rattle.bc6_paint.specs.Tones.{PaintedAs}
+use Rattle.bc6_paint.specs.Values.{PaintedAs}
 use Rattle.bc6.specs.Triples.{tripleAt, inTriples}
 use Rattle.bc6.specs.Call.{BlockPainted}
 

@@ -17,7 +17,7 @@ ghost use Rattle.bc6h_spec.specs.Layout.{twoRegions};
 ghost use Rattle.bc6h_spec.specs.Fields.{Valid};
 ghost use Rattle.bc6h_spec.specs.Picture.{pictureAs};
 ghost use Rattle.bc6h_spec.specs.Block.{fieldsIn, pixelsOf};
-ghost use Rattle.bc6_paint.specs.Tones.{IndicesBelow, PaintedAs};
+ghost use Rattle.bc6_paint.specs.Values.{IndicesBelow, PaintedAs};
 ghost use Rattle.bc6.specs.Triples.{onePixel, twoPixel, flat, inTriples, Marked};
 ghost use Rattle.bc6.specs.Call.{BlockPainted, Painted};
 

@@ -1,3 +1,2 @@
-pub mod Biased
 pub mod Pixels
 pub mod Link

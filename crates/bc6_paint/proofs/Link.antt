@@ -24,9 +24,10 @@ use Rattle.bc6h_spec.proofs.Widths.{known}
 use Rattle.bc6h_spec.proofs.Shown.{endpoint-in, weight-le}
 use Rattle.bc6_palette.specs.declared.Colour.{Colour}
 use Rattle.bc6_palette.specs.Colours.{endOf, unquantizedOf}
-use Rattle.bc6_paint.specs.declared.Tone.{Tone}
-use Rattle.bc6_paint.specs.Tones.{biased, toneOf, channelOf, pointAt, finishAt, IndicesBelow, oneValue, twoValue, PaintedAs}
-use Rattle.bc6_paint.proofs.Biased.{biased-off, interpolated-biased, finished-biased}
+use Rattle.bc6_tone.specs.declared.Tone.{Tone}
+use Rattle.bc6_tone.specs.Tones.{biased, toneOf, channelOf, pointAt, finishAt}
+use Rattle.bc6_paint.specs.Values.{IndicesBelow, oneValue, twoValue, PaintedAs}
+use Rattle.bc6_tone.proofs.Biased.{biased-off, interpolated-biased, finished-biased}
 
 -- a value between two numbers of 16 bits
 pub worked-out : (s : Bool) (a b : ℤ) (w : ℕ) → InBits s 16 a → InBits s 16 b → w ≤ 64

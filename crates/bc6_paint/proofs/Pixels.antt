@@ -18,8 +18,9 @@ use Rattle.laws.proofs.Counts.{count-last}
 use Rattle.bc6h_spec.specs.Half.{minusInfinity}
 use Rattle.bc6h_spec.specs.Picture.{weights8, weights16}
 use Rattle.bc6_half.specs.declared.Half.{Half}
-use Rattle.bc6_paint.specs.declared.Tone.{Tone}
-use Rattle.bc6_paint.specs.Tones.{channelOf, pointAt, highProduct, magnitudeAt, finishAt, oneValue, twoValue, PaintedAs}
+use Rattle.bc6_tone.specs.declared.Tone.{Tone}
+use Rattle.bc6_tone.specs.Tones.{channelOf, pointAt, highProduct, magnitudeAt, finishAt}
+use Rattle.bc6_paint.specs.Values.{oneValue, twoValue, PaintedAs}
 
 -- out has the first n values of f, and from there on it is l
 abbrev pub Made : (ℕ → ℕ) → ℕ → List ℕ → List ℕ → Type 0

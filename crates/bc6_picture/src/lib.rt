@@ -2,9 +2,9 @@
 //
 // Each format has functions of its own: the compiler then works out the endpoints with the format known, and makes vector code of the
 // pixels.
-use bc6_paint::Tone;
 use bc6_palette::Colour;
 use bc6_palette::ModeBits;
+use bc6_tone::Tone;
 use bc6h_spec::Fields;
 use bcn_data::Subset2Map;
 ghost use mathlib.Core.Path.{_≡_};
@@ -16,7 +16,8 @@ ghost use Rattle.bc6h_spec.specs.Layout.{twoRegions};
 ghost use Rattle.bc6h_spec.specs.Fields.{Valid};
 ghost use Rattle.bc6h_spec.specs.Picture.{pictureAs};
 ghost use Rattle.bc6_palette.specs.Colours.{unquantizedOf, OfBits};
-ghost use Rattle.bc6_paint.specs.Tones.{toneOf, PaintedAs};
+ghost use Rattle.bc6_tone.specs.Tones.{toneOf};
+ghost use Rattle.bc6_paint.specs.Values.{PaintedAs};
 
 // An endpoint of `bits` bits, unquantised and carried above zero.
 fn unsigned_end(c: Colour, bits: u8) -> Tone

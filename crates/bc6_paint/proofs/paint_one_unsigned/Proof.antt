@@ -7,7 +7,7 @@ use Prim.Native.Nat.{ℕ, _+_, _-_, _*_, _≤_, _<_}
 use native.Mathlib.Omega.{arith}
 use lib.Dec.{lit<}
 use lib.ListN.{length, length-set}
-use Rattle.bc6_paint.specs.Tones.{oneValue}
+use Rattle.bc6_paint.specs.Values.{oneValue}
 use Rattle.bc6_paint.proofs.Pixels.{Made, none-made, made-shift, three-made, all-made, one-value}
 use Rattle.bc6_paint.proofs.paint_one_unsigned.Statement.{statement}
 use Rattle.bc6_paint.proofs.paint_one_unsigned.Tie as tie

@@ -9,7 +9,7 @@ use lib.Dec.{lit<}
 use lib.ListN.{length, length-set}
 use Rattle.laws.specs.Pick.{pick}
 use Rattle.bc6_half.specs.declared.Half.{Half}
-use Rattle.bc6_paint.specs.Tones.{twoValue}
+use Rattle.bc6_paint.specs.Values.{twoValue}
 use Rattle.bc6_paint.proofs.Pixels.{Made, none-made, made-shift, three-made, all-made, two-value, bit-above, Counted, none-counted, counted-shift, counted-most, adds, three-counted, all-painted}
 use Rattle.bc6_paint.proofs.paint_two_signed.Statement.{statement}
 use Rattle.bc6_paint.proofs.paint_two_signed.Tie as tie

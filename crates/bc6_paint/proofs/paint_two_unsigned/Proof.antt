@@ -7,7 +7,7 @@ use Prim.Native.Nat.{ℕ, _+_, _-_, _*_, _≤_, _<_}
 use native.Mathlib.Omega.{arith}
 use lib.Dec.{lit<}
 use lib.ListN.{length, length-set}
-use Rattle.bc6_paint.specs.Tones.{twoValue}
+use Rattle.bc6_paint.specs.Values.{twoValue}
 use Rattle.bc6_paint.proofs.Pixels.{Made, none-made, made-shift, three-made, all-made, two-value, bit-above}
 use Rattle.bc6_paint.proofs.paint_two_unsigned.Statement.{statement}
 use Rattle.bc6_paint.proofs.paint_two_unsigned.Tie as tie

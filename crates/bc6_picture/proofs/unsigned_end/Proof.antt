@@ -3,7 +3,7 @@ use borrow.Author.Needs.{needs}
 use mathlib.Core.Path.{_∙_, ap}
 use mathlib.Core.Bool.{false}
 use Rattle.bc6_palette.proofs.Ends.{ready}
-use Rattle.bc6_paint.specs.Tones.{toneOf}
+use Rattle.bc6_tone.specs.Tones.{toneOf}
 use Rattle.bc6_picture.proofs.unsigned_end.Statement.{statement}
 use Rattle.bc6_picture.proofs.unsigned_end.Tie as tie
 

@@ -1,11 +1,11 @@
--- From a block's fields to its triples. Assumes nothing.
+-- From a block's fields to what is shown of it. Assumes nothing.
 use mathlib.Core.Path.{_≡_, _∙_, refl, sym, ap, subst}
 use mathlib.Core.Bool.{Bool, true, false}
 use mathlib.Core.List.{List, _++_}
 use Prim.Native.Nat.{ℕ, _≤_}
 use native.Mathlib.Omega.{arith}
 use lib.ListN.{drop, replicate}
-use Rattle.laws.specs.Made.{made, countOf}
+use Rattle.laws.specs.Made.{countOf}
 use Rattle.bc6h_spec.specs.declared.Fields.{Fields}
 use Rattle.bc6h_spec.specs.Fields.{modeOf, Valid}
 use Rattle.bc6h_spec.specs.Half.{minusInfinity}
@@ -15,11 +15,7 @@ use Rattle.bc6h_spec.proofs.Formats.{number-le}
 use Rattle.bc6h_spec.proofs.Reading.{fields-valid, fields-mode}
 use Rattle.bc6h_spec.proofs.Pixel.{shows-as}
 use Rattle.bc6h_spec.proofs.Shown.{unsigned-finite}
-use Rattle.bc6_half.specs.declared.Half.{Half}
-use Rattle.bc6_half.specs.Halves.{marked}
-use Rattle.bc6_palette.specs.Colours.{black}
 use Rattle.bc6_paint.specs.Values.{PaintedAs}
-use Rattle.bc6.specs.Triples.{tripleAt, inTriples}
 use Rattle.bc6.specs.Call.{BlockPainted}
 
 -- by the values that were written and counted
@@ -36,21 +32,14 @@ module _ (s : Bool) (block : List ℕ) where
   pixels-none z = rw z refl
 
   module _ (f : Fields) (e : f ≡ fieldsIn s block) where
-    mode-is : f .mode ≡ modeOf block
+    pub mode-is : f .mode ≡ modeOf block
     mode-is = ap (λ (x : Fields). x .mode) e ∙ fields-mode (formatNumber s) block
 
-    some : (f .mode ≡ 0 → ⊥) → 1 ≤ modeOf block
+    pub some : (f .mode ≡ 0 → ⊥) → 1 ≤ modeOf block
     some n = rw mode-is at (let h : 1 ≤ f .mode = omega arith in h)
 
     pub valid : (f .mode ≡ 0 → ⊥) → Valid f
     valid n = subst Valid (sym e) (fields-valid (formatNumber s) block (number-le s) (some n))
-
-    pub reserved : f .mode ≡ 0 → replicate 16 black ≡ inTriples (pixelsOf s block)
-    unfolding inTriples tripleAt made marked
-    reserved z = rw (pixels-none (sym mode-is ∙ z)) refl
-
-    pub decoded : (q : List (List Half)) → (f .mode ≡ 0 → ⊥) → q ≡ inTriples (pictureAs s f) → q ≡ inTriples (pixelsOf s block)
-    decoded q n h = h ∙ ap (λ (x : Fields). inTriples (pictureAs s x)) e ∙ ap inTriples (sym (shows-as s block (some n)))
 
     -- what is shown of the block, by its fields
     pub shown-black : (out after : List ℕ) → f .mode ≡ 0 → after ≡ replicate 48 0 ++ drop 48 out

@@ -1,4 +1,4 @@
--- `bc6::paint_one` meets its contract: a turn stores the next pixel. Assumes nothing.
+-- `bc6_plain::paint_one` meets its contract: a turn stores the next pixel. Assumes nothing.
 use borrow.Author.Needs.{needs}
 use mathlib.Core.Path.{_≡_, refl}
 use mathlib.Core.List.{_++_}
@@ -8,9 +8,9 @@ use lib.Dec.{lit≤}
 use lib.ListN.{drop}
 use Rattle.laws.specs.Made.{made}
 use Rattle.laws.proofs.Rows.{made-none, made-store, made-all}
-use Rattle.bc6.specs.Triples.{onePixel}
-use Rattle.bc6.proofs.paint_one.Statement.{statement}
-use Rattle.bc6.proofs.paint_one.Tie as tie
+use Rattle.bc6_plain.specs.Triples.{onePixel}
+use Rattle.bc6_plain.proofs.paint_one.Statement.{statement}
+use Rattle.bc6_plain.proofs.paint_one.Tie as tie
 
 abbrev Inv-loop : tie.InvT-loop
 Inv-loop palette indices picture₀ k₀ picture k = (k ≤ 16) × (picture ≡ made (onePixel palette indices) k ++ drop k picture₀)

@@ -1,4 +1,4 @@
--- `bc6::write_values` meets its contract: three stores a turn, and three values counted. Assumes nothing.
+-- `bc6_plain::write_values` meets its contract: three stores a turn, and three values counted. Assumes nothing.
 use borrow.Author.Needs.{needs}
 use mathlib.Core.Path.{_≡_, refl}
 use Prim.Native.Nat.{_*_, _-_, _≤_}
@@ -7,10 +7,10 @@ use lib.Dec.{lit<}
 use lib.ListN.{length, length-set}
 use Rattle.laws.proofs.Rows.{made-upto}
 use Rattle.bc6_paint.proofs.Pixels.{Made, none-made, three-made, Counted, none-counted, counted-shift, counted-most, three-counted}
-use Rattle.bc6.specs.Triples.{valueAt, flat}
-use Rattle.bc6.proofs.Flat.{stored, counted}
-use Rattle.bc6.proofs.write_values.Statement.{statement}
-use Rattle.bc6.proofs.write_values.Tie as tie
+use Rattle.bc6_plain.specs.Triples.{valueAt, flat}
+use Rattle.bc6_plain.proofs.Flat.{stored, counted}
+use Rattle.bc6_plain.proofs.write_values.Statement.{statement}
+use Rattle.bc6_plain.proofs.write_values.Tie as tie
 
 abbrev Inv-loop : tie.InvT-loop
 Inv-loop out₀ picture infinite₀ k₀ out infinite k =

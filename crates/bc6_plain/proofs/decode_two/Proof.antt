@@ -1,13 +1,13 @@
--- `bc6::decode_two` meets its contract: the parts, joined. Assumes nothing.
+-- `bc6_plain::decode_two` meets its contract: the parts, joined. Assumes nothing.
 use borrow.Author.Needs.{needs}
 use mathlib.Core.Path.{ap}
 use lib.Dec.{lit<}
 use Rattle.bcn_data.specs.declared.Subset2Map.{Subset2Map}
 use Rattle.bc6_palette.proofs.Ends.{a0-is, palette-asks}
 use Rattle.bc6_paint.proofs.Link.{indices-8}
-use Rattle.bc6.proofs.Flat.{two-painted}
-use Rattle.bc6.proofs.decode_two.Statement.{statement}
-use Rattle.bc6.proofs.decode_two.Tie as tie
+use Rattle.bc6_plain.proofs.Flat.{two-painted}
+use Rattle.bc6_plain.proofs.decode_two.Statement.{statement}
+use Rattle.bc6_plain.proofs.decode_two.Tie as tie
 
 palette-requires : tie.Need-generate-palette-unquantized-two-requires
 palette-requires c κs =

@@ -1,11 +1,12 @@
--- `bc6::decode_bc6_block` meets its contract: by the mode. Assumes nothing.
+-- `bc6_plain::decode_bc6_block` meets its contract: by the mode. Assumes nothing.
 use borrow.Author.Needs.{needs}
 use borrow.Author.Tests.{le-leb, lt-leb}
 use mathlib.Core.Path.{ap, _∙_}
 use lib.ListN.{replicate}
-use Rattle.bc6.proofs.Whole.{valid, reserved, decoded}
-use Rattle.bc6.proofs.decode_bc6_block.Statement.{statement}
-use Rattle.bc6.proofs.decode_bc6_block.Tie as tie
+use Rattle.bc6.proofs.Whole.{valid}
+use Rattle.bc6_plain.proofs.Flat.{reserved, decoded}
+use Rattle.bc6_plain.proofs.decode_bc6_block.Statement.{statement}
+use Rattle.bc6_plain.proofs.decode_bc6_block.Tie as tie
 
 returns : tie.Need-returns
 returns c =

@@ -1,4 +1,4 @@
--- `bc6::plain_block` meets its contract: the picture, laid out flat. Assumes nothing.
+-- `bc6_plain::plain_block` meets its contract: the picture, laid out flat. Assumes nothing.
 use borrow.Author.Needs.{needs}
 use mathlib.Core.Path.{_∙_, ap, sym, subst}
 use Prim.Native.Nat.{_≤_}
@@ -6,11 +6,11 @@ use native.Mathlib.Omega.{arith}
 use Rattle.bc6h_spec.specs.Fields.{modeIn, modeOf}
 use Rattle.bc6h_spec.proofs.Modes.{mode-range}
 use Rattle.bc6h_spec.proofs.Values.{length-pixels}
-use Rattle.bc6.specs.Triples.{flat, Marked}
-use Rattle.bc6.proofs.Flat.{flat-triples, triples-marked}
+use Rattle.bc6_plain.specs.Triples.{flat, Marked}
+use Rattle.bc6_plain.proofs.Flat.{flat-triples, triples-marked}
 use Rattle.bc6.proofs.Whole.{shown-values}
-use Rattle.bc6.proofs.plain_block.Statement.{statement}
-use Rattle.bc6.proofs.plain_block.Tie as tie
+use Rattle.bc6_plain.proofs.plain_block.Statement.{statement}
+use Rattle.bc6_plain.proofs.plain_block.Tie as tie
 
 write-values-requires : tie.Need-write-values-requires
 write-values-requires c κs = (subst Marked (sym (c .before .decode-bc6-block .ensures)) (triples-marked _), search needs)

@@ -6,7 +6,7 @@ use Prim.Native.Nat.{ℕ, zero, suc, _+_, _*_, _/_, _%_, _^_, _≤_, _<_}
 use native.Mathlib.Nat.{mod-lt}
 use native.Mathlib.Omega.{arith}
 use lib.Dec.{lit<, eqb}
-use lib.ListN.{length, getD, set, drop}
+use lib.ListN.{length, getD, set, drop, replicate}
 use Rattle.laws.specs.Pick.{pick}
 use Rattle.laws.specs.Bit.{bit}
 use Rattle.laws.specs.Made.{made}
@@ -17,12 +17,15 @@ use Rattle.bc6h_spec.specs.Regions.{regionOf, mapOf}
 use Rattle.bc6h_spec.specs.Fields.{indexOf, Valid}
 use Rattle.bc6h_spec.specs.Half.{minusInfinity}
 use Rattle.bc6h_spec.specs.Picture.{weights8, weights16, weights, between, palette, value, pictureAs}
+use Rattle.bc6h_spec.specs.Block.{fieldsIn, pixelsOf}
+use Rattle.bc6h_spec.proofs.Pixel.{shows-as}
 use Rattle.bc6_half.specs.declared.Half.{Half}
 use Rattle.bc6_half.specs.Halves.{marked}
 use Rattle.bc6_palette.specs.declared.Colour.{Colour}
-use Rattle.bc6_palette.specs.Colours.{endOf, unquantizedOf, tripleOf, entryOf}
+use Rattle.bc6_palette.specs.Colours.{black, endOf, unquantizedOf, tripleOf, entryOf}
 use Rattle.bc6_paint.proofs.Link.{indices-16, indices-8}
-use Rattle.bc6.specs.Triples.{tripleAt, inTriples, noHalf, halfAt, valueAt, flat, Marked, onePixel, twoPixel}
+use Rattle.bc6.proofs.Whole.{pixels-none, mode-is, some}
+use Rattle.bc6_plain.specs.Triples.{tripleAt, inTriples, noHalf, halfAt, valueAt, flat, Marked, onePixel, twoPixel}
 
 -- ---- values from triples
 
@@ -165,3 +168,13 @@ module _ (triples : List (List Half)) (k c : ℕ) (h : c < 3) where
   counted marks l t e =
       e ∙ ap (λ (x : Half). pick (x .infinite) 1 0) (at-place ∙ marks (3 * k + c) (omega arith))
       ∙ ap (λ (v : ℕ). pick (eqb v minusInfinity) 1 0) (sym stored)
+
+-- ---- the triples of a block
+
+module _ (s : Bool) (block : List ℕ) (f : Fields) (e : f ≡ fieldsIn s block) where
+  pub reserved : f .mode ≡ 0 → replicate 16 black ≡ inTriples (pixelsOf s block)
+  unfolding inTriples tripleAt made marked
+  reserved z = rw (pixels-none s block (sym (mode-is s block f e) ∙ z)) refl
+
+  pub decoded : (q : List (List Half)) → (f .mode ≡ 0 → ⊥) → q ≡ inTriples (pictureAs s f) → q ≡ inTriples (pixelsOf s block)
+  decoded q n h = h ∙ ap (λ (x : Fields). inTriples (pictureAs s x)) e ∙ ap inTriples (sym (shows-as s block (some s block f e n)))

@@ -1,11 +1,11 @@
--- `bc6::decode_one` meets its contract: the parts, joined. Assumes nothing.
+-- `bc6_plain::decode_one` meets its contract: the parts, joined. Assumes nothing.
 use borrow.Author.Needs.{needs}
 use lib.Dec.{lit<}
 use Rattle.bc6_palette.proofs.Ends.{a0-is, palette-asks}
 use Rattle.bc6_paint.proofs.Link.{indices-16}
-use Rattle.bc6.proofs.Flat.{one-painted}
-use Rattle.bc6.proofs.decode_one.Statement.{statement}
-use Rattle.bc6.proofs.decode_one.Tie as tie
+use Rattle.bc6_plain.proofs.Flat.{one-painted}
+use Rattle.bc6_plain.proofs.decode_one.Statement.{statement}
+use Rattle.bc6_plain.proofs.decode_one.Tie as tie
 
 palette-requires : tie.Need-generate-palette-unquantized-one-requires
 palette-requires c κs =

@@ -1,4 +1,4 @@
--- `bc6::paint_two` meets its contract: a turn stores the next pixel, by its region. Assumes nothing.
+-- `bc6_plain::paint_two` meets its contract: a turn stores the next pixel, by its region. Assumes nothing.
 use borrow.Author.Needs.{needs}
 use borrow.Author.Tests.{eq-eqb, ne-eqb}
 use mathlib.Core.Path.{_≡_, refl}
@@ -12,9 +12,9 @@ use Rattle.laws.specs.Bit.{bit}
 use Rattle.laws.specs.Made.{made}
 use Rattle.laws.proofs.Rows.{made-none, made-store, made-all}
 use Rattle.bc6_half.specs.declared.Half.{Half}
-use Rattle.bc6.specs.Triples.{onePixel, twoPixel}
-use Rattle.bc6.proofs.paint_two.Statement.{statement}
-use Rattle.bc6.proofs.paint_two.Tie as tie
+use Rattle.bc6_plain.specs.Triples.{onePixel, twoPixel}
+use Rattle.bc6_plain.proofs.paint_two.Statement.{statement}
+use Rattle.bc6_plain.proofs.paint_two.Tie as tie
 
 abbrev Inv-loop : tie.InvT-loop
 Inv-loop partition palette0 palette1 indices picture₀ k₀ picture k = (k ≤ 16) × (picture ≡ made (twoPixel palette0 palette1 (partition .«subset_indexes») indices) k ++ drop k picture₀)

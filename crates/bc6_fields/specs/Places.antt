@@ -12,5 +12,5 @@ unfoldable pub entry : List ℕ → ℕ → ℕ
 entry places place = getD places place 0
 
 -- the fields of a block, from its bits as one number
-unfoldable pub fieldsFrom : ℕ → ℕ → Fields
-fieldsFrom format n = pick (eqb (modeIn n) 0) noFields (fieldsAt format (modeIn n) n)
+unfoldable pub fieldsOfNumber : ℕ → ℕ → Fields
+fieldsOfNumber format n = pick (eqb (modeIn n) 0) noFields (fieldsAt format (modeIn n) n)

@@ -15,7 +15,7 @@ ghost use Rattle.bcn_util.specs.Indexed.{indexAt};
 ghost use Rattle.bc6h_spec.specs.Layout.{row};
 ghost use Rattle.bc6h_spec.specs.Fields.{modeIn, gathered, fieldsAt, fieldsOf};
 ghost use Rattle.bc6_fields.specs.Call.{Extracted};
-ghost use Rattle.bc6_fields.specs.Places.{entry, fieldsFrom};
+ghost use Rattle.bc6_fields.specs.Places.{entry, fieldsOfNumber};
 
 fn choose(first: bool, a: usize, b: usize) -> usize
     ensures { λ r. ⌜ r ≡ pick first a b ⌝ }
@@ -99,7 +99,7 @@ fn fields_from(format: u8, mode: usize, places: [u16; 14], stream: BitStream) ->
 // The fields of a block of a format, read by runs. A reserved mode has none. (It takes the block's bits, and not its bytes: a slice that
 // is only handed on is stored and read back.)
 pub fn fields_in(stream: BitStream, format: u8) -> Fields
-    ensures { λ r. ⌜ r ≡ fieldsFrom format (number stream) ⌝ }
+    ensures { λ r. ⌜ r ≡ fieldsOfNumber format (number stream) ⌝ }
 {
     let mode = extract_mode(stream);
     if mode == 0 {

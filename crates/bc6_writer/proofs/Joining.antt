@@ -16,7 +16,8 @@ use Rattle.bc6h_spec.specs.Writer.{scattered, placed, numberFrom, bytesOf}
 use Rattle.bc6h_spec.proofs.Once.{row-once}
 use Rattle.bc6h_spec.proofs.Gather.{scattered-lt}
 use Rattle.bc6h_spec.proofs.Undo.{bits-128}
-use Rattle.bc6_writer.specs.Parts.{entry, storedSize, byteAt}
+use Rattle.bc6_fields.specs.Places.{entry}
+use Rattle.bc6_writer.specs.Parts.{storedSize, byteAt}
 use Rattle.bc6_writer.proofs.Scattering.{bits-range, of-record}
 use Rattle.bc6_writer.proofs.Packing.{whole-lt}
 

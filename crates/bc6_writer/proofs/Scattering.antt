@@ -22,7 +22,8 @@ use Rattle.bc6h_spec.specs.Fields.{codeOf}
 use Rattle.bc6h_spec.specs.Writer.{scattered, placed}
 use Rattle.bc6h_spec.proofs.Once.{row-once, in-table, in-range}
 use Rattle.bc6h_spec.proofs.Gather.{scattered-lt}
-use Rattle.bc6_writer.specs.Parts.{entry, InPlaces}
+use Rattle.bc6_fields.specs.Places.{entry}
+use Rattle.bc6_writer.specs.Parts.{InPlaces}
 
 -- ---- the numbers at the places
 

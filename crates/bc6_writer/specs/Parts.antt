@@ -9,10 +9,6 @@ use Rattle.bc6h_spec.specs.Layout.{twoRegions}
 use Rattle.bc6h_spec.specs.Regions.{fixupOf}
 use Rattle.bc6h_spec.specs.Fields.{indexBits, fixups, storedBits}
 
--- the number at a place
-unfoldable pub entry : List ℕ → ℕ → ℕ
-entry numbers place = getD numbers place 0
-
 -- every code names one of the fourteen places
 abbrev pub InPlaces : List ℕ → Type 0
 InPlaces codes = (k : ℕ) → k < length codes → getD codes k 0 / 16 < 14

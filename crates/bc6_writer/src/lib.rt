@@ -18,9 +18,10 @@ ghost use Rattle.bc6h_spec.specs.Regions.{region1Of};
 ghost use Rattle.bc6h_spec.specs.Fields.{codeOf, indexBits, indexOf, Valid};
 ghost use Rattle.bc6h_spec.specs.Writer.{scattered, placed, numberFrom, bytesOf};
 ghost use Rattle.bc6_palette.specs.Colours.{bitsOf};
+ghost use Rattle.bc6_fields.specs.Places.{entry};
 ghost use Rattle.bcn_util.specs.Stream.{number};
 ghost use Rattle.bc6_writer.specs.Validity.{endpointFits, indexFits, valid};
-ghost use Rattle.bc6_writer.specs.Parts.{entry, InPlaces, secondFixup, sizeAt, storedSize, byteAt};
+ghost use Rattle.bc6_writer.specs.Parts.{InPlaces, secondFixup, sizeAt, storedSize, byteAt};
 ghost use Rattle.bc6_writer.specs.Call.{Written};
 
 // ---- is the record valid?

@@ -8,12 +8,12 @@ use Prim.Native.Nat.{ℕ}
 use Rattle.bc6h_spec.specs.declared.Fields.{Fields}
 use Rattle.bc6h_spec.specs.Bits.{numberOf}
 use Rattle.bc6h_spec.specs.Block.{fieldsIn}
-use Rattle.bc6_fields.specs.Places.{fieldsFrom}
+use Rattle.bc6_fields.specs.Places.{fieldsOfNumber}
 use Rattle.bc6_fields.proofs.Whole.{of-block}
 use Rattle.bc6.proofs.fields_in.Statement.{statement}
 use Rattle.bc6.proofs.fields_in.Tie as tie
 
-by-flag : (signed : Bool) (block : List ℕ) (n : ℕ) (f : Fields) → n ≡ numberOf block → f ≡ fieldsFrom (boolByte signed) n → f ≡ fieldsIn signed block
+by-flag : (signed : Bool) (block : List ℕ) (n : ℕ) (f : Fields) → n ≡ numberOf block → f ≡ fieldsOfNumber (boolByte signed) n → f ≡ fieldsIn signed block
 by-flag true block n f = of-block 1 block
 by-flag false block n f = of-block 0 block
 

@@ -1,7 +1,7 @@
 -- `bc6_writer::bit_of` meets its contract. Assumes nothing.
 use borrow.Author.Needs.{needs}
 use mathlib.Core.Path.{refl}
-use Rattle.bc6_writer.specs.Parts.{entry}
+use Rattle.bc6_fields.specs.Places.{entry}
 use Rattle.bc6_writer.proofs.bit_of.Statement.{statement}
 use Rattle.bc6_writer.proofs.bit_of.Tie as tie
 

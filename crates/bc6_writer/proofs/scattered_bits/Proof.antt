@@ -5,7 +5,7 @@ use Prim.Native.Nat.{_-_, _≤_, _<_, _^_}
 use native.Mathlib.Omega.{arith}
 use lib.ListN.{length, drop}
 use Rattle.bc6h_spec.specs.Writer.{scattered}
-use Rattle.bc6_writer.specs.Parts.{entry}
+use Rattle.bc6_fields.specs.Places.{entry}
 use Rattle.bc6_writer.proofs.Scattering.{scattered-none, scattered-small, scattered-next}
 use Rattle.bc6_writer.proofs.scattered_bits.Statement.{statement}
 use Rattle.bc6_writer.proofs.scattered_bits.Tie as tie

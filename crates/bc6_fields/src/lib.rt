@@ -8,7 +8,6 @@ use bcn_util::Indexes;
 ghost use mathlib.Core.Path.{_≡_};
 ghost use Prim.Native.Nat.{_≤_};
 ghost use lib.ListN.{length};
-ghost use Rattle.laws.specs.Pick.{pick};
 ghost use Rattle.laws.specs.Made.{made};
 ghost use Rattle.bcn_util.specs.Stream.{number};
 ghost use Rattle.bcn_util.specs.Indexed.{indexAt};
@@ -17,13 +16,7 @@ ghost use Rattle.bc6h_spec.specs.Fields.{modeIn, gathered, fieldsAt, fieldsOf};
 ghost use Rattle.bc6_fields.specs.Call.{Extracted};
 ghost use Rattle.bc6_fields.specs.Places.{entry, fieldsOfNumber};
 
-fn choose(first: bool, a: usize, b: usize) -> usize
-    ensures { λ r. ⌜ r ≡ pick first a b ⌝ }
-{
-    if first { a } else { b }
-}
-
-// The mode number, 0 for a reserved mode. (It is chosen and not jumped to: which mode comes next cannot be foreseen.)
+// The mode number, 0 for a reserved mode.
 pub fn extract_mode(stream: BitStream) -> usize
     ensures { λ r. ⌜ r ≡ modeIn (number stream) ⌝ }
 {
@@ -32,10 +25,12 @@ pub fn extract_mode(stream: BitStream) -> usize
     let rest = two.rest;
     let three = rest.consume_bits(3);
     let high3 = three.bits as usize;
-    let low_is_3 = choose(high3 < 4, 11 + high3, 0);
-    let low_from_2 = choose(low2 == 0b10, 3 + high3, low_is_3);
-    let low_from_1 = choose(low2 == 0b01, 2, low_from_2);
-    choose(low2 == 0b00, 1, low_from_1)
+    match low2 {
+        0b00 => 1,
+        0b01 => 2,
+        0b10 => 3 + high3,
+        _ => { if high3 < 4 { 11 + high3 } else { 0 } }
+    }
 }
 
 // Of the fourteen places the endpoints' values.

@@ -9,9 +9,9 @@ use Rattle.bc6h_spec.specs.Bits.{blockSize}
 use Rattle.bc6h_spec.specs.Fields.{modeOf}
 use Rattle.bc6h_spec.specs.Picture.{valueCount, isSigned}
 use Rattle.bc6h_spec.specs.Block.{pixelsOf, infinitiesOf}
-use Rattle.bc6.specs.declared.Shown.{Shown}
+use Rattle.bc6_paint.specs.Values.{PaintedAs}
 use Rattle.bc6.specs.declared.Pixels.{Pixels}
-use Rattle.bc6.specs.Call.{refusalOf, answerAt, BlockPainted, Painted}
+use Rattle.bc6.specs.Call.{refusalOf, answerAt, Painted}
 
 -- ---- the checks
 
@@ -80,12 +80,10 @@ module _ (block : List ℕ) (format : ℕ) (out : List ℕ) where
   pub painted-output : (r : Pixels) → format ≤ 1 → length block ≡ blockSize → length out < valueCount → r ≡ record { answer = shortOutput; mode = 0; infinite = 0 } → Painted block format out r out
   painted-output r h s l = refused-at block format out 2 r (output-refused format (length block) (length out) h s l)
 
-  pub painted-done : (shown : Shown) (after : List ℕ) → format ≤ 1 → length block ≡ blockSize → valueCount ≤ length out
-      → BlockPainted block (isSigned format) out shown after
-      → Painted block format out (record { answer = done; mode = shown .mode; infinite = shown .infinite }) after
-  painted-done shown after h s l p =
+  pub painted-done : (m n : ℕ) (after : List ℕ) → format ≤ 1 → length block ≡ blockSize → valueCount ≤ length out
+      → m ≡ modeOf block → PaintedAs (pixelsOf (isSigned format) block) out n after
+      → Painted block format out (record { answer = done; mode = m; infinite = n }) after
+  unfolding infinitiesOf
+  painted-done m n after h s l em p =
       let ok = done-when format (length block) (length out) h s l in
-      record {
-        answers = rw ok (ap (λ (x : Shown). record { answer = done; mode = x .mode; infinite = x .infinite }) (p .shows));
-        holds = rw ok (p .holds);
-      }
+      record { answers = rw ok (λ i. record { answer = done; mode = em i; infinite = p .counts i }); holds = rw ok (p .holds) }

@@ -1,4 +1,3 @@
-pub mod Whole
 pub mod Calls
 pub mod Values
 pub mod Firm

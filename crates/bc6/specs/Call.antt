@@ -1,6 +1,5 @@
 -- What `block_pixels` answers, and what the lent values then are. Assumes nothing.
 use mathlib.Core.Path.{_≡_}
-use mathlib.Core.Bool.{Bool}
 use mathlib.Core.List.{List, _++_}
 use Prim.Native.Nat.{ℕ, zero, suc}
 use lib.Dec.{eqb, ltb}
@@ -11,7 +10,6 @@ use Rattle.bc6h_spec.specs.Bits.{blockSize}
 use Rattle.bc6h_spec.specs.Fields.{modeOf}
 use Rattle.bc6h_spec.specs.Picture.{valueCount, isSigned}
 use Rattle.bc6h_spec.specs.Block.{pixelsOf, infinitiesOf}
-use Rattle.bc6.specs.declared.Shown.{Shown}
 use Rattle.bc6.specs.declared.Pixels.{Pixels}
 
 -- "pixels of a block: 1, 2, 3": the first check that is met, from the format, the block's length and the room
@@ -33,8 +31,3 @@ valuesAt (suc n) block format out = out
 pub record Painted (block : List ℕ) (format : ℕ) (out : List ℕ) (r : Pixels) (after : List ℕ) : Type 0 where
   pub answers : r ≡ answerAt (refusalOf format (length block) (length out)) block format
   pub holds : after ≡ valuesAt (refusalOf format (length block) (length out)) block format out
-
--- What is shown of a block whose input was checked: its mode, how many values are minus infinity, and the values in the first of the lent ones.
-pub record BlockPainted (block : List ℕ) (signed : Bool) (out : List ℕ) (r : Shown) (after : List ℕ) : Type 0 where
-  pub shows : r ≡ record { mode = modeOf block; infinite = infinitiesOf signed block }
-  pub holds : after ≡ pixelsOf signed block ++ drop valueCount out

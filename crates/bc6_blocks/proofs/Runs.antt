@@ -13,25 +13,28 @@ use borrow.Rule.Slice.PartMut.{midOf, putMid, post-is}
 use Rattle.laws.specs.Made.{made, countOf, total}
 use Rattle.laws.proofs.Rows.{join-last, count-le}
 use Rattle.laws.proofs.Counts.{count-append, count-join}
+use Rattle.bc6h_spec.specs.Bits.{numberOf}
 use Rattle.bc6h_spec.specs.Half.{minusInfinity}
 use Rattle.bc6h_spec.specs.Picture.{valueCount}
 use Rattle.bc6h_spec.specs.Block.{pixelsOf, infinitiesOf}
 use Rattle.bc6h_spec.proofs.Values.{length-pixels}
-use Rattle.bc6.specs.declared.Shown.{Shown}
-use Rattle.bc6.specs.Call.{BlockPainted}
+use Rattle.bc6_paint.specs.Values.{PaintedAs}
+use Rattle.bc6_picture.specs.Shown.{shownOf}
+use Rattle.bc6_picture.proofs.Whole.{block-shown}
 use Rattle.bc6_blocks.specs.Run.{blockAt, shownAt, runOf, RunWritten}
 
 -- what is painted into the part that was lent, and what is counted of it
-module _ (signed : Bool) (n size : ℕ) (blocks out : List ℕ) (r : Shown) (after : List ℕ)
-    (p : BlockPainted (take size (drop (16 * n) blocks)) signed out r after) (e : size ≡ 16) where
-  pub painted-part : after ≡ shownAt signed blocks n ++ drop 48 out
+module _ (signed : Bool) (n size : ℕ) (blocks out : List ℕ) (number infinite : ℕ) (after : List ℕ)
+    (same : number ≡ numberOf (take size (drop (16 * n) blocks))) (p : PaintedAs (shownOf signed number) out infinite after) (e : size ≡ 16) where
+  shown-here : shownOf signed number ≡ shownAt signed blocks n
   unfolding shownAt
-  painted-part = p .holds ∙ ap (λ (k : ℕ). pixelsOf signed (take k (drop (16 * n) blocks)) ++ drop 48 out) e
+  shown-here = block-shown signed (take size (drop (16 * n) blocks)) number same ∙ ap (λ (k : ℕ). pixelsOf signed (take k (drop (16 * n) blocks))) e
 
-  pub counted-part : r .infinite ≡ countOf minusInfinity (shownAt signed blocks n)
-  unfolding shownAt infinitiesOf
-  counted-part =
-      ap (λ (x : Shown). x .infinite) (p .shows) ∙ ap (λ (k : ℕ). countOf minusInfinity (pixelsOf signed (take k (drop (16 * n) blocks)))) e
+  pub painted-part : after ≡ shownAt signed blocks n ++ drop 48 out
+  painted-part = p .holds ∙ ap (λ (l : List ℕ). l ++ drop 48 out) shown-here
+
+  pub counted-part : infinite ≡ countOf minusInfinity (shownAt signed blocks n)
+  counted-part = p .counts ∙ ap (countOf minusInfinity) shown-here
 
 module _ (signed : Bool) (blocks : List ℕ) where
   pub run-none : runOf signed blocks 0 ≡ []

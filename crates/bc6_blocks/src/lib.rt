@@ -1,6 +1,7 @@
 // The pixels of a run of blocks of one format.
 use bc6h_spec::Answer;
 use bc6h_spec::Block;
+use bcn_util::BitStream;
 ghost use mathlib.Core.Path.{_≡_};
 ghost use Prim.Native.Nat.{_*_, _≤_};
 ghost use lib.ListN.{length};
@@ -35,8 +36,10 @@ fn paint_run(blocks: &[u8], signed: bool, count: usize, out: &mut [u16]) -> usiz
         let start = Block::SIZE * n;
         let end = start + Block::SIZE;
         let place = Block::VALUES * n;
-        let shown = bc6::show_block(&blocks[start..end], signed, &mut out[place..]);
-        infinite += shown.infinite as usize;
+        let stream = BitStream::new(&blocks[start..end]);
+        let mode = bc6_fields::extract_mode(stream) as u8;
+        let shown = bc6_picture::show(mode, stream.lo, stream.hi, signed, &mut out[place..]);
+        infinite += shown as usize;
     }
     infinite
 }

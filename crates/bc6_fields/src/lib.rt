@@ -14,7 +14,7 @@ ghost use Rattle.bcn_util.specs.Indexed.{indexAt};
 ghost use Rattle.bc6h_spec.specs.Layout.{row};
 ghost use Rattle.bc6h_spec.specs.Fields.{modeIn, gathered, fieldsAt, fieldsOf};
 ghost use Rattle.bc6_fields.specs.Call.{Extracted};
-ghost use Rattle.bc6_fields.specs.Places.{entry, fieldsOfNumber};
+ghost use Rattle.bc6_fields.specs.Places.{entry, turned, fieldsOfNumber};
 
 // The mode number, 0 for a reserved mode.
 pub fn extract_mode(stream: BitStream) -> usize
@@ -46,6 +46,22 @@ fn endpoints_of(places: [u16; 14]) -> [u16; 12]
     endpoints
 }
 
+// Endpoint after endpoint, of what stands channel after channel.
+fn by_endpoint(ends: [u16; 12]) -> [u16; 12]
+    ensures { λ r. ⌜ r ≡ made (turned ends) 12 ⌝ }
+{
+    let mut endpoints = [0u16; 12];
+    let mut e = 0;
+    while e < 4 {
+        let at = 3 * e;
+        endpoints[at] = ends[e];
+        endpoints[at + 1] = ends[4 + e];
+        endpoints[at + 2] = ends[8 + e];
+        e += 1;
+    }
+    endpoints
+}
+
 fn indices_of(indexes: Indexes) -> [u8; 16]
     requires { ⌜ indexes .bits ≤ 4 ⌝ }
     ensures { λ r. ⌜ r ≡ made (indexAt indexes) 16 ⌝ }
@@ -59,14 +75,18 @@ fn indices_of(indexes: Indexes) -> [u8; 16]
     indices
 }
 
-// The fields of a mode, once the numbers at its places are read.
-fn fields_from(format: u8, mode: usize, places: [u16; 14], stream: BitStream) -> Fields
-    requires { ⌜ (1 ≤ mode) × (mode ≤ 14) × (places ≡ made (gathered (row mode) (number stream)) 14) ⌝ }
+// The fields of a mode, once its endpoints and, where there are two regions, its partition are read.
+fn fields_from(
+    format: u8,
+    mode: usize,
+    endpoints: [u16; 12],
+    partition: u16,
+    stream: BitStream,
+) -> Fields
+    requires { ⌜ ((1 ≤ mode) × (mode ≤ 14)) × (endpoints ≡ made (gathered (row mode) (number stream)) 12) × ((mode ≤ 10) → partition ≡ gathered (row mode) (number stream) 13) ⌝ }
     ensures { λ r. ⌜ r ≡ fieldsAt format mode (number stream) ⌝ }
 {
-    let endpoints = endpoints_of(places);
     if mode <= 10 {
-        let partition = places[13];
         let map = Subset2Map::of(partition as usize);
         let rest = stream.skip(82);
         let indexes = Indexes::new_p2(3, rest, map.fixup_index_2 as u64);
@@ -100,8 +120,15 @@ pub fn fields_in(stream: BitStream, format: u8) -> Fields
     if mode == 0 {
         return Fields::none();
     }
-    let places = bc6_runs::read_places(mode, stream);
-    fields_from(format, mode, places, stream)
+    let mut ends = [0u16; 12];
+    bc6_runs::read_ends(mode, stream.lo, stream.hi, &mut ends);
+    fields_from(
+        format,
+        mode,
+        by_endpoint(ends),
+        bc6_runs::read_partition(stream),
+        stream,
+    )
 }
 
 pub fn fields_of(block: &[u8], format: u8) -> Fields
@@ -122,7 +149,7 @@ pub fn plain_fields(block: &[u8], format: u8) -> Fields
         return Fields::none();
     }
     let places = bc6_table::read_places(mode, stream);
-    fields_from(format, mode, places, stream)
+    fields_from(format, mode, endpoints_of(places), places[13], stream)
 }
 
 // What the field call answers: a number, and the fields where that is `Answer::DONE`.

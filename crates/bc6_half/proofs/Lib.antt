@@ -2,3 +2,4 @@ pub mod Laws
 pub mod Extend
 pub mod Sized
 pub mod Told
+pub mod Weights

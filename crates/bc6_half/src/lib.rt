@@ -36,27 +36,13 @@ pub fn transform_one(a: i32, d: i32, bits: u8, signed: bool) -> i32
     if signed { sign_extend(sum, bits) } else { sum }
 }
 
-// `c` where a middle case can be worked out of it, else 0.
-fn narrow(c: i32, bits: u8) -> i32
-    requires { ⌜ (0 < bits) × (bits ≤ 16) × Below (2 ^ bits) c ⌝ }
-    ensures { λ r. ⌜ Below 16384 r × ((bits < 15) → r ≡ c) ⌝ }
-{
-    if 15 <= bits {
-        return 0;
-    }
-    c
-}
-
-fn unquantize_unsigned(c: i32, bits: u8) -> i32
-    requires { ⌜ (0 < bits) × (bits ≤ 16) × Below (2 ^ bits) c ⌝ }
+// Below fifteen bits: the three cases are worked out first and chosen after.
+pub fn unquantize_narrow(c: i32, bits: u8) -> i32
+    requires { ⌜ (0 < bits) × (bits < 15) × Below (2 ^ bits) c ⌝ }
     ensures { λ r. ⌜ r ≡ pos (unquantizeU bits (natAbs c)) ⌝ }
 {
-    let low = narrow(c, bits);
-    let mid = ((low << 16) + 0x8000) >> bits;
+    let mid = ((c << 16) + 0x8000) >> bits;
     let top = (1 << bits) - 1;
-    if 15 <= bits {
-        return c;
-    }
     if c == 0 {
         return 0;
     }
@@ -64,6 +50,16 @@ fn unquantize_unsigned(c: i32, bits: u8) -> i32
         return 0xFFFF;
     }
     mid
+}
+
+fn unquantize_unsigned(c: i32, bits: u8) -> i32
+    requires { ⌜ (0 < bits) × (bits ≤ 16) × Below (2 ^ bits) c ⌝ }
+    ensures { λ r. ⌜ r ≡ pos (unquantizeU bits (natAbs c)) ⌝ }
+{
+    if 15 <= bits {
+        return c;
+    }
+    unquantize_narrow(c, bits)
 }
 
 fn magnitude(x: i32) -> i32
@@ -91,6 +87,18 @@ fn unquantize_magnitude(m: i32, bits: u8) -> i32
     mid
 }
 
+// Below sixteen bits, in signed format.
+pub fn unquantize_signed(c: i32, bits: u8) -> i32
+    requires { ⌜ (0 < bits) × (bits ≤ 15) × InBits true bits c ⌝ }
+    ensures { λ r. ⌜ r ≡ unquantized true bits c ⌝ }
+{
+    let t = unquantize_magnitude(magnitude(c), bits);
+    if c < 0 {
+        return -t;
+    }
+    t
+}
+
 pub fn unquantize(c: i32, bits: u8, signed: bool) -> i32
     requires { ⌜ (0 < bits) × (bits ≤ 16) × InBits signed bits c ⌝ }
     ensures { λ r. ⌜ r ≡ unquantized signed bits c ⌝ }
@@ -101,11 +109,7 @@ pub fn unquantize(c: i32, bits: u8, signed: bool) -> i32
     if 16 <= bits {
         return c;
     }
-    let t = unquantize_magnitude(magnitude(c), bits);
-    if c < 0 {
-        return -t;
-    }
-    t
+    unquantize_signed(c, bits)
 }
 
 // (a (64 − w) + b w + 32) div 64, rounded down.

@@ -1,106 +1,107 @@
-// From a field record to the values that it shows, with no palette.
+// From a block's bits to the values that it shows, with no palette.
 //
-// Each format has functions of its own: the compiler then works out the endpoints with the format known, and makes vector code of the
-// pixels.
-use bc6_palette::Colour;
+// The endpoints stand in one array of twelve, channel by channel: first as they are stored, then, in place, unquantised and carried
+// above zero. Each format has functions of its own: the compiler then works out the endpoints with the format known.
+use bc6_ends::one_ends_signed;
+use bc6_ends::one_ends_unsigned;
+use bc6_ends::two_ends_signed;
+use bc6_ends::two_ends_unsigned;
 use bc6_palette::ModeBits;
-use bc6_tone::Tone;
-use bc6h_spec::Fields;
 use bcn_data::Subset2Map;
+use bcn_util::BitStream;
+use bcn_util::Indexes;
 ghost use mathlib.Core.Path.{_≡_};
 ghost use mathlib.Core.Bool.{true, false};
 ghost use mathlib.Core.List.{_++_};
 ghost use Prim.Native.Nat.{_<_, _≤_};
-ghost use lib.ListN.{length, drop};
-ghost use Rattle.bc6h_spec.specs.Layout.{twoRegions};
-ghost use Rattle.bc6h_spec.specs.Fields.{Valid};
+ghost use lib.ListN.{length, drop, replicate};
+ghost use Rattle.bcn_util.specs.Stream.{number};
+ghost use Rattle.bc6h_spec.specs.Fields.{modeIn, fieldsAt};
 ghost use Rattle.bc6h_spec.specs.Picture.{pictureAs};
-ghost use Rattle.bc6_palette.specs.Colours.{unquantizedOf, OfBits};
-ghost use Rattle.bc6_tone.specs.Tones.{toneOf};
 ghost use Rattle.bc6_paint.specs.Values.{PaintedAs};
+ghost use Rattle.bc6_picture.specs.Shown.{Picked, OnePicked, shownOf};
 
-// An endpoint of `bits` bits, unquantised and carried above zero.
-fn unsigned_end(c: Colour, bits: u8) -> Tone
-    requires { ⌜ (0 < bits) × (bits ≤ 16) × OfBits false bits c ⌝ }
-    ensures { λ t. ⌜ t ≡ toneOf false (unquantizedOf false bits c) ⌝ }
-{
-    Tone::unsigned(c.unquantize(bits, false))
+// What a block of two regions says of its pixels: the map of the regions, and sixteen indices of three bits.
+struct Picks {
+    map: u16,
+    indices: u64,
 }
 
-fn signed_end(c: Colour, bits: u8) -> Tone
-    requires { ⌜ (0 < bits) × (bits ≤ 16) × OfBits true bits c ⌝ }
-    ensures { λ t. ⌜ t ≡ toneOf true (unquantizedOf true bits c) ⌝ }
+fn two_picks(stream: BitStream) -> Picks
+    ensures { λ r. ⌜ Picked (number stream) r ⌝ }
 {
-    Tone::signed(c.unquantize(bits, true))
+    let map = Subset2Map::of(bc6_runs::read_partition(stream) as usize);
+    let indexes = Indexes::new_p2(3, stream.skip(82), map.fixup_index_2 as u64);
+    Picks {
+        map: map.subset_indexes,
+        indices: indexes.uncompressed,
+    }
 }
 
-pub fn show_one_unsigned(f: Fields, out: &mut [u16])
-    requires { ⌜ (Valid f × (twoRegions (f .mode) ≡ false)) × (48 ≤ length (now out)) ⌝ }
-    ensures { λ _. ⌜ now (out .exit) ≡ pictureAs false f ++ drop 48 (now (out .entry)) ⌝ }
+// Sixteen indices of four bits.
+fn one_indices(stream: BitStream) -> u64
+    ensures { λ r. ⌜ OnePicked (number stream) r ⌝ }
 {
-    let bits = ModeBits::of(f.mode);
-    let a = Colour::first(f, bits, false);
-    let b = a.other(f, 1, bits, false);
-    let p = bits.a0;
-    let indices = f.indices;
-    bc6_paint::paint_one_unsigned(unsigned_end(a, p), unsigned_end(b, p), indices, out);
+    let indexes = Indexes::new_p1(4, stream.skip(65));
+    indexes.uncompressed
 }
 
-// How many of the values are minus infinity comes back.
-pub fn show_one_signed(f: Fields, out: &mut [u16]) -> u16
-    requires { ⌜ (Valid f × (twoRegions (f .mode) ≡ false)) × (48 ≤ length (now out)) ⌝ }
-    ensures { λ r. ⌜ PaintedAs (pictureAs true f) (now (out .entry)) r (now (out .exit)) ⌝ }
+fn show_unsigned(mode: u8, lo: u64, hi: u64, out: &mut [u16]) -> u16
+    requires { ⌜ ((1 ≤ mode) × (mode ≤ 14)) × (48 ≤ length (now out)) ⌝ }
+    ensures { λ r. ⌜ PaintedAs (pictureAs false (fieldsAt 0 mode (number (record { lo = lo; hi = hi })))) (now (out .entry)) r (now (out .exit)) ⌝ }
 {
-    let bits = ModeBits::of(f.mode);
-    let a = Colour::first(f, bits, true);
-    let b = a.other(f, 1, bits, true);
-    let p = bits.a0;
-    let indices = f.indices;
-    bc6_paint::paint_one_signed(signed_end(a, p), signed_end(b, p), indices, out)
+    let mut ends = [0u16; 12];
+    bc6_runs::read_ends(mode as usize, lo, hi, &mut ends);
+    let bits = ModeBits::of(mode);
+    let stream = BitStream { lo, hi };
+    if mode <= 10 {
+        two_ends_unsigned(bits, &mut ends);
+        let picks = two_picks(stream);
+        return bc6_paint_two::paint_two(false, ends, picks.map, picks.indices, out);
+    }
+    one_ends_unsigned(bits, &mut ends);
+    bc6_paint_one::paint_one(false, ends, one_indices(stream), out)
 }
 
-pub fn show_two_unsigned(f: Fields, out: &mut [u16])
-    requires { ⌜ (Valid f × (twoRegions (f .mode) ≡ true)) × (48 ≤ length (now out)) ⌝ }
-    ensures { λ _. ⌜ now (out .exit) ≡ pictureAs false f ++ drop 48 (now (out .entry)) ⌝ }
+fn show_signed(mode: u8, lo: u64, hi: u64, out: &mut [u16]) -> u16
+    requires { ⌜ ((1 ≤ mode) × (mode ≤ 14)) × (48 ≤ length (now out)) ⌝ }
+    ensures { λ r. ⌜ PaintedAs (pictureAs true (fieldsAt 1 mode (number (record { lo = lo; hi = hi })))) (now (out .entry)) r (now (out .exit)) ⌝ }
 {
-    let bits = ModeBits::of(f.mode);
-    let a = Colour::first(f, bits, false);
-    let b = a.other(f, 1, bits, false);
-    let c = a.other(f, 2, bits, false);
-    let d = a.other(f, 3, bits, false);
-    let p = bits.a0;
-    let map = Subset2Map::of(f.partition as usize);
-    let indices = f.indices;
-    bc6_paint::paint_two_unsigned(
-        unsigned_end(a, p),
-        unsigned_end(b, p),
-        unsigned_end(c, p),
-        unsigned_end(d, p),
-        map.subset_indexes,
-        indices,
-        out,
-    );
+    let mut ends = [0u16; 12];
+    bc6_runs::read_ends(mode as usize, lo, hi, &mut ends);
+    let bits = ModeBits::of(mode);
+    let stream = BitStream { lo, hi };
+    if mode <= 10 {
+        two_ends_signed(bits, &mut ends);
+        let picks = two_picks(stream);
+        return bc6_paint_two::paint_two(true, ends, picks.map, picks.indices, out);
+    }
+    one_ends_signed(bits, &mut ends);
+    bc6_paint_one::paint_one(true, ends, one_indices(stream), out)
 }
 
-pub fn show_two_signed(f: Fields, out: &mut [u16]) -> u16
-    requires { ⌜ (Valid f × (twoRegions (f .mode) ≡ true)) × (48 ≤ length (now out)) ⌝ }
-    ensures { λ r. ⌜ PaintedAs (pictureAs true f) (now (out .entry)) r (now (out .exit)) ⌝ }
+// 48 zeros.
+fn write_black(out: &mut [u16])
+    requires { ⌜ 48 ≤ length (now out) ⌝ }
+    ensures { λ _. ⌜ now (out .exit) ≡ replicate 48 0 ++ drop 48 (now (out .entry)) ⌝ }
 {
-    let bits = ModeBits::of(f.mode);
-    let a = Colour::first(f, bits, true);
-    let b = a.other(f, 1, bits, true);
-    let c = a.other(f, 2, bits, true);
-    let d = a.other(f, 3, bits, true);
-    let p = bits.a0;
-    let map = Subset2Map::of(f.partition as usize);
-    let indices = f.indices;
-    bc6_paint::paint_two_signed(
-        signed_end(a, p),
-        signed_end(b, p),
-        signed_end(c, p),
-        signed_end(d, p),
-        map.subset_indexes,
-        indices,
-        out,
-    )
+    for j in 0..48usize {
+        out[j] = 0;
+    }
+}
+
+// What is shown of a block, from its mode and its bits: its values, and how many of them are minus infinity. (It takes the two words, and
+// not a stream: a struct that is handed on is stored and read back.)
+pub fn show(mode: u8, lo: u64, hi: u64, signed: bool, out: &mut [u16]) -> u16
+    requires { ⌜ (mode ≡ modeIn (number (record { lo = lo; hi = hi }))) × (48 ≤ length (now out)) ⌝ }
+    ensures { λ r. ⌜ PaintedAs (shownOf signed (number (record { lo = lo; hi = hi }))) (now (out .entry)) r (now (out .exit)) ⌝ }
+{
+    if mode == 0 {
+        write_black(out);
+        return 0;
+    }
+    if signed {
+        return show_signed(mode, lo, hi, out);
+    }
+    show_unsigned(mode, lo, hi, out)
 }

@@ -23,8 +23,8 @@ use Rattle.bc6_half.specs.declared.Half.{Half}
 use Rattle.bc6_half.specs.Halves.{marked}
 use Rattle.bc6_palette.specs.declared.Colour.{Colour}
 use Rattle.bc6_palette.specs.Colours.{black, endOf, unquantizedOf, tripleOf, entryOf}
-use Rattle.bc6_paint.proofs.Link.{indices-16, indices-8}
-use Rattle.bc6.proofs.Whole.{pixels-none, mode-is, some}
+use Rattle.bc6_picture.proofs.Whole.{pixels-none}
+use Rattle.bc6_plain.proofs.Whole.{mode-is, some, indices-16, indices-8}
 use Rattle.bc6_plain.specs.Triples.{tripleAt, inTriples, noHalf, halfAt, valueAt, flat, Marked, onePixel, twoPixel}
 
 -- ---- values from triples

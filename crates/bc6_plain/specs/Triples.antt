@@ -39,6 +39,10 @@ flat triples = made (valueAt triples) valueCount
 abbrev pub Marked : List (List Half) → Type 0
 Marked triples = (j : ℕ) → j < valueCount → halfAt triples j ≡ marked (valueAt triples j)
 
+-- each of the sixteen indices is below n
+abbrev pub IndicesBelow : ℕ → List ℕ → Type 0
+IndicesBelow n indices = (k : ℕ) → k < 16 → getD indices k 0 < n
+
 -- a pixel has the palette's colour at its index, in two regions its region's palette's
 unfoldable pub onePixel : List (List Half) → List ℕ → ℕ → List Half
 onePixel palette indices k = getD palette (getD indices k 0) []

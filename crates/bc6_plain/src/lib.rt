@@ -1,6 +1,4 @@
-// The plain form of the picture of a block, by palettes and sixteen triples, as the document reads. Decoding calls `bc6::show_block`.
-use bc6::Shown;
-use bc6::fields_in;
+// The plain form of the picture of a block, by palettes and sixteen triples, as the document reads. Decoding calls `bc6_picture::show`.
 use bc6_half::Half;
 use bc6_palette::Colour;
 use bc6_palette::ModeBits;
@@ -15,10 +13,18 @@ ghost use Rattle.laws.specs.Made.{made};
 ghost use Rattle.bc6h_spec.specs.Layout.{twoRegions};
 ghost use Rattle.bc6h_spec.specs.Fields.{Valid};
 ghost use Rattle.bc6h_spec.specs.Picture.{pictureAs};
-ghost use Rattle.bc6h_spec.specs.Block.{pixelsOf};
-ghost use Rattle.bc6_paint.specs.Values.{IndicesBelow, PaintedAs};
-ghost use Rattle.bc6.specs.Call.{BlockPainted};
-ghost use Rattle.bc6_plain.specs.Triples.{onePixel, twoPixel, flat, inTriples, Marked};
+ghost use Rattle.bc6h_spec.specs.Block.{fieldsIn, pixelsOf};
+ghost use Rattle.bc6_paint.specs.Values.{PaintedAs};
+ghost use Rattle.bc6_plain.specs.Triples.{IndicesBelow, onePixel, twoPixel, flat, inTriples, Marked};
+ghost use Rattle.bc6_plain.specs.Block.{BlockPainted};
+
+// The fields of a block in a format.
+fn fields_in(block: &[u8], signed: bool) -> Fields
+    requires { ⌜ length (now block) ≡ 16 ⌝ }
+    ensures { λ r. ⌜ r ≡ fieldsIn signed (now (block .entry)) ⌝ }
+{
+    bc6_fields::fields_in(BitStream::new(block), signed as u8)
+}
 
 // Each pixel has the palette's colour at its index.
 fn paint_one(palette: [[Half; 3]; 16], indices: [u8; 16]) -> [[Half; 3]; 16]
@@ -122,7 +128,13 @@ fn write_values(picture: [[Half; 3]; 16], out: &mut [u16]) -> u16
     infinite
 }
 
-// What `bc6::show_block` does.
+// What is shown of a block: its mode, and how many of its values are minus infinity.
+pub struct Shown {
+    pub mode: u8,
+    pub infinite: u16,
+}
+
+// What decoding does, by palettes.
 pub fn plain_block(block: &[u8], signed: bool, out: &mut [u16]) -> Shown
     requires { ⌜ (length (now block) ≡ 16) × (48 ≤ length (now out)) ⌝ }
     ensures { λ r. ⌜ BlockPainted (now (block .entry)) signed (now (out .entry)) r (now (out .exit)) ⌝ }

@@ -1,3 +1,5 @@
 pub mod Runs
 pub mod Sums
 pub mod Parts
+pub mod Partition
+pub mod Words

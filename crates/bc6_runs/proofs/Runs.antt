@@ -30,7 +30,7 @@ joined k b (r ∷ rs) =
     (record { at = k; size = 1; shift = b } ∷ (r ∷ rs))
 
 -- the runs of place p in the codes of bits k, k + 1, ..
-abbrev runs : List ℕ → ℕ → ℕ → List Run
+abbrev pub runs : List ℕ → ℕ → ℕ → List Run
 runs [] k p = []
 runs (c ∷ cs) k p = pick (eqb (c / 16) p) (joined k (c % 16) (runs cs (suc k) p)) (runs cs (suc k) p)
 
@@ -42,7 +42,7 @@ abbrev more : ℕ → ℕ → List Run → ℕ
 more n x [] = x
 more n x (r ∷ rs) = more n (x + part n r) rs
 
-abbrev total : ℕ → List Run → ℕ
+abbrev pub total : ℕ → List Run → ℕ
 total n [] = 0
 total n (r ∷ rs) = more n (part n r) rs
 

@@ -2,12 +2,15 @@
 // The places are red, green and blue of the endpoints w, x, y and z, then the mode and the partition.
 use bcn_util::BitStream;
 ghost use mathlib.Core.Path.{_≡_};
-ghost use Prim.Native.Nat.{_+_, _<_, _≤_};
+ghost use mathlib.Core.List.{_++_};
+ghost use Prim.Native.Nat.{_+_, _/_, _%_, _^_, _<_, _≤_};
+ghost use lib.ListN.{length, drop};
 ghost use Rattle.laws.specs.Made.{made};
 ghost use Rattle.bcn_util.specs.Stream.{number};
 ghost use Rattle.bc6h_spec.specs.Layout.{row};
 ghost use Rattle.bc6h_spec.specs.Fields.{gathered};
 ghost use Rattle.bc6_runs.specs.Part.{Part};
+ghost use Rattle.bc6_runs.specs.Ends.{storedEnd, fourOf, lane, channelsOf};
 
 // `count` bits from bit `at` on, the lowest as bit `shift`.
 fn run(stream: BitStream, at: u64, count: u64, shift: u64) -> u16
@@ -366,25 +369,81 @@ fn places_14(s: BitStream) -> [u16; 14]
     ]
 }
 
-// The numbers at the fourteen places.
-pub fn read_places(mode: usize, stream: BitStream) -> [u16; 14]
+// A channel of the four endpoints in one word, w lowest.
+fn four(w: u16, x: u16, y: u16, z: u16) -> u64
+    ensures { λ r. ⌜ r ≡ fourOf w x y z ⌝ }
+{
+    (w as u64)
+        + 0x1_0000 * (x as u64)
+        + 0x1_0000_0000 * (y as u64)
+        + 0x1_0000_0000_0000 * (z as u64)
+}
+
+// The endpoints as they are stored, a word a channel.
+struct Channels {
+    red: u64,
+    green: u64,
+    blue: u64,
+}
+
+fn channels_of(places: [u16; 14]) -> Channels
+    ensures { λ r. ⌜ r ≡ channelsOf places ⌝ }
+{
+    Channels {
+        red: four(places[0], places[3], places[6], places[9]),
+        green: four(places[1], places[4], places[7], places[10]),
+        blue: four(places[2], places[5], places[8], places[11]),
+    }
+}
+
+// Words, and not numbers, where the fourteen modes meet: three stay in registers.
+fn read_channels(mode: usize, stream: BitStream) -> Channels
     requires { ⌜ (1 ≤ mode) × (mode ≤ 14) ⌝ }
-    ensures { λ r. ⌜ r ≡ made (gathered (row mode) (number stream)) 14 ⌝ }
+    ensures { λ r. ⌜ r ≡ channelsOf (made (gathered (row mode) (number stream)) 14) ⌝ }
 {
     match mode {
-        1 => places_1(stream),
-        2 => places_2(stream),
-        3 => places_3(stream),
-        4 => places_4(stream),
-        5 => places_5(stream),
-        6 => places_6(stream),
-        7 => places_7(stream),
-        8 => places_8(stream),
-        9 => places_9(stream),
-        10 => places_10(stream),
-        11 => places_11(stream),
-        12 => places_12(stream),
-        13 => places_13(stream),
-        _ => places_14(stream),
+        1 => channels_of(places_1(stream)),
+        2 => channels_of(places_2(stream)),
+        3 => channels_of(places_3(stream)),
+        4 => channels_of(places_4(stream)),
+        5 => channels_of(places_5(stream)),
+        6 => channels_of(places_6(stream)),
+        7 => channels_of(places_7(stream)),
+        8 => channels_of(places_8(stream)),
+        9 => channels_of(places_9(stream)),
+        10 => channels_of(places_10(stream)),
+        11 => channels_of(places_11(stream)),
+        12 => channels_of(places_12(stream)),
+        13 => channels_of(places_13(stream)),
+        _ => channels_of(places_14(stream)),
     }
+}
+
+fn write_four(word: u64, out: &mut [u16])
+    requires { ⌜ 4 ≤ length (now out) ⌝ }
+    ensures { λ _. ⌜ now (out .exit) ≡ made (lane word) 4 ++ drop 4 (now (out .entry)) ⌝ }
+{
+    out[0] = (word % 0x1_0000) as u16;
+    out[1] = ((word >> 16) % 0x1_0000) as u16;
+    out[2] = ((word >> 32) % 0x1_0000) as u16;
+    out[3] = (word >> 48) as u16;
+}
+
+// The endpoints as they are stored: red of w, x, y and z, then green, then blue. (It takes the stream's two words: a struct that is
+// handed on is stored and read back.)
+pub fn read_ends(mode: usize, lo: u64, hi: u64, out: &mut [u16])
+    requires { ⌜ (1 ≤ mode) × (mode ≤ 14) × (12 ≤ length (now out)) ⌝ }
+    ensures { λ _. ⌜ now (out .exit) ≡ made (storedEnd mode (number (record { lo = lo; hi = hi }))) 12 ++ drop 12 (now (out .entry)) ⌝ }
+{
+    let channels = read_channels(mode, BitStream { lo, hi });
+    write_four(channels.red, out);
+    write_four(channels.green, &mut out[4..]);
+    write_four(channels.blue, &mut out[8..]);
+}
+
+// The partition of a mode of two regions.
+pub fn read_partition(stream: BitStream) -> u16
+    ensures { λ r. ⌜ r ≡ number stream / 2 ^ 77 % 2 ^ 5 ⌝ }
+{
+    run(stream, 77, 5, 0)
 }

@@ -21,7 +21,7 @@ use Rattle.bc6h_spec.specs.Half.{withSign, interpolated, finishU, scaled, patte
 abbrev pub Biased : Bool → ℤ → ℕ → Type 0
 Biased signed z n = Off (bias signed) z n
 
-weighted : (k w : ℕ) → w ≤ 64 → k * (64 - w) + k * w ≡ k * 64
+pub weighted : (k w : ℕ) → w ≤ 64 → k * (64 - w) + k * w ≡ k * 64
 weighted k w h =
     let e : 64 - w + w ≡ 64 = omega arith in
     sym (mul-add k (64 - w) w) ∙ ap (λ (x : ℕ). k * x) e
@@ -90,24 +90,21 @@ finished-biased false (pos x) n b r = ap finishU (omega arith) ∙ sym (finishU-
 finished-biased false (negsuc x) n b r = absurd (r .sign)
 finished-biased true (pos x) n b r =
     let e : n ≡ 32768 + x = b in
-    let d : n - 32768 ≡ x = omega arith in
-    rw (le-ltb n 32767 (omega arith), le-ltb n 32768 (omega arith), high-31 (n - 32768), d) (omega arith)
+    let d : magnitudeAt n ≡ x = omega arith in
+    rw (le-ltb n 32767 (omega arith), high-31 (magnitudeAt n), d) (omega arith)
 finished-biased true (negsuc x) n b r = by (decLt n 32767)
   where
     e : n + suc x ≡ 32768
     e = b
 
-    below : n < 32768
-    below = omega arith
-
-    d : 32768 - n ≡ suc x
+    d : magnitudeAt n ≡ suc x
     d = omega arith
 
     by : Dec (n < 32767) → pattern (negℤ (pos (31 * suc x / 32))) ≡ pick (ltb n 32767) 32768 0 + magnitudeAt n * 63488 / 65536
-    by (yes h) = rw (lt-ltb n 32767 h, lt-ltb n 32768 below, high-31 (32768 - n), d) (pattern-neg (31 * suc x / 32) (omega arith))
+    by (yes h) = rw (lt-ltb n 32767 h, high-31 (magnitudeAt n), d) (pattern-neg (31 * suc x / 32) (omega arith))
     by (no h) =
         let z : x ≡ 0 = omega arith in
-        rw (le-ltb n 32767 (omega arith), lt-ltb n 32768 below, high-31 (32768 - n), d, z) refl
+        rw (le-ltb n 32767 (omega arith), high-31 (magnitudeAt n), d, z) refl
 
 -- ---- carrying a number above zero
 

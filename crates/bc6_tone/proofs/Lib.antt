@@ -1,1 +1,2 @@
 pub mod Biased
+pub mod Lines

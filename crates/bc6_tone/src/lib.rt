@@ -2,69 +2,30 @@
 //
 // An endpoint's channel is carried as a u16: in signed format 32768 is added. Then 16 bits hold every step.
 use bc6_half::Half;
-use bc6_palette::Colour;
 ghost use mathlib.Core.Path.{_≡_};
 ghost use mathlib.Core.Bool.{true, false};
-ghost use Prim.Native.Nat.{_≤_, _<_};
+ghost use Prim.Native.Nat.{_-_, _≤_, _<_};
 ghost use lib.Dec.{eqb};
 ghost use lib.ListN.{getD};
 ghost use Rattle.laws.specs.Pick.{pick};
 ghost use Rattle.laws.specs.Bit.{bit};
 ghost use Rattle.laws.specs.Ranges.{InBits};
 ghost use Rattle.bc6h_spec.specs.Picture.{weights8, weights16};
-ghost use Rattle.bc6_palette.specs.Colours.{OfBits};
-ghost use Rattle.bc6_tone.specs.Tones.{biased, pointAt, highProduct, magnitudeAt, finishAt, toneOf};
-
-// A colour carried above zero.
-pub struct Tone {
-    pub r: u16,
-    pub g: u16,
-    pub b: u16,
-}
+ghost use Rattle.bc6_tone.specs.Tones.{biased, pointAt, Step, restOf, alongAt, highProduct, magnitudeAt, finishAt};
 
 // A number of 16 bits, carried above zero.
-fn above_zero_unsigned(z: i32) -> u16
+pub fn above_zero_unsigned(z: i32) -> u16
     requires { ⌜ InBits false 16 z ⌝ }
     ensures { λ r. ⌜ r ≡ biased false z ⌝ }
 {
     z as u16
 }
 
-fn above_zero_signed(z: i32) -> u16
+pub fn above_zero_signed(z: i32) -> u16
     requires { ⌜ InBits true 16 z ⌝ }
     ensures { λ r. ⌜ r ≡ biased true z ⌝ }
 {
     (z + 0x8000) as u16
-}
-
-impl Tone {
-    pub fn unsigned(c: Colour) -> Self
-        requires { ⌜ OfBits false 16 c ⌝ }
-        ensures { λ t. ⌜ t ≡ toneOf false c ⌝ }
-    {
-        Tone {
-            r: above_zero_unsigned(c.r),
-            g: above_zero_unsigned(c.g),
-            b: above_zero_unsigned(c.b),
-        }
-    }
-
-    pub fn signed(c: Colour) -> Self
-        requires { ⌜ OfBits true 16 c ⌝ }
-        ensures { λ t. ⌜ t ≡ toneOf true c ⌝ }
-    {
-        Tone {
-            r: above_zero_signed(c.r),
-            g: above_zero_signed(c.g),
-            b: above_zero_signed(c.b),
-        }
-    }
-}
-
-pub fn wide(x: u8) -> u16
-    ensures { λ r. ⌜ r ≡ x ⌝ }
-{
-    x as u16
 }
 
 // 0, 9, 18, 27, 37, 46, 55, 64.
@@ -84,12 +45,38 @@ pub fn weight_4(i: u16) -> u16
 }
 
 // (a (64 − w) + b w + 32) / 64, from the quotients and the remainders by 64, so that no step is above 16 bits.
-pub fn point(a: u16, b: u16, w: u16) -> u16
+fn point(a: u16, b: u16, w: u16) -> u16
     requires { ⌜ w ≤ 64 ⌝ }
     ensures { λ r. ⌜ r ≡ pointAt a b w ⌝ }
 {
     let v = 64 - w;
     (a / 64) * v + (b / 64) * w + ((a % 64) * v + (b % 64) * w + 32) / 64
+}
+
+// How far a 64th of the way from a to b goes, modulo 65536 ..
+pub fn step_between(a: u16, b: u16) -> u16
+    ensures { λ r. ⌜ Step a b r ⌝ }
+{
+    let far = (b as u32) + 0x1_0000 - (a as u32);
+    ((far / 64 + 0xFC00) % 0x1_0000) as u16
+}
+
+// .. and the 64ths of one that this leaves out.
+pub fn rest_between(a: u16, b: u16) -> u16
+    ensures { λ r. ⌜ (r ≡ restOf a b) × (r < 64) ⌝ }
+{
+    let far = (b as u32) + 0x1_0000 - (a as u32);
+    (far % 64) as u16
+}
+
+// The point at weight w of the way that starts at `start`: two products where `point` has four.
+pub fn along(start: u16, step: u16, rest: u16, w: u16) -> u16
+    requires { ⌜ (w ≤ 64) × (rest < 64) ⌝ }
+    ensures { λ r. ⌜ r ≡ alongAt start step rest w ⌝ }
+{
+    let steps = ((step as u32) * (w as u32)) % 0x1_0000;
+    let rests = (rest * w + 32) / 64;
+    (((start as u32) + steps + (rests as u32)) % 0x1_0000) as u16
 }
 
 // The high half of a product.
@@ -106,19 +93,26 @@ pub fn finish_unsigned(x: u16) -> u16
     high_product(x, 31744)
 }
 
+// How far x is above y. (The compiler has one instruction for it.)
+fn past(x: u16, y: u16) -> u16
+    ensures { λ r. ⌜ r ≡ x - y ⌝ }
+{
+    if y < x { x - y } else { 0 }
+}
+
 // How far x is from 32768, which stands for zero.
 fn magnitude(x: u16) -> u16
     ensures { λ r. ⌜ (r ≡ magnitudeAt x) × (r ≤ 32768) ⌝ }
 {
-    if x < 0x8000 { 0x8000 - x } else { x - 0x8000 }
+    past(x, 0x8000) + past(0x8000, x)
 }
 
 // 31 m / 32 of the magnitude m, and the sign.
 fn pattern_signed(x: u16) -> u16
     ensures { λ r. ⌜ r ≡ finishAt true x ⌝ }
 {
-    let t = high_product(magnitude(x), 63488);
-    if x < 0x7FFF { 0x8000 + t } else { t }
+    let sign = if x < 0x7FFF { 0x8000 } else { 0 };
+    sign + high_product(magnitude(x), 63488)
 }
 
 // The pattern, and whether the number was −32768, which zero stands for.

@@ -1,6 +1,12 @@
 -- `bc6::block_pixels` meets its contract: one law for each return. Assumes nothing.
 use borrow.Author.Needs.{needs}
+use mathlib.Core.Path.{_∙_, ap}
 use native.Mathlib.Omega.{arith}
+use Prim.Native.Nat.{_≤_}
+use Rattle.bc6h_spec.specs.Fields.{modeIn, modeOf}
+use Rattle.bc6h_spec.proofs.Modes.{mode-range}
+use Rattle.bc6_paint.proofs.Link.{painted-as}
+use Rattle.bc6_picture.proofs.Whole.{block-shown}
 use Rattle.bc6.proofs.Calls.{painted-format, painted-block, painted-output, painted-done}
 use Rattle.bc6.proofs.block_pixels.Statement.{statement}
 use Rattle.bc6.proofs.block_pixels.Tie as tie
@@ -14,8 +20,23 @@ returns-2 c = painted-block _ _ _ _ (omega arith) (c .before .if2 .taken) (c .re
 returns-3 : tie.Need-returns-3
 returns-3 c = painted-output _ _ _ _ (omega arith) (omega arith) (omega arith) (c .refused3 .ensures)
 
+few : (c : tie.After-extract-mode) → c .extract-mode .result ≤ 14
+few c = rw (c .extract-mode .ensures) (mode-range _)
+
+cast-mode : tie.Need-cast-mode
+cast-mode c = let h = few c in record { fits = omega arith }
+
+show-requires : tie.Need-show-requires
+show-requires c κs = (c .before .extract-mode .ensures, omega arith)
+
 returns-4 : tie.Need-returns-4
-returns-4 c = painted-done _ _ _ _ _ (omega arith) (omega arith) (omega arith) (c .before .before .show-block .ensures)
+unfolding modeOf
+returns-4 c =
+    let shown = c .before .before in
+    let mode = shown .before .before in
+    let new = mode .before in
+    painted-done _ _ _ _ _ _ (omega arith) (omega arith) (omega arith) (mode .extract-mode .ensures ∙ ap modeIn (new .new .ensures))
+    (painted-as (shown .show .ensures) (block-shown _ _ _ (new .new .ensures)))
 
 pub block-pixels-spec : {M : Type 1} → statement M
 block-pixels-spec =
@@ -28,5 +49,8 @@ block-pixels-spec =
     (λ c κs. search needs)
     returns-3
     (λ c κs. search needs)
+    (λ c κs. search needs)
+    cast-mode
+    show-requires
     (λ c. search needs)
     returns-4)

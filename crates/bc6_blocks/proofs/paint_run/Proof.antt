@@ -8,6 +8,7 @@ use borrow.Rule.Slice.PartMut.{same-len-mid}
 use lib.ListN.{length, drop, length-take, length-drop}
 use Rattle.laws.specs.Made.{countOf}
 use Rattle.bc6h_spec.specs.Half.{minusInfinity}
+use Rattle.bc6h_spec.proofs.Modes.{mode-range}
 use Rattle.bc6_blocks.specs.Run.{runOf}
 use Rattle.bc6_blocks.proofs.Runs.{painted-part, counted-part, none-counted, run-counted, counted-most, run-start, run-step, run-end}
 use Rattle.bc6_blocks.proofs.paint_run.Statement.{statement}
@@ -24,23 +25,34 @@ abbrev μ-loop : tie.MeasureT-loop
 loop-holds : tie.Need-loop-holds Inv-loop μ-loop
 loop-holds c = (search needs, run-start _ _ _, refl, none-counted _ _)
 
-show-block-requires : tie.Need-show-block-requires Inv-loop μ-loop
-show-block-requires c κs = (simp (length-take, length-drop) (omega arith), simp (length-take, length-drop) (omega arith))
+new-requires : tie.Need-new-requires Inv-loop μ-loop
+new-requires c κs = simp (length-take, length-drop) (omega arith)
+
+few : (c : tie.After-extract-mode Inv-loop μ-loop) → c .extract-mode .result ≤ 14
+few c = rw (c .extract-mode .ensures) (mode-range _)
+
+cast-mode : tie.Need-cast-mode Inv-loop μ-loop
+cast-mode c = let h = few c in record { fits = omega arith }
+
+show-requires : tie.Need-show-requires Inv-loop μ-loop
+show-requires c κs = (c .before .extract-mode .ensures, simp (length-take, length-drop) (omega arith))
 
 add-infinite : tie.Need-add-infinite Inv-loop μ-loop
 add-infinite c =
-    let l = c .before .before .before .before .before .before .before .loop in
+    let l = c .before .before .before .before .before .before .before .before .loop in
     record { fits = omega (arith, counted-most _ _ (l .n) (l .infinite) (l .inv .3)) }
 
 loop-again : tie.Need-loop-again Inv-loop μ-loop
 loop-again c =
-    let k = c .before .before .before .show-block in
-    let l = c .before .before .before .before .before .before .before .loop in
+    let shown = c .before .before in
+    let k = shown .show in
+    let new = shown .before .before .before .new in
+    let l = shown .before .before .before .before .before .before .loop in
     let size : 16 * l .n + 16 - 16 * l .n ≡ 16 = omega arith in (
       search needs,
-      run-step _ _ _ _ _ (l .n) (l .inv .1) (l .inv .2) (omega arith) (painted-part _ (l .n) (16 * l .n + 16 - 16 * l .n) _ _ _ _ (k .ensures) size),
-      same-len-mid {X = ℕ} (48 * l .n) (length (l .out) - 48 * l .n) (l .out) (k .last .1 .1 .0) (k .kept .1 .1 .0) ∙ l .inv .2,
-      run-counted _ _ (l .n) (l .infinite) _ (l .inv .3) (counted-part _ (l .n) (16 * l .n + 16 - 16 * l .n) _ _ _ _ (k .ensures) size),
+      run-step _ _ _ _ _ (l .n) (l .inv .1) (l .inv .2) (omega arith) (painted-part _ (l .n) (16 * l .n + 16 - 16 * l .n) _ _ _ _ _ (new .ensures) (k .ensures) size),
+      same-len-mid {X = ℕ} (48 * l .n) (length (l .out) - 48 * l .n) (l .out) (k .last .1 .1 .1 .1 .0) (k .kept .1 .1 .1 .1 .0) ∙ l .inv .2,
+      run-counted _ _ (l .n) (l .infinite) _ (l .inv .3) (counted-part _ (l .n) (16 * l .n + 16 - 16 * l .n) _ _ _ _ _ (new .ensures) (k .ensures) size),
     )
 
 returns : tie.Need-returns Inv-loop μ-loop
@@ -59,11 +71,14 @@ paint-run-spec =
     (λ c. search needs)
     (λ c. search needs)
     (λ c. search needs)
+    new-requires
+    (λ c κs. search needs)
+    cast-mode
     (λ c. search needs)
     (λ c. search needs)
     (λ c. search needs)
     (λ c. search needs)
-    show-block-requires
+    show-requires
     (λ c. search needs)
     add-infinite
     (λ c. search needs)

@@ -2,45 +2,42 @@
 use borrow.Author.Needs.{needs}
 use Prim.Native.Nat.{_<_}
 use lib.Dec.{lit≤}
-use lib.ListN.{getD}
 use Rattle.bc6_fields.proofs.Whole.{few-ones, fixup-range, narrow, partition-fits, one-region, two-regions}
 use Rattle.bc6_fields.proofs.fields_from.Statement.{statement}
 use Rattle.bc6_fields.proofs.fields_from.Tie as tie
 
-part : (c : tie.Then1) → getD (c .before .before .args .t3) 13 0 < 32
-part c = let p = c .before .before .pre in partition-fits _ _ (p .0) (p .1) (p .2)
+part : (c : tie.Then1) → c .before .args .partition < 32
+part c = let p = c .before .pre in partition-fits _ _ (p .0 .0) (p .0 .1) (p .2 (c .if1 .taken))
 
 new-p2-requires : tie.Need-new-p2-requires
 new-p2-requires c κs =
     let f = fixup-range _ (part (c .before .before .before)) (c .before .before .of .ensures) in
     (search needs, search needs, f .0, f .1)
 
-cast-partition : tie.Need-cast-t21
+cast-partition : tie.Need-cast-t15
 cast-partition c = let h = part (c .before .before .before .before) in search needs
 
-cast-ones : tie.Need-cast-t23
+cast-ones : tie.Need-cast-t17
 cast-ones c = let h = few-ones _ (c .count-ones .ensures) in search needs
 
 returns : tie.Need-returns
 returns c =
-    let p = c .before .before .before .before .before .before .before .before .pre in
-    two-regions _ _ (p .0) (p .1) (p .2) _ (c .before .before .before .before .before .before .before .endpoints-of .ensures)
-    (c .before .before .before .before .before .of .ensures) (c .before .before .before .before .before .before .if1 .taken)
-    (c .before .before .before .before .skip .ensures) (c .before .before .new-p2 .ensures) (c .indices-of .ensures) (c .before .count-ones .ensures)
+    let of = c .before .before .before .before .before in
+    let p = of .before .before .pre in
+    let two = of .before .if1 .taken in
+    two-regions _ _ (p .0 .0) (p .0 .1) (p .1) _ (p .2 two) (of .of .ensures) two (c .before .before .before .before .skip .ensures)
+    (c .before .before .new-p2 .ensures) (c .indices-of .ensures) (c .before .count-ones .ensures)
 
 returns-2 : tie.Need-returns-2
 returns-2 c =
-    let p = c .before .before .before .before .before .pre in
-    one-region _ _ (p .0) (p .1) (p .2) _ (c .before .before .before .before .endpoints-of .ensures) (c .before .before .before .if1 .left)
+    let p = c .before .before .before .before .pre in
+    one-region _ _ (p .0 .0) (p .0 .1) (p .1) _ (c .before .before .before .if1 .left)
     (c .before .before .skip2 .ensures) (c .before .new-p1 .ensures) (c .indices-of2 .ensures)
 
 pub fields-from-spec : {M : Type 1} → statement M
 fields-from-spec =
     tie.close
     (tie.spec
-    (λ c κs. search needs)
-    (λ c. search needs)
-    (λ c. search needs)
     (λ c κs. part c)
     (λ c κs. search needs)
     (λ c. search needs)

@@ -3,7 +3,7 @@ use borrow.Author.Needs.{needs}
 use borrow.Author.Tests.{le-leb, lt-leb}
 use mathlib.Core.Path.{ap, _∙_}
 use lib.ListN.{replicate}
-use Rattle.bc6.proofs.Whole.{valid}
+use Rattle.bc6_plain.proofs.Whole.{valid}
 use Rattle.bc6_plain.proofs.Flat.{reserved, decoded}
 use Rattle.bc6_plain.proofs.decode_bc6_block.Statement.{statement}
 use Rattle.bc6_plain.proofs.decode_bc6_block.Tie as tie

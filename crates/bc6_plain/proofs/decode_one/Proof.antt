@@ -2,7 +2,7 @@
 use borrow.Author.Needs.{needs}
 use lib.Dec.{lit<}
 use Rattle.bc6_palette.proofs.Ends.{a0-is, palette-asks}
-use Rattle.bc6_paint.proofs.Link.{indices-16}
+use Rattle.bc6_plain.proofs.Whole.{indices-16}
 use Rattle.bc6_plain.proofs.Flat.{one-painted}
 use Rattle.bc6_plain.proofs.decode_one.Statement.{statement}
 use Rattle.bc6_plain.proofs.decode_one.Tie as tie

@@ -4,7 +4,7 @@ use mathlib.Core.Path.{ap}
 use lib.Dec.{lit<}
 use Rattle.bcn_data.specs.declared.Subset2Map.{Subset2Map}
 use Rattle.bc6_palette.proofs.Ends.{a0-is, palette-asks}
-use Rattle.bc6_paint.proofs.Link.{indices-8}
+use Rattle.bc6_plain.proofs.Whole.{indices-8}
 use Rattle.bc6_plain.proofs.Flat.{two-painted}
 use Rattle.bc6_plain.proofs.decode_two.Statement.{statement}
 use Rattle.bc6_plain.proofs.decode_two.Tie as tie

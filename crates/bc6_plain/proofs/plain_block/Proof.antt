@@ -8,7 +8,7 @@ use Rattle.bc6h_spec.proofs.Modes.{mode-range}
 use Rattle.bc6h_spec.proofs.Values.{length-pixels}
 use Rattle.bc6_plain.specs.Triples.{flat, Marked}
 use Rattle.bc6_plain.proofs.Flat.{flat-triples, triples-marked}
-use Rattle.bc6.proofs.Whole.{shown-values}
+use Rattle.bc6_plain.proofs.Whole.{shown-values}
 use Rattle.bc6_plain.proofs.plain_block.Statement.{statement}
 use Rattle.bc6_plain.proofs.plain_block.Tie as tie
 

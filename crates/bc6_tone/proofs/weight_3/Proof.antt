@@ -1,7 +1,7 @@
 -- `bc6_tone::weight_3` meets its contract. Assumes nothing.
 use borrow.Author.Needs.{needs}
 use native.Mathlib.Omega.{arith}
-use Rattle.bc6_palette.proofs.Weights.{three}
+use Rattle.bc6_half.proofs.Weights.{three}
 use Rattle.bc6_tone.proofs.weight_3.Statement.{statement}
 use Rattle.bc6_tone.proofs.weight_3.Tie as tie
 

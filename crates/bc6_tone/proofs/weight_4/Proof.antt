@@ -1,7 +1,7 @@
 -- `bc6_tone::weight_4` meets its contract. Assumes nothing.
 use borrow.Author.Needs.{needs}
 use native.Mathlib.Omega.{arith}
-use Rattle.bc6_palette.proofs.Weights.{four}
+use Rattle.bc6_half.proofs.Weights.{four}
 use Rattle.bc6_tone.proofs.weight_4.Statement.{statement}
 use Rattle.bc6_tone.proofs.weight_4.Tie as tie
 

@@ -9,16 +9,17 @@ use native.Mathlib.Omega.{arith}
 use lib.Dec.{eqb, ltb, lit<, eqb·suc-zero}
 use lib.IntN.{ℤ, pos, negsuc, _+ℤ_, _-ℤ_, +ℤ-idl, +ℤ-idr}
 use lib.ListN.{length, getD, set, drop}
-use lib.Pow.{pow-pos, pow-mono}
+use lib.Pow.{pow-pos}
 use borrow.Author.Tests.{lt-ltb, le-ltb}
 use Rattle.laws.specs.Pick.{pick}
 use Rattle.laws.specs.Made.{made}
-use Rattle.laws.specs.Ranges.{InBits, Within}
+use Rattle.laws.specs.Ranges.{Within}
 use Rattle.laws.proofs.Rows.{made-none, made-store, made-same}
 use Rattle.laws.proofs.Num.{minus}
 use Rattle.bc6h_spec.specs.Half.{signExtend, keep, transform, unquantized}
 use Rattle.bc6h_spec.specs.Picture.{firstEnd, delta, otherEnd}
 use Rattle.bc6h_spec.proofs.Ranges.{first-in, delta-within}
+use Rattle.bc6_palette.proofs.Ends.{wider}
 use Rattle.bc6_tone.specs.Tones.{biased}
 use Rattle.bc6_ends.specs.Ends.{Stored, endFrom, toneFrom, baseOf, leadOf, endOver}
 
@@ -105,10 +106,6 @@ lane-fits moved p w count (x ∷ xs) st (suc e) h = st .other (suc e) (omega ari
 
 pub base-in : (s moved : Bool) (p n : ℕ) → 0 < p → p ≤ 16 → n < 2 ^ p → Within 65536 (baseOf s moved p n)
 base-in s true p n h k l = wider s p (firstEnd s p n) k (first-in s p n h l)
-  where
-    wider : (s : Bool) (p : ℕ) (z : ℤ) → p ≤ 16 → InBits s p z → Within 65536 z
-    wider true p z h r = let l : 2 ^ (p - 1) ≤ 2 ^ 15 = pow-mono {j = 15} (omega arith) in record { inside = omega (arith, l, r .inside) }
-    wider false p z h r = let l : 2 ^ p ≤ 2 ^ 16 = pow-mono {j = 16} h in record { inside = omega (arith, l, r .inside) }
 base-in s false p n h k l = record { inside = lit< tt }
 
 -- what stands behind the four is as it was

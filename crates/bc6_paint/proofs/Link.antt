@@ -23,9 +23,6 @@ worked-out s a b w ia ib h =
     (interpolated-in s a b (pos w) (record { nonneg = tt; below = omega arith }) ia ib))
 
 -- the same values, under another name
-pub written-as : (x y out after : List ℕ) → after ≡ x ++ drop 48 out → x ≡ y → after ≡ y ++ drop 48 out
-written-as x y out after h e = h ∙ ap (λ (l : List ℕ). l ++ drop 48 out) e
-
 pub painted-as : {x y out after : List ℕ} {n : ℕ} → PaintedAs x out n after → x ≡ y → PaintedAs y out n after
 painted-as {out = out} {after = after} {n = n} h e = subst (λ (l : List ℕ). PaintedAs l out n after) e h
 

@@ -65,8 +65,32 @@ impl Answer {
 
     pub const RESERVED_BLOCK: u8 = 12;
 
+    pub const FOREIGN_HEADER: u8 = 13;
+
+    pub const BAD_SIZE: u8 = 14;
+
+    pub const BAD_BLOCKS: u8 = 15;
+
+    pub const UNEVEN_SIZE: u8 = 16;
+
+    pub const BAD_PLACE: u8 = 17;
+
+    pub const PLACED_RECORD: u8 = 18;
+
+    pub const BAD_EDGE: u8 = 19;
+
+    pub const UNPLACED_RECORD: u8 = 20;
+
+    pub const PAST_EDGE: u8 = 21;
+
+    pub const TAKEN_PLACE: u8 = 22;
+
+    pub const EMPTY_PLACE: u8 = 23;
+
+    pub const NO_PIXEL: u8 = 24;
+
     // The constants are the numbers of specs/Answers.
-    pub fn all() -> [u8; 13]
+    pub fn all() -> [u8; 25]
         ensures { λ r. ⌜ r ≡ answers ⌝ }
     {
         [
@@ -83,6 +107,18 @@ impl Answer {
             Answer::INVALID_RECORD,
             Answer::BAD_BUFFER,
             Answer::RESERVED_BLOCK,
+            Answer::FOREIGN_HEADER,
+            Answer::BAD_SIZE,
+            Answer::BAD_BLOCKS,
+            Answer::UNEVEN_SIZE,
+            Answer::BAD_PLACE,
+            Answer::PLACED_RECORD,
+            Answer::BAD_EDGE,
+            Answer::UNPLACED_RECORD,
+            Answer::PAST_EDGE,
+            Answer::TAKEN_PLACE,
+            Answer::EMPTY_PLACE,
+            Answer::NO_PIXEL,
         ]
     }
 }

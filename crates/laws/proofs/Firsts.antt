@@ -40,6 +40,13 @@ module _ (test : ℕ → Bool) where
   first-never f zero = refl
   first-never f (suc n) = rw (le-ltb (firstBelow test n) n (let e = first-never f n in omega arith), f n)
 
+  pub first-most : (n : ℕ) → firstBelow test n ≤ n
+  unfolding firstBelow
+  first-most zero = omega arith
+  first-most (suc n) =
+      cases (ltb (firstBelow test n) n) (λ l. let b : firstBelow test n < n = ltb-true _ _ l in rw l (omega arith))
+      (λ l. cases (test n) (λ t. rw (l, t) (omega arith)) (λ f. rw (l, f) (omega arith)))
+
   pub first-passes : (n : ℕ) → firstBelow test n < n → test (firstBelow test n) ≡ true
   unfolding firstBelow
   first-passes zero h = absurd (not-suc-le-zero h)

@@ -1,6 +1,6 @@
 -- What a test that holds over a range or a list shows at each place. Assumes nothing.
 use mathlib.Core.Path.{_≡_, refl, sym, subst}
-use mathlib.Core.Bool.{Bool, true, false}
+use mathlib.Core.Bool.{Bool, true, false, _&&_, _||_}
 use mathlib.Core.List.{List, [], _∷_}
 use Prim.Native.Nat.{ℕ, zero, suc, _+_, _-_, _<_, _≤_}
 use native.Mathlib.Nat.{not-suc-le-zero, le-of-suc-le-suc}
@@ -32,6 +32,15 @@ both-right false b t = absurd t
 pub both-true : (a b : Bool) → both a b ≡ true → (a ≡ true) × (b ≡ true)
 both-true true b e = (refl, e)
 both-true false b e = absurd (subst T (sym e) tt)
+
+-- the code's tests
+pub and-both : (a b : Bool) → (a && b) ≡ both a b
+and-both true b = refl
+and-both false b = refl
+
+pub or-either : (a b : Bool) → (a || b) ≡ either a b
+or-either true b = refl
+or-either false b = refl
 
 -- the other test, where the first fails
 pub either-right : (a b : Bool) → a ≡ false → T (either a b) → T b

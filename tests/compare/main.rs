@@ -1,7 +1,10 @@
 //! Feeds our decoder and the Rust the same blocks and compares every value, mode, field and refusal.
 //!
 //!     compare short|long [SEED]                     through the archive (built with --cfg archive)
-//!     compare programs DECODE EXTRACT WRITE [SEED]  through the programs decode_blocks, extract_fields and write_blocks
+//!     compare programs DECODE EXTRACT WRITE [SEED]  through the programs decode_blocks, extract_fields and write_blocks, or others
+//!                                                   that answer as they do
+//!     compare runs PROGRAM [SEED]                   through a program over the call for a run of blocks
+//!     compare decode                                writes what decode_blocks must write for its standard input
 //!     compare entries SEED                          writes the list that the program replay reads
 //!     compare emit COUNT FORMAT SEED                writes 17-byte records, COUNT of them random, for other drivers
 mod blocks;
@@ -88,10 +91,12 @@ fn main() -> ExitCode {
         #[cfg(archive)]
         Some("long") => archive::compare(&Extent { pair_step: 1, random: 5_000_000, seed: number(&words, 1, 1) }, &mut tally),
         Some("programs") if words.len() >= 4 => programs::compare(&words[1], &words[2], &words[3], number(&words, 4, 1), &mut tally),
+        Some("runs") if words.len() >= 2 => programs::compare_runs(&words[1], number(&words, 2, 1), &mut tally),
+        Some("decode") => return programs::decode(),
         Some("entries") => return programs::entries(number(&words, 1, 1)),
         Some("emit") => return programs::emit(number(&words, 1, 1), number(&words, 2, 0), number(&words, 3, 1)),
         _ => {
-            eprintln!("usage: compare short|long [SEED] | programs DECODE EXTRACT WRITE [SEED] | entries SEED | emit COUNT FORMAT SEED");
+            eprintln!("usage: compare short|long [SEED] | programs DECODE EXTRACT WRITE [SEED] | runs PROGRAM [SEED] | decode | entries SEED | emit COUNT FORMAT SEED");
             return ExitCode::from(2);
         }
     }

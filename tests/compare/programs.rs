@@ -1,4 +1,4 @@
-//! Our side as programs: decode_blocks (17 bytes in, 98 out), extract_fields (17 in, 45 out), and write_blocks (44 in, 17 out),
+//! Our side as programs: decode_blocks (17 bytes in, 100 out), extract_fields (17 in, 45 out), and write_blocks (44 in, 17 out),
 //! which is given what extract_fields writes after its answers.
 use crate::blocks::{Mode, NAMED};
 use crate::{field_numbers, Tally};
@@ -19,20 +19,27 @@ fn answers(program: &str, input: &[u8]) -> Vec<u8> {
     output
 }
 
-/// The 98 bytes for a record; a format above 1 and a block that is not whole are refused.
-fn decoded(record: &[u8]) -> [u8; 98] {
-    let mut answer = [0; 98];
+/// The 100 bytes for a record: answer, mode, count of minus infinities, 48 values; a format above 1 and a block that is not whole are
+/// refused.
+fn decoded(record: &[u8]) -> [u8; 100] {
+    let mut answer = [0; 100];
     match (record[0], <[u8; 16]>::try_from(&record[1..])) {
         (2.., _) => answer[0] = 1,
         (_, Err(_)) => answer[0] = 2,
         (format, Ok(block)) => {
+            let values = oracle::pixels(block, format == 1);
             answer[1] = oracle::mode(block);
-            for (value, bytes) in oracle::pixels(block, format == 1).iter().flatten().zip(answer[2..].chunks_mut(2)) {
+            answer[2..4].copy_from_slice(&infinities(values.as_flattened()).to_le_bytes());
+            for (value, bytes) in values.iter().flatten().zip(answer[4..].chunks_mut(2)) {
                 bytes.copy_from_slice(&value.to_le_bytes());
             }
         }
     }
     answer
+}
+
+fn infinities(values: &[u16]) -> u16 {
+    values.iter().filter(|&&value| value == 0xFC00).count() as u16
 }
 
 /// The 45 bytes for a record: answer, format, mode, twelve endpoints of two bytes, partition, region count, sixteen indices.
@@ -94,13 +101,47 @@ pub fn compare(decode: &str, extract: &str, write: &str, seed: u64, tally: &mut 
     }
     records.extend([1, 0x0F, 0, 0]);
     let expected: Vec<u8> = records.chunks(17).flat_map(decoded).collect();
-    compare_run("decode_blocks", &records, &answers(decode, &records), &expected, 98, tally);
+    compare_run("decode_blocks", &records, &answers(decode, &records), &expected, 100, tally);
     let expected: Vec<u8> = records.chunks(17).flat_map(extracted).collect();
     let fields = answers(extract, &records);
     compare_run("extract_fields", &records, &fields, &expected, 45, tally);
     let fields: Vec<u8> = fields.chunks(45).flat_map(|piece| &piece[1..]).copied().collect();
     let expected: Vec<u8> = records.chunks(17).flat_map(written_back).collect();
     compare_run("write_blocks", &records, &answers(write, &fields), &expected, 17, tally);
+}
+
+/// The same blocks in runs of one format, of 0 to 199 blocks, through the call over a run: a format, a count and the blocks in; the
+/// number, the blocks done, the count of minus infinities and the values out.
+pub fn compare_runs(program: &str, seed: u64, tally: &mut Tally) {
+    let blocks = sample(seed);
+    let (mut input, mut expected, mut runs) = (Vec::new(), Vec::new(), Vec::new());
+    let (mut rest, mut n) = (blocks.as_slice(), 0usize);
+    while !rest.is_empty() {
+        let (run, left) = rest.split_at((n * 7 % 200).min(rest.len()));
+        let format = (n % 3 % 2) as u8;
+        let values: Vec<u16> = run.iter().flat_map(|&block| oracle::pixels(block, format == 1)).flatten().collect();
+        input.push(format);
+        input.extend((run.len() as u16).to_le_bytes());
+        input.extend(run.as_flattened());
+        let start = expected.len();
+        for count in [0, run.len() as u32, values.iter().filter(|&&value| value == 0xFC00).count() as u32] {
+            expected.extend(count.to_le_bytes());
+        }
+        expected.extend(values.iter().flat_map(|value| value.to_le_bytes()));
+        runs.push((format, run, start..expected.len()));
+        rest = left;
+        n += 1;
+    }
+    let output = answers(program, &input);
+    if output.len() != expected.len() {
+        tally.differs(&format!("runs wrote {} bytes for {}", output.len(), expected.len()), 0, &[]);
+    }
+    for (format, run, place) in runs {
+        tally.compared += 1;
+        if output.get(place.clone()) != Some(&expected[place]) {
+            tally.differs("a run of blocks", format, run.as_flattened());
+        }
+    }
 }
 
 /// B1 to B11, every block of at most two bits over each code or two short of all, and random ones.
@@ -119,7 +160,7 @@ pub fn emit(count: u64, format: u64, seed: u64) -> ExitCode {
     ExitCode::SUCCESS
 }
 
-/// The list that the program replay reads: each entry is a record of 17 bytes and the Rust's 98 bytes for it. Both formats of
+/// The list that the program replay reads: each entry is a record of 17 bytes and the Rust's 100 bytes for it. Both formats of
 /// B1 to B11 and, for each code, no bit and every bit above it, random blocks and a run through the extreme endpoints.
 pub fn entries(seed: u64) -> ExitCode {
     let mut blocks = NAMED.to_vec();
@@ -144,5 +185,14 @@ pub fn entries(seed: u64) -> ExitCode {
         }
     }
     output.flush().expect("standard output");
+    ExitCode::SUCCESS
+}
+
+/// What decode_blocks must write for the records of standard input.
+pub fn decode() -> ExitCode {
+    let mut records = Vec::new();
+    std::io::stdin().read_to_end(&mut records).expect("standard input");
+    let bytes: Vec<u8> = records.chunks(17).flat_map(decoded).collect();
+    std::io::stdout().write_all(&bytes).expect("standard output");
     ExitCode::SUCCESS
 }

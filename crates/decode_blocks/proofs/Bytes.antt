@@ -36,28 +36,31 @@ two-stored values out₀ out j x y ex ey h r e =
     let e2 = made-store (halfAt values) out₀ _ _ (2 * j + 1) y e1 refl (ey ∙ high values j) (omega arith) in
     e2 ∙ ap (λ (n : ℕ). made (halfAt values) n ++ drop n out₀) end
 
--- the output once its first two bytes are stored
-abbrev pub headed : Pixels → List ℕ → List ℕ
-headed shown out = set (set out 0 (shown .answer)) 1 (shown .mode)
+-- the output once its first four bytes are stored: answer, mode, and the count's two bytes
+abbrev pub headed : Pixels → ℕ → ℕ → List ℕ → List ℕ
+headed shown low high out = set (set (set (set out 0 (shown .answer)) 1 (shown .mode)) 2 low) 3 high
 
-pub headed-length : (shown : Pixels) (out : List ℕ) → length (headed shown out) ≡ length out
-headed-length shown out = simp length-set
+pub headed-length : (shown : Pixels) (low high : ℕ) (out : List ℕ) → length (headed shown low high out) ≡ length out
+headed-length shown low high out = simp length-set
 
--- the bytes after those two are lent on, and come back
-pub head-stored : (shown : Pixels) (values out last : List ℕ) → 98 ≤ length out
-    → last ≡ made (halfAt values) 96 ++ drop 96 (take (length (headed shown out) - 2) (drop 2 (headed shown out)))
-    → take 2 (headed shown out) ++ (last ++ drop (length (headed shown out) - 2) (drop 2 (headed shown out))) ≡ shownBytes shown values ++ drop 98 out
+-- the bytes after those four are lent on, and come back
+pub head-stored : (shown : Pixels) (low high : ℕ) (values out last : List ℕ) → low ≡ shown .infinite % 256 → high ≡ shown .infinite / 256 → 100 ≤ length out
+    → last ≡ made (halfAt values) 96 ++ drop 96 (take (length (headed shown low high out) - 4) (drop 4 (headed shown low high out)))
+    → take 4 (headed shown low high out) ++ (last ++ drop (length (headed shown low high out) - 4) (drop 4 (headed shown low high out))) ≡ shownBytes shown values ++ drop 100 out
 unfolding shownBytes
-head-stored shown values [] last h e = absurd (omega arith)
-head-stored shown values (x ∷ []) last h e = absurd (omega arith)
-head-stored shown values (x ∷ y ∷ out) last h e =
-    let k = length (headed shown (x ∷ y ∷ out)) - 2 in
+head-stored shown low high values [] last el eh h e = absurd (omega arith)
+head-stored shown low high values (x ∷ []) last el eh h e = absurd (omega arith)
+head-stored shown low high values (x ∷ y ∷ []) last el eh h e = absurd (omega arith)
+head-stored shown low high values (x ∷ y ∷ z ∷ []) last el eh h e = absurd (omega arith)
+head-stored shown low high values (x ∷ y ∷ z ∷ u ∷ out) last el eh h e =
+    let k = length (headed shown low high (x ∷ y ∷ z ∷ u ∷ out)) - 4 in
     let whole : length out ≤ k = omega arith in
     let none : drop k out ≡ [] = drop-of-length-le out whole in
     let all : take k out ≡ out = take-all k out whole in
     let bytes = made (halfAt values) 96 in
-    ap (λ (l : List ℕ). shown .answer ∷ shown .mode ∷ l)
+    ap (λ (l : List ℕ). shown .answer ∷ shown .mode ∷ low ∷ high ∷ l)
     (ap (λ (l : List ℕ). last ++ l) none ∙ append-nil last ∙ e ∙ ap (λ (l : List ℕ). bytes ++ drop 96 l) all)
+    ∙ (λ i. shown .answer ∷ shown .mode ∷ el i ∷ eh i ∷ (bytes ++ drop 96 out))
 
 -- what the call answered and left, of the block bytes that are there
 pub record-is : (piece block : List ℕ) (shown : Pixels) (values : List ℕ) → block ≡ blockIn piece

@@ -1,4 +1,4 @@
--- The 98 bytes that are written for a record. Assumes nothing.
+-- The 100 bytes that are written for a record. Assumes nothing.
 use mathlib.Core.List.{List, _∷_}
 use Prim.Native.Nat.{ℕ, _/_, _%_}
 use lib.Dec.{eqb}
@@ -12,9 +12,9 @@ use Rattle.bc6.specs.Call.{refusalOf, answerAt, valuesAt}
 unfoldable pub halfAt : List ℕ → ℕ → ℕ
 halfAt values k = pick (eqb (k % 2) 0) (getD values (k / 2) 0 % 256) (getD values (k / 2) 0 / 256)
 
--- "answer, mode, 48 values of two bytes, low byte first"
+-- answer, mode, the count of minus infinities and 48 values of two bytes each, low byte first
 unfoldable pub shownBytes : Pixels → List ℕ → List ℕ
-shownBytes shown values = shown .answer ∷ shown .mode ∷ made (halfAt values) 96
+shownBytes shown values = shown .answer ∷ shown .mode ∷ shown .infinite % 256 ∷ shown .infinite / 256 ∷ made (halfAt values) 96
 
 -- the format, and the block bytes that are there
 abbrev pub formatIn : List ℕ → ℕ

@@ -1,5 +1,5 @@
-// Standard input is a run of 17-byte records: a format byte and the sixteen bytes of a block. For each it writes 98 bytes: the answer,
-// the mode, and 48 values of two bytes, low byte first, all zero on a refusal. A last piece below 17 bytes goes to the call with the
+// Standard input is a run of 17-byte records: a format byte and the sixteen bytes of a block. For each it writes 100 bytes: the answer,
+// the mode, the count of minus infinities and 48 values of two bytes each, low byte first, all zero on a refusal. A last piece below 17 bytes goes to the call with the
 // block bytes that it has.
 use bc6::Pixels;
 use libc::STDIN_FILENO;
@@ -19,7 +19,7 @@ struct Record {
 impl Record {
     const SIZE: usize = 17;
 
-    const SHOWN: usize = 98;
+    const SHOWN: usize = 100;
 }
 
 fn low_byte(value: u16) -> u8
@@ -47,17 +47,21 @@ fn put_values(values: [u16; 48], out: &mut [u8])
 }
 
 fn put_shown(shown: Pixels, values: [u16; 48], out: &mut [u8])
-    requires { ⌜ 98 ≤ length (now out) ⌝ }
-    ensures { λ r. ⌜ now (out .exit) ≡ shownBytes shown values ++ drop 98 (now (out .entry)) ⌝ }
+    requires { ⌜ 100 ≤ length (now out) ⌝ }
+    ensures { λ r. ⌜ now (out .exit) ≡ shownBytes shown values ++ drop 100 (now (out .entry)) ⌝ }
 {
+    let low = low_byte(shown.infinite);
+    let high = high_byte(shown.infinite);
     out[0] = shown.answer;
     out[1] = shown.mode;
-    put_values(values, &mut out[2..]);
+    out[2] = low;
+    out[3] = high;
+    put_values(values, &mut out[4..]);
 }
 
 fn decode_record(piece: &[u8], out: &mut [u8])
-    requires { ⌜ (1 ≤ length (now piece)) × (98 ≤ length (now out)) ⌝ }
-    ensures { λ r. ⌜ now (out .exit) ≡ recordBytes (now (piece .entry)) ++ drop 98 (now (out .entry)) ⌝ }
+    requires { ⌜ (1 ≤ length (now piece)) × (100 ≤ length (now out)) ⌝ }
+    ensures { λ r. ⌜ now (out .exit) ≡ recordBytes (now (piece .entry)) ++ drop 100 (now (out .entry)) ⌝ }
 {
     let format = piece[0];
     let mut values = [0u16; 48];
@@ -79,8 +83,8 @@ fn piece_end(at: usize, size: usize) -> usize
 
 // What is written for the records of `input`, and how many bytes that is.
 fn decode_records(input: &[u8], out: &mut [u8]) -> usize
-    requires { ⌜ 98 * ((length (now input) + 16) / 17) ≤ length (now out) ⌝ }
-    ensures { λ r. ⌜ r ≡ 98 * ((length (now (input .entry)) + 16) / 17) ⌝ }
+    requires { ⌜ 100 * ((length (now input) + 16) / 17) ≤ length (now out) ⌝ }
+    ensures { λ r. ⌜ r ≡ 100 * ((length (now (input .entry)) + 16) / 17) ⌝ }
 {
     let size = input.len();
     let count = (size + 16) / 17;
@@ -97,7 +101,7 @@ fn decode_records(input: &[u8], out: &mut [u8]) -> usize
 
 // The same, written in one go.
 fn write_batch(input: &[u8], out: &mut [u8]) -> bool
-    requires { ⌜ 98 * ((length (now input) + 16) / 17) ≤ length (now out) ⌝ }
+    requires { ⌜ 100 * ((length (now input) + 16) / 17) ≤ length (now out) ⌝ }
 {
     let done = decode_records(input, out);
     io::write_all(STDOUT_FILENO, &out[..done])
@@ -106,7 +110,7 @@ fn write_batch(input: &[u8], out: &mut [u8]) -> bool
 // Reads 1,024 records, writes what they show, and answers whether to go on.
 fn decode_some() -> bool {
     let mut input = [0u8; 17408];
-    let mut out = [0u8; 100352];
+    let mut out = [0u8; 102400];
     let got = io::read_full(STDIN_FILENO, &mut input);
     write_batch(&input[..got], &mut out) && got == 17408
 }

@@ -14,7 +14,7 @@ use Rattle.laws.proofs.Sameness.{same-all, same-not}
 use Rattle.bc6h_spec.specs.Picture.{valueCount}
 use Rattle.bc6.specs.declared.Pixels.{Pixels}
 use Rattle.bc6.specs.Call.{Painted, refusalOf, answerAt, valuesAt}
-use Rattle.replay.specs.Entries.{entrySize, formatIn, blockIn, valueIn, valuesIn, numberFor, valuesFor, agrees, countAt, agreeing}
+use Rattle.replay.specs.Entries.{entrySize, formatIn, blockIn, valueIn, valuesIn, infiniteIn, numberFor, valuesFor, agrees, countAt, agreeing}
 
 module _ (values bytes : List ℕ) where
   pub not-same : (k : ℕ) → k < valueCount → (getD values k 0 ≡ valueIn bytes k → ⊥) → false ≡ same values (valuesIn bytes)
@@ -38,9 +38,14 @@ module _ (entry : List ℕ) (p : Pixels) (after : List ℕ) (d : Painted (blockI
   unfolding agrees
   other-mode a e = rw (← d .answers, eq-eqb _ _ a, ne-eqb _ _ e)
 
-  pub by-values : {r : Bool} → r ≡ same after (valuesIn (take 96 (drop 19 entry))) → p .answer ≡ getD entry 17 0 → p .mode ≡ getD entry 18 0 → r ≡ agrees entry
+  pub other-count : {count : ℕ} → count ≡ infiniteIn entry → p .answer ≡ getD entry 17 0 → p .mode ≡ getD entry 18 0 → (p .infinite ≡ count → ⊥) → false ≡ agrees entry
   unfolding agrees
-  by-values s a e = s ∙ rw (← d .answers, eq-eqb _ _ a, eq-eqb _ _ e, ← d .holds)
+  other-count c a m e = rw (← d .answers, eq-eqb _ _ a, eq-eqb _ _ m, ← c, ne-eqb _ _ e)
+
+  pub by-values : {r : Bool} {count : ℕ} → r ≡ same after (valuesIn (take 96 (drop 21 entry))) → count ≡ infiniteIn entry → p .answer ≡ getD entry 17 0
+      → p .mode ≡ getD entry 18 0 → p .infinite ≡ count → r ≡ agrees entry
+  unfolding agrees
+  by-values s c a m i = s ∙ rw (← d .answers, eq-eqb _ _ a, eq-eqb _ _ m, ← c, eq-eqb _ _ i, ← d .holds)
 
 module _ (list : List ℕ) (n : ℕ) where
   pub counts-one : {t : Bool} (size : ℕ) → t ≡ agrees (take size (drop (n * entrySize) list)) → size ≡ entrySize → t ≡ true → 1 ≡ countAt list n

@@ -11,9 +11,10 @@ use Rattle.bc6h_spec.specs.Bits.{blockSize}
 use Rattle.bc6h_spec.specs.Picture.{valueCount}
 use Rattle.bc6.specs.Call.{refusalOf, answerAt, valuesAt}
 
--- an entry: a format byte, a block, and what is answered to them: a number, a mode and 48 values of two bytes
+-- an entry: a format byte, a block, and what is answered to them: a number, a mode, the count of
+-- minus infinities and 48 values of two bytes each
 abbrev pub entrySize : ℕ
-entrySize = 115
+entrySize = 117
 
 abbrev pub formatIn : List ℕ → ℕ
 formatIn entry = getD entry 0 0
@@ -28,6 +29,10 @@ valueIn bytes k = getD bytes (2 * k) 0 + getD bytes (2 * k + 1) 0 * 0x100
 unfoldable pub valuesIn : List ℕ → List ℕ
 valuesIn bytes = made (valueIn bytes) valueCount
 
+-- the count of minus infinities
+unfoldable pub infiniteIn : List ℕ → ℕ
+infiniteIn entry = getD entry 19 0 + getD entry 20 0 * 0x100
+
 -- what our call answers to an entry's block: room for 48 values, all of them zero before
 abbrev pub numberFor : List ℕ → ℕ
 numberFor entry = refusalOf (formatIn entry) (length (blockIn entry)) valueCount
@@ -35,12 +40,13 @@ numberFor entry = refusalOf (formatIn entry) (length (blockIn entry)) valueCount
 abbrev pub valuesFor : List ℕ → List ℕ
 valuesFor entry = valuesAt (numberFor entry) (blockIn entry) (formatIn entry) (replicate valueCount 0)
 
--- our number, mode and values are the entry's
+-- our number, mode, count and values are the entry's
 unfoldable pub agrees : List ℕ → Bool
 agrees entry =
     both (eqb (answerAt (numberFor entry) (blockIn entry) (formatIn entry) .answer) (getD entry 17 0))
     (both (eqb (answerAt (numberFor entry) (blockIn entry) (formatIn entry) .mode) (getD entry 18 0))
-    (same (valuesFor entry) (valuesIn (take 96 (drop 19 entry)))))
+    (both (eqb (answerAt (numberFor entry) (blockIn entry) (formatIn entry) .infinite) (infiniteIn entry))
+    (same (valuesFor entry) (valuesIn (take 96 (drop 21 entry))))))
 
 -- 1 where entry n agrees, else 0
 unfoldable pub countAt : List ℕ → ℕ → ℕ

@@ -1,5 +1,5 @@
 // Replays a fixed list of the Rust decoder's answers. Standard input is a run of entries, each a format, a block and what
-// the Rust answers: number, mode and 48 values, low byte first. Prints each entry that our call answers otherwise, and how
+// the Rust answers: number, mode, count of minus infinities and 48 values, low byte first. Prints each entry that our call answers otherwise, and how
 // many agree.
 use libc::STDIN_FILENO;
 use libc::STDOUT_FILENO;
@@ -9,14 +9,14 @@ ghost use Prim.Native.Nat.{_/_, _<_, _≤_};
 ghost use lib.ListN.{length};
 ghost use Rattle.laws.specs.Every.{same};
 ghost use Rattle.bc6h_spec.specs.Picture.{valueCount};
-ghost use Rattle.replay.specs.Entries.{entrySize, valueIn, valuesIn, agrees, countAt, agreeing};
+ghost use Rattle.replay.specs.Entries.{entrySize, valueIn, valuesIn, infiniteIn, agrees, countAt, agreeing};
 
 struct Entry {
     number: usize,
 }
 
 impl Entry {
-    const SIZE: usize = 115;
+    const SIZE: usize = 117;
 
     const BLOCK: usize = 1;
 
@@ -24,7 +24,9 @@ impl Entry {
 
     const MODE: usize = 18;
 
-    const VALUES: usize = 19;
+    const COUNT: usize = 19;
+
+    const VALUES: usize = 21;
 }
 
 fn wide(byte: u8) -> u16
@@ -53,6 +55,14 @@ fn same_values(values: &[u16], bytes: &[u8]) -> bool
     true
 }
 
+// The count of minus infinities that an entry has, low byte first.
+fn infinite_in(entry: &[u8]) -> u16
+    requires { ⌜ length (now entry) ≡ entrySize ⌝ }
+    ensures { λ r. ⌜ r ≡ infiniteIn (now (entry .entry)) ⌝ }
+{
+    wide(entry[Entry::COUNT]) + wide(entry[Entry::COUNT + 1]) * 0x100
+}
+
 // Whether our call answers an entry's block as the entry says.
 fn agrees(entry: &[u8]) -> bool
     requires { ⌜ length (now entry) ≡ entrySize ⌝ }
@@ -65,6 +75,9 @@ fn agrees(entry: &[u8]) -> bool
         return false;
     }
     if pixels.mode != entry[Entry::MODE] {
+        return false;
+    }
+    if pixels.infinite != infinite_in(entry) {
         return false;
     }
     same_values(&values, &entry[Entry::VALUES..Entry::SIZE])

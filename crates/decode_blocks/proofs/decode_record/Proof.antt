@@ -18,7 +18,7 @@ returns c =
     let s = b .before .before .before .before .before .before in
     let piece = now (s .args .piece) in
     p .put-shown .ensures
-    ∙ ap (λ (l : List ℕ). l ++ drop 98 (now (s .args .out)))
+    ∙ ap (λ (l : List ℕ). l ++ drop 100 (now (s .args .out)))
     (record-is piece _ _ _ (take-all (length piece - 1) (drop 1 piece) (simp length-drop (omega arith))) (b .block-pixels .ensures))
 
 pub decode-record-spec : {M : Type 1} → statement M

@@ -15,20 +15,28 @@ put-values-requires c κs = simp (length-take, length-drop, length-set) (omega a
 
 same-length : tie.Need-same-length
 same-length c =
-    let s = c .before .before .before .before .before in
-    let l = headed (s .args .shown) (now (s .args .out)) in
-    same-len-mid 2 (length l - 2) l (c .before .before .put-values .last .1 .0) (c .before .before .put-values .kept .1 .0) ∙ headed-length (s .args .shown) (now (s .args .out))
+    let p = c .before .before in
+    let s = p .before .before .before .before .before in
+    let l = headed (s .args .shown) _ _ (now (s .args .out)) in
+    same-len-mid 4 (length l - 4) l (p .put-values .last .1 .0) (p .put-values .kept .1 .0) ∙ headed-length (s .args .shown) _ _ (now (s .args .out))
 
 returns : tie.Need-returns
 returns c =
-    let s = c .before .before .before .before .before in
-    head-stored (s .args .shown) _ (now (s .args .out)) _ (s .pre) (c .before .before .put-values .ensures)
+    let p = c .before .before in
+    let high = p .before .before in
+    let low = high .before in
+    let s = low .before .before in
+    head-stored (s .args .shown) _ _ _ (now (s .args .out)) _ (low .low-byte .ensures) (high .high-byte .ensures) (s .pre) (p .put-values .ensures)
 
 pub put-shown-spec : {M : Type 1} → statement M
 put-shown-spec =
     tie.close
     (tie.spec
+    (λ c κs. search needs)
+    (λ c κs. search needs)
     (λ c. search needs)
+    (λ c. simp length-set (omega arith))
+    (λ c. simp length-set (omega arith))
     (λ c. simp length-set (omega arith))
     (λ c. simp length-set (omega arith))
     (λ c. simp length-set (omega arith))

@@ -1,7 +1,6 @@
 use borrow.Author.Needs.{needs}
-use mathlib.Core.Path.{_∙_}
 use Rattle.replay.specs.Entries.{blockIn}
-use Rattle.replay.proofs.Replayed.{other-number, other-mode, by-values}
+use Rattle.replay.proofs.Replayed.{other-number, other-mode, other-count, by-values}
 use Rattle.replay.proofs.agrees.Statement.{statement}
 use Rattle.replay.proofs.agrees.Tie as tie
 
@@ -28,14 +27,31 @@ shared-slice-read-if1 c = search needs
 
 returns : tie.Need-returns
 unfolding blockIn
-returns c = other-number (c .before .before .before .before .before .before .before .before .before .args .entry .now) _ _ (c .before .before .before .before .block-pixels .ensures) (c .if1 .taken)
+returns c =
+    let called = c .before .before .before .before in
+    other-number (called .before .before .before .before .before .args .entry .now) _ _ (called .block-pixels .ensures) (c .if1 .taken)
 
 shared-slice-read-if2 : tie.Need-shared-slice-read-if2
 shared-slice-read-if2 c = search needs
 
 returns-2 : tie.Need-returns-2
 unfolding blockIn
-returns-2 c = other-mode (c .before .before .before .before .before .before .before .before .before .before .before .before .args .entry .now) _ _ (c .before .before .before .before .before .before .before .block-pixels .ensures) (c .before .before .before .if1 .left) (c .if2 .taken)
+returns-2 c =
+    let one = c .before .before .before in
+    let called = one .before .before .before .before in
+    other-mode (called .before .before .before .before .before .args .entry .now) _ _ (called .block-pixels .ensures) (one .if1 .left) (c .if2 .taken)
+
+infinite-in-requires : tie.Need-infinite-in-requires
+infinite-in-requires c κs = search needs
+
+returns-3 : tie.Need-returns-3
+unfolding blockIn
+returns-3 c =
+    let count = c .before .before in
+    let two = count .before in
+    let one = two .before .before .before in
+    let called = one .before .before .before .before in
+    other-count (called .before .before .before .before .before .args .entry .now) _ _ (called .block-pixels .ensures) (count .infinite-in .ensures) (one .if1 .left) (two .if2 .left) (c .if3 .taken)
 
 slice-aggregate-same-values : tie.Need-slice-aggregate-same-values
 slice-aggregate-same-values c = search needs
@@ -52,11 +68,16 @@ part-same-values-end c = search needs
 same-values-requires : tie.Need-same-values-requires
 same-values-requires c κs = search needs
 
-returns-3 : tie.Need-returns-3
+returns-4 : tie.Need-returns-4
 unfolding blockIn
-returns-3 c =
-    by-values (c .before .before .before .before .before .before .before .before .before .before .before .before .before .before .before .args .entry .now) _ (c .before .before .before .before .before .before .before .before .before .before .block-pixels .last .1 .1 .0) (c .before .before .before .before .before .before .before .before .before .before .block-pixels .ensures)
-    (c .same-values .ensures) (c .before .before .before .before .before .before .if1 .left) (c .before .before .before .if2 .left)
+returns-4 c =
+    let three = c .before .before .before in
+    let count = three .before .before in
+    let two = count .before in
+    let one = two .before .before .before in
+    let called = one .before .before .before .before in
+    by-values (called .before .before .before .before .before .args .entry .now) _ (called .block-pixels .last .1 .1 .0) (called .block-pixels .ensures) (c .same-values .ensures)
+    (count .infinite-in .ensures) (one .if1 .left) (two .if2 .left) (three .if3 .left)
 
 pub agrees-spec : {M : Type 1} → statement M
 agrees-spec =
@@ -72,9 +93,11 @@ agrees-spec =
     returns
     shared-slice-read-if2
     returns-2
+    infinite-in-requires
+    returns-3
     slice-aggregate-same-values
     sub-same-values
     part-same-values-start
     part-same-values-end
     same-values-requires
-    returns-3)
+    returns-4)

@@ -42,7 +42,7 @@ loop-again c = (
 
 returns : tie.Need-returns Inv-loop μ-loop
 returns c =
-    let whole : c .before .loop .n ≡ length (c .before .before .before .args .list .now) / 115 = omega arith in
+    let whole : c .before .loop .n ≡ length (c .before .before .before .args .list .now) / 117 = omega arith in
     c .before .loop .inv .2 ∙ ap (agreeing (c .before .before .before .args .list .now)) whole
 
 pub replay-spec : {M : Type 1} → statement M

@@ -26,7 +26,7 @@ agrees-requires c κs = search needs
 returns : tie.Need-returns
 returns c =
     let s = c .before .before .before .before .args in
-    counts-one (s .list .now) (s .n) (s .n * 115 + 115 - s .n * 115) (c .before .agrees .ensures) (omega arith) (c .if1 .taken)
+    counts-one (s .list .now) (s .n) (s .n * 117 + 117 - s .n * 117) (c .before .agrees .ensures) (omega arith) (c .if1 .taken)
 
 print-difference-requires : tie.Need-print-difference-requires
 print-difference-requires c κs = search needs
@@ -34,7 +34,7 @@ print-difference-requires c κs = search needs
 returns-2 : tie.Need-returns-2
 returns-2 c =
     let s = c .before .before .before .before .before .args in
-    counts-none (s .list .now) (s .n) (s .n * 115 + 115 - s .n * 115) (c .before .before .agrees .ensures) (omega arith) (c .before .if1 .left)
+    counts-none (s .list .now) (s .n) (s .n * 117 + 117 - s .n * 117) (c .before .before .agrees .ensures) (omega arith) (c .before .if1 .left)
 
 pub replay-one-spec : {M : Type 1} → statement M
 replay-one-spec =

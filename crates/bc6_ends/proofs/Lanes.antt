@@ -2,26 +2,29 @@
 use mathlib.Core.Path.{_≡_, _∙_, refl, sym, ap, subst}
 use mathlib.Core.Bool.{Bool, true, false}
 use mathlib.Core.List.{List, [], _∷_, _++_}
-use Prim.Native.Nat.{ℕ, zero, suc, _+_, _-_, _*_, _%_, _^_, _≤_, _<_}
+use Prim.Native.Nat.{ℕ, zero, suc, _+_, _-_, _%_, _^_, _≤_, _<_}
 use native.Mathlib.Nat.{mod-eq-of-lt}
 use native.Mathlib.Decide.{decLt}
 use native.Mathlib.Omega.{arith}
-use lib.Dec.{eqb, ltb, lit<, eqb·suc-zero}
-use lib.IntN.{ℤ, pos, negsuc, _+ℤ_, _-ℤ_, +ℤ-idl, +ℤ-idr}
-use lib.ListN.{length, getD, set, drop}
+use lib.Dec.{eqb, lit<, lit≤, eqb·suc-zero}
+use lib.IntN.{ℤ, pos, natAbs, _+ℤ_, +ℤ-idl, +ℤ-idr}
+use lib.ListN.{length, getD, set, drop, length-set}
 use lib.Pow.{pow-pos}
+use lib.Signed.{mag}
+use mir.Syntax.{w32}
+use mir.Val.{SFits, toZ, ofZ}
+use mir.ValLaws.{toZ-ofZ}
 use borrow.Author.Tests.{lt-ltb, le-ltb}
 use Rattle.laws.specs.Pick.{pick}
 use Rattle.laws.specs.Made.{made}
-use Rattle.laws.specs.Ranges.{Within}
-use Rattle.laws.proofs.Rows.{made-none, made-store, made-same}
-use Rattle.laws.proofs.Num.{minus}
+use Rattle.laws.specs.Ranges.{Below, Within, InBits}
+use Rattle.laws.proofs.Rows.{made-none, made-store, made-next, made-same}
+use Rattle.laws.proofs.Num.{minus, passed, read, widened}
 use Rattle.bc6h_spec.specs.Half.{signExtend, keep, transform, unquantized}
 use Rattle.bc6h_spec.specs.Picture.{firstEnd, delta, otherEnd}
-use Rattle.bc6h_spec.proofs.Ranges.{first-in, delta-within}
-use Rattle.bc6_palette.proofs.Ends.{wider}
-use Rattle.bc6_tone.specs.Tones.{biased}
-use Rattle.bc6_ends.specs.Ends.{Stored, endFrom, toneFrom, baseOf, leadOf, endOver}
+use Rattle.bc6h_spec.proofs.Ranges.{first-in, delta-within, transformed-in}
+use Rattle.bc6_half.proofs.Words.{wider}
+use Rattle.bc6_ends.specs.Ends.{Stored, Lane, endFrom, wordFrom, baseOf, leadOf, endOver}
 
 -- ---- p bits of a number of p bits
 
@@ -92,9 +95,9 @@ lane-end s false p w count (x ∷ xs) st (suc e) h =
     whole-end s p w (getD xs e 0) (st .whole refl) (st .other (suc e) (omega arith) h) ∙ told-whole s p w (getD xs e 0) (firstEnd s p x) ∙ sym (beyond (firstEnd s p x) _ e)
 
 pub lane-is : (s moved : Bool) (p w count : ℕ) (l : List ℕ) → Stored moved p w count l → (e : ℕ) → e < count
-    → endOver s p w (baseOf s moved p (getD l 0 0)) (getD (set l 0 (leadOf moved (getD l 0 0))) e 0) ≡ toneFrom s moved p w l e
-unfolding endOver toneFrom
-lane-is s moved p w count l st e h = ap (λ (z : ℤ). biased s (unquantized s p z)) (lane-end s moved p w count l st e h)
+    → endOver s p w (baseOf s moved p (getD l 0 0)) (getD (set l 0 (leadOf moved (getD l 0 0))) e 0) ≡ wordFrom s moved p w l e
+unfolding endOver wordFrom
+lane-is s moved p w count l st e h = ap (λ (z : ℤ). keep 16 (unquantized s p z)) (lane-end s moved p w count l st e h)
 
 -- each of the four is a number of w bits
 pub lane-fits : (moved : Bool) (p w count : ℕ) (l : List ℕ) → Stored moved p w count l → (e : ℕ) → e < count
@@ -113,18 +116,94 @@ drop-lead : (l : List ℕ) (x n : ℕ) → drop (suc n) (set l 0 x) ≡ drop (su
 drop-lead [] x n = refl
 drop-lead (y ∷ l) x n = refl
 
--- the four are worked out
-pub four-done : (s moved : Bool) (p w : ℕ) (l out : List ℕ) (base : ℤ) (lead e : ℕ) → Stored moved p w 4 l → base ≡ baseOf s moved p (getD l 0 0)
-    → lead ≡ leadOf moved (getD l 0 0) → out ≡ made (λ k. endOver s p w base (getD (set l 0 lead) k 0)) e ++ drop e (set l 0 lead) → e ≤ 4 → 4 ≤ e
-    → out ≡ made (toneFrom s moved p w l) 4 ++ drop 4 l
-four-done s moved p w l out base lead e st eb el h a b =
-    let four : e ≡ 4 = omega arith in
-    subst (λ (k : ℕ). out ≡ made (λ k. endOver s p w base (getD (set l 0 lead) k 0)) k ++ drop k (set l 0 lead)) four h
+-- ---- an endpoint, step by step
+
+module _ {p w n : ℕ} {base : ℤ} (a : Lane p w base n) (small : n < 65536) (sized : SFits w32 base) where
+  pub extend-asks : (0 < w) × (w ≤ 31) × Below (2 ^ w) (toZ w32 n)
+  extend-asks = (a .own-some, omega (arith, a .own-most), subst (Below (2 ^ w)) (sym (widened small)) (record { nonneg = tt; below = a .fits }))
+
+  module _ (d : ℤ) (d-fits : mag d < 2147483648) (ed : d ≡ signExtend w (natAbs (toZ w32 n))) where
+    difference : toZ w32 (ofZ w32 d) ≡ signExtend w n
+    difference = read d-fits ed ∙ ap (λ (z : ℤ). signExtend w (natAbs z)) (widened small)
+
+    pub move-asks : (0 < p) × (p ≤ 16) × (Within 65536 (toZ w32 (ofZ w32 base)) × Within 65536 (toZ w32 (ofZ w32 d)))
+    move-asks = (
+      a .some,
+      omega (arith, a .few),
+      (passed (Within 65536) sized (a .within), subst (Within 65536) (sym difference) (extended-within w n (a .own-some) (a .own-most) (a .fits))),
+    )
+
+    module _ (s : Bool) (c : ℤ) (c-fits : mag c < 2147483648) (ec : c ≡ transform s p (toZ w32 (ofZ w32 base)) (toZ w32 (ofZ w32 d))) where
+      moved : toZ w32 (ofZ w32 c) ≡ transform s p base (signExtend w n)
+      moved = read c-fits ec ∙ (λ i. transform s p (toZ-ofZ w32 base sized i) (difference i))
+
+      pub moved-in : InBits s p (toZ w32 (ofZ w32 c))
+      moved-in = rw moved (transformed-in s p base (signExtend w n) (a .some))
+
+      pub end-is : (u : ℤ) → mag u < 2147483648 → u ≡ unquantized s p (toZ w32 (ofZ w32 c)) → (r : ℕ) → r ≡ keep 16 (toZ w32 (ofZ w32 u)) → r ≡ endOver s p w base n
+      unfolding endOver
+      end-is u u-fits eu r er = er ∙ ap (keep 16) (read u-fits eu ∙ ap (unquantized s p) moved)
+
+-- ---- the loop over the four
+
+-- e of the four are worked out of l₀
+pub record Turned (s : Bool) (p w : ℕ) (base : ℤ) (l₀ l : List ℕ) (e : ℕ) : Type 0 where
+  pub upto : e ≤ 4
+  pub is : l ≡ made (λ k. endOver s p w base (getD l₀ k 0)) e ++ drop e l₀
+  pub long : length l ≡ length l₀
+  pub room : 4 ≤ length l₀
+  pub lane : (k : ℕ) → k < 4 → Lane p w base (getD l₀ k 0)
+
+pub none-turned : (s moved : Bool) (p w : ℕ) (l : List ℕ) (base : ℤ) (lead : ℕ) → Stored moved p w 4 l → p < 15 → base ≡ baseOf s moved p (getD l 0 0)
+    → lead ≡ leadOf moved (getD l 0 0) → Turned s p w base (set l 0 lead) (set l 0 lead) 0
+none-turned s moved p w l base lead st few eb el =
+    record {
+      upto = lit≤ tt;
+      is = made-none _ _;
+      long = refl;
+      room = simp length-set (st .room);
+      lane = λ k h.
+          record {
+            some = st .some;
+            few = few;
+            own-some = st .own-some;
+            own-most = st .own-most;
+            fits = rw el (lane-fits moved p w 4 l st k h);
+            within = rw eb (base-in s moved p (getD l 0 0) (st .some) (st .most) (st .first));
+          };
+    }
+
+module _ {s : Bool} {p w : ℕ} {base : ℤ} {l₀ l : List ℕ} {e : ℕ} (t : Turned s p w base l₀ l e) where
+  -- what a turn reads is as it was before the loop
+  unread : getD l e 0 ≡ getD l₀ e 0
+  unread = ap (λ (m : List ℕ). getD m e 0) (t .is) ∙ made-next _ l₀ e 0
+
+  pub turn-asks : e < 4 → Lane p w base (getD l e 0)
+  turn-asks h = rw unread (t .lane e h)
+
+  pub turned-inside : e < 4 → e < length l
+  turned-inside h = omega (arith, t .long, t .room)
+
+  pub one-turned : (x : ℕ) → e < 4 → x ≡ endOver s p w base (getD l e 0) → Turned s p w base l₀ (set l e x) (e + 1)
+  one-turned x h ex =
+      record {
+        upto = omega arith;
+        is = made-store _ l₀ l _ e x (t .is) refl (ex ∙ ap (endOver s p w base) unread) (omega (arith, t .room));
+        long = simp length-set (t .long);
+        room = t .room;
+        lane = t .lane;
+      }
+
+pub all-turned : (s moved : Bool) (p w : ℕ) (l out : List ℕ) (base : ℤ) (lead e : ℕ) → Stored moved p w 4 l → base ≡ baseOf s moved p (getD l 0 0)
+    → lead ≡ leadOf moved (getD l 0 0) → Turned s p w base (set l 0 lead) out e → 4 ≤ e → out ≡ made (wordFrom s moved p w l) 4 ++ drop 4 l
+all-turned s moved p w l out base lead e st eb el t b =
+    let four : e ≡ 4 = omega (arith, t .upto) in
+    subst (λ (k : ℕ). out ≡ made (λ k. endOver s p w base (getD (set l 0 lead) k 0)) k ++ drop k (set l 0 lead)) four (t .is)
     ∙ (λ i. made (λ k. endOver s p w (eb i) (getD (set l 0 (el i)) k 0)) 4 ++ drop-lead l (el i) 3 i)
     ∙ ap (λ (m : List ℕ). m ++ drop 4 l)
-    (made-same _ (toneFrom s moved p w l) 4 (lane-is s moved p w 4 l st))
+    (made-same _ (wordFrom s moved p w l) 4 (lane-is s moved p w 4 l st))
 
 -- the two of one region are worked out
-pub pair-done : (s moved : Bool) (p w : ℕ) (l : List ℕ) (x y : ℕ) → 2 ≤ length l → x ≡ toneFrom s moved p w l 0 → y ≡ toneFrom s moved p w l 1
-    → set (set l 0 x) 1 y ≡ made (toneFrom s moved p w l) 2 ++ drop 2 l
-pair-done s moved p w l x y h ex ey = made-store (toneFrom s moved p w l) l (set l 0 x) _ 1 y (made-store (toneFrom s moved p w l) l l _ 0 x (made-none _ l) refl ex (omega arith)) refl ey (omega arith)
+pub pair-done : (s moved : Bool) (p w : ℕ) (l : List ℕ) (x y : ℕ) → 2 ≤ length l → x ≡ wordFrom s moved p w l 0 → y ≡ wordFrom s moved p w l 1
+    → set (set l 0 x) 1 y ≡ made (wordFrom s moved p w l) 2 ++ drop 2 l
+pair-done s moved p w l x y h ex ey = made-store (wordFrom s moved p w l) l (set l 0 x) _ 1 y (made-store (wordFrom s moved p w l) l l _ 0 x (made-none _ l) refl ex (omega arith)) refl ey (omega arith)

@@ -1,7 +1,7 @@
 -- Three channels, worked out one behind the other in one list. Assumes nothing.
-use mathlib.Core.Path.{_≡_, _∙_, refl, sym, ap, ap₂, subst}
-use mathlib.Core.Bool.{Bool, true, false}
-use mathlib.Core.List.{List, [], _∷_, _++_, append-nil}
+use mathlib.Core.Path.{_≡_, _∙_, sym, ap, ap₂}
+use mathlib.Core.Bool.{Bool}
+use mathlib.Core.List.{List, [], _++_, append-nil}
 use Prim.Native.Nat.{ℕ, zero, suc, _+_, _-_, _*_, _≤_, _<_}
 use native.Mathlib.Omega.{arith}
 use lib.ListN.{length, getD, take, drop, length-append, length-drop, length-take, drop-of-length-le, List·getD-append}
@@ -9,8 +9,8 @@ use lib.Seq.{take-all, drop-append-add, getD-append-add, getD-take, drop-drop}
 use borrow.Rule.Slice.PartMut.{midOf, putMid}
 use Rattle.laws.specs.Made.{made}
 use Rattle.laws.proofs.Rows.{length-made, getD-made}
-use Rattle.bc6_palette.specs.declared.ModeBits.{ModeBits}
-use Rattle.bc6_ends.specs.Ends.{toneFrom, widthOf, AllStored, Toned}
+use Rattle.bc6_half.specs.declared.ModeBits.{ModeBits}
+use Rattle.bc6_ends.specs.Ends.{wordFrom, widthOf, WorkedOut}
 
 -- ---- a list whose part from `a` on was lent and is now `part`
 
@@ -55,28 +55,28 @@ module _ (g : ℕ → ℕ) (n : ℕ) (l : List ℕ) where
 -- ---- the channels
 
 module _ (s : Bool) (bits : ModeBits) (count : ℕ) (few : count ≤ 4) (l₀ : List ℕ) (room : 12 ≤ length l₀) where
-  abbrev tones : ℕ → ℕ → ℕ
-  tones c = toneFrom s (bits .transformed) (bits .a0) (widthOf bits c) (drop (4 * c) l₀)
+  abbrev words : ℕ → ℕ → ℕ
+  words c = wordFrom s (bits .transformed) (bits .a0) (widthOf bits c) (drop (4 * c) l₀)
 
-  module _ (l₁ : List ℕ) (e₁ : l₁ ≡ made (tones 0) count ++ drop count l₀) where
+  module _ (l₁ : List ℕ) (e₁ : l₁ ≡ made (words 0) count ++ drop count l₀) where
     long₁ : length l₁ ≡ length l₀
-    long₁ = ap length e₁ ∙ made-length (tones 0) count l₀ (omega arith)
+    long₁ = ap length e₁ ∙ made-length (words 0) count l₀ (omega arith)
 
     pub second : midOf 4 (length l₁ - 4) l₁ ≡ drop 4 l₀
-    second = mid-rest 4 l₁ ∙ ap (drop 4) e₁ ∙ made-rest (tones 0) count l₀ 4 few
+    second = mid-rest 4 l₁ ∙ ap (drop 4) e₁ ∙ made-rest (words 0) count l₀ 4 few
 
     module _ (p₂ l₂ : List ℕ)
-        (e₂ : p₂ ≡ made (toneFrom s (bits .transformed) (bits .a0) (bits .g) (midOf 4 (length l₁ - 4) l₁)) count ++ drop count (midOf 4 (length l₁ - 4) l₁))
+        (e₂ : p₂ ≡ made (wordFrom s (bits .transformed) (bits .a0) (bits .g) (midOf 4 (length l₁ - 4) l₁)) count ++ drop count (midOf 4 (length l₁ - 4) l₁))
         (h₂ : l₂ ≡ putMid 4 (length l₁ - 4) l₁ p₂) where
-      part₂ : p₂ ≡ made (tones 1) count ++ drop count (drop 4 l₀)
-      part₂ = e₂ ∙ ap (λ (m : List ℕ). made (toneFrom s (bits .transformed) (bits .a0) (bits .g) m) count ++ drop count m) second
+      part₂ : p₂ ≡ made (words 1) count ++ drop count (drop 4 l₀)
+      part₂ = e₂ ∙ ap (λ (m : List ℕ). made (wordFrom s (bits .transformed) (bits .a0) (bits .g) m) count ++ drop count m) second
 
       size₂ : length p₂ ≡ length l₀ - 4
-      size₂ = ap length part₂ ∙ made-length (tones 1) count (drop 4 l₀) (let e = length-drop 4 l₀ in omega arith) ∙ length-drop 4 l₀
+      size₂ = ap length part₂ ∙ made-length (words 1) count (drop 4 l₀) (let e = length-drop 4 l₀ in omega arith) ∙ length-drop 4 l₀
 
       rest₂ : drop 8 l₂ ≡ drop 8 l₀
       rest₂ =
-          ap (drop 8) h₂ ∙ put-rest 4 l₁ p₂ (omega (arith, long₁)) 4 ∙ ap (drop 4) part₂ ∙ made-rest (tones 1) count (drop 4 l₀) 4 few ∙ drop-drop 4 4 l₀
+          ap (drop 8) h₂ ∙ put-rest 4 l₁ p₂ (omega (arith, long₁)) 4 ∙ ap (drop 4) part₂ ∙ made-rest (words 1) count (drop 4 l₀) 4 few ∙ drop-drop 4 4 l₀
 
       long₂ : length l₂ ≡ length l₀
       long₂ =
@@ -89,12 +89,12 @@ module _ (s : Bool) (bits : ModeBits) (count : ℕ) (few : count ≤ 4) (l₀ : 
       third = mid-rest 8 l₂ ∙ rest₂
 
       module _ (p₃ : List ℕ)
-          (e₃ : p₃ ≡ made (toneFrom s (bits .transformed) (bits .a0) (bits .b) (midOf 8 (length l₂ - 8) l₂)) count ++ drop count (midOf 8 (length l₂ - 8) l₂)) where
-        part₃ : p₃ ≡ made (tones 2) count ++ drop count (drop 8 l₀)
-        part₃ = e₃ ∙ ap (λ (m : List ℕ). made (toneFrom s (bits .transformed) (bits .a0) (bits .b) m) count ++ drop count m) third
+          (e₃ : p₃ ≡ made (wordFrom s (bits .transformed) (bits .a0) (bits .b) (midOf 8 (length l₂ - 8) l₂)) count ++ drop count (midOf 8 (length l₂ - 8) l₂)) where
+        part₃ : p₃ ≡ made (words 2) count ++ drop count (drop 8 l₀)
+        part₃ = e₃ ∙ ap (λ (m : List ℕ). made (wordFrom s (bits .transformed) (bits .a0) (bits .b) m) count ++ drop count m) third
 
         size₃ : length p₃ ≡ length l₀ - 8
-        size₃ = ap length part₃ ∙ made-length (tones 2) count (drop 8 l₀) (let e = length-drop 8 l₀ in omega arith) ∙ length-drop 8 l₀
+        size₃ = ap length part₃ ∙ made-length (words 2) count (drop 8 l₀) (let e = length-drop 8 l₀ in omega arith) ∙ length-drop 8 l₀
 
         abbrev after : List ℕ
         after = putMid 8 (length l₂ - 8) l₂ p₃
@@ -102,18 +102,18 @@ module _ (s : Bool) (bits : ModeBits) (count : ℕ) (few : count ≤ 4) (l₀ : 
         below : (j : ℕ) → j < 8 → getD after j 0 ≡ getD (putMid 4 (length l₁ - 4) l₁ p₂) j 0
         below j h = put-below 8 l₂ p₃ (omega (arith, long₂)) j h ∙ ap (λ (l : List ℕ). getD l j 0) h₂
 
-        at : (c e : ℕ) → c < 3 → e < count → getD after (4 * c + e) 0 ≡ tones c e
+        at : (c e : ℕ) → c < 3 → e < count → getD after (4 * c + e) 0 ≡ words c e
         at zero e hc h =
             let same : 4 * 0 + e ≡ e = omega arith in
             ap (λ (j : ℕ). getD after j 0) same ∙ below e (omega arith) ∙ put-below 4 l₁ p₂ (omega (arith, long₁)) e (omega arith)
-            ∙ ap (λ (l : List ℕ). getD l e 0) e₁ ∙ made-at (tones 0) count l₀ e h
+            ∙ ap (λ (l : List ℕ). getD l e 0) e₁ ∙ made-at (words 0) count l₀ e h
         at (suc zero) e hc h =
             below (4 + e) (omega arith) ∙ put-at 4 l₁ p₂ (omega (arith, long₁)) e (omega (arith, size₂))
-            ∙ ap (λ (l : List ℕ). getD l e 0) part₂ ∙ made-at (tones 1) count (drop 4 l₀) e h
+            ∙ ap (λ (l : List ℕ). getD l e 0) part₂ ∙ made-at (words 1) count (drop 4 l₀) e h
         at (suc (suc zero)) e hc h =
             put-at 8 l₂ p₃ (omega (arith, long₂)) e (omega (arith, size₃))
-            ∙ ap (λ (l : List ℕ). getD l e 0) part₃ ∙ made-at (tones 2) count (drop 8 l₀) e h
+            ∙ ap (λ (l : List ℕ). getD l e 0) part₃ ∙ made-at (words 2) count (drop 8 l₀) e h
         at (suc (suc (suc c))) e hc h = absurd (omega arith)
 
-        pub toned : Toned s bits count l₀ after
-        toned = record { tones = at }
+        pub worked-out : WorkedOut s bits count l₀ after
+        worked-out = record { words = at }

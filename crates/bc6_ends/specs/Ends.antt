@@ -7,10 +7,10 @@ use lib.Dec.{eqb}
 use lib.IntN.{ℤ, pos}
 use lib.ListN.{length, getD, drop}
 use Rattle.laws.specs.Pick.{pick}
-use Rattle.bc6h_spec.specs.Half.{signExtend, transform, unquantized}
+use Rattle.laws.specs.Ranges.{Within}
+use Rattle.bc6h_spec.specs.Half.{signExtend, keep, transform, unquantized}
 use Rattle.bc6h_spec.specs.Picture.{firstEnd, otherEnd}
-use Rattle.bc6_palette.specs.declared.ModeBits.{ModeBits}
-use Rattle.bc6_tone.specs.Tones.{biased}
+use Rattle.bc6_half.specs.declared.ModeBits.{ModeBits}
 
 -- ---- one channel
 
@@ -25,15 +25,24 @@ pub record Stored (moved : Bool) (p w count : ℕ) (l : List ℕ) : Type 0 where
   pub first : getD l 0 0 < 2 ^ p
   pub other : (e : ℕ) → 1 ≤ e → e < count → getD l e 0 < 2 ^ w
 
+-- .. and of one that is a difference from `base`
+pub record Lane (p w : ℕ) (base : ℤ) (n : ℕ) : Type 0 where
+  pub some : 0 < p
+  pub few : p < 15
+  pub own-some : 0 < w
+  pub own-most : w ≤ 16
+  pub fits : n < 2 ^ w
+  pub within : Within 65536 base
+
 -- endpoint e after the transform
 abbrev pub endFrom : Bool → Bool → ℕ → ℕ → List ℕ → ℕ → ℤ
 endFrom signed moved p w l e =
     let a = firstEnd signed p (getD l 0 0) in
     pick (eqb e 0) a (otherEnd signed moved p w a (getD l e 0))
 
--- unquantised and carried above zero
-unfoldable pub toneFrom : Bool → Bool → ℕ → ℕ → List ℕ → ℕ → ℕ
-toneFrom signed moved p w l e = biased signed (unquantized signed p (endFrom signed moved p w l e))
+-- unquantised, as 16 bits
+unfoldable pub wordFrom : Bool → Bool → ℕ → ℕ → List ℕ → ℕ → ℕ
+wordFrom signed moved p w l e = keep 16 (unquantized signed p (endFrom signed moved p w l e))
 
 -- what the endpoints are differences from: the first one, or zero where they are stored whole
 abbrev pub baseOf : Bool → Bool → ℕ → ℕ → ℤ
@@ -43,9 +52,9 @@ baseOf signed moved p first = pick moved (firstEnd signed p first) (pos 0)
 abbrev pub leadOf : Bool → ℕ → ℕ
 leadOf moved first = pick moved 0 first
 
--- an endpoint, unquantised and carried above zero, of a difference from `base`
+-- an endpoint, unquantised, as 16 bits, of a difference from `base`
 unfoldable pub endOver : Bool → ℕ → ℕ → ℤ → ℕ → ℕ
-endOver signed p w base n = biased signed (unquantized signed p (transform signed p base (signExtend w n)))
+endOver signed p w base n = keep 16 (unquantized signed p (transform signed p base (signExtend w n)))
 
 -- ---- the three channels, four numbers each
 
@@ -57,6 +66,6 @@ pub record AllStored (bits : ModeBits) (count : ℕ) (l : List ℕ) : Type 0 whe
   pub channel : (c : ℕ) → c < 3 → Stored (bits .transformed) (bits .a0) (widthOf bits c) count (drop (4 * c) l)
 
 -- the first `count` endpoints of each channel are worked out
-pub record Toned (signed : Bool) (bits : ModeBits) (count : ℕ) (l after : List ℕ) : Type 0 where
-  pub tones : (c e : ℕ) → c < 3 → e < count
-      → getD after (4 * c + e) 0 ≡ toneFrom signed (bits .transformed) (bits .a0) (widthOf bits c) (drop (4 * c) l) e
+pub record WorkedOut (signed : Bool) (bits : ModeBits) (count : ℕ) (l after : List ℕ) : Type 0 where
+  pub words : (c e : ℕ) → c < 3 → e < count
+      → getD after (4 * c + e) 0 ≡ wordFrom signed (bits .transformed) (bits .a0) (widthOf bits c) (drop (4 * c) l) e

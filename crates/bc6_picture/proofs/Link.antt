@@ -7,7 +7,6 @@ use native.Mathlib.Nat.{mod-lt}
 use native.Mathlib.Omega.{arith}
 use borrow.Author.Tests.{le-leb, lt-leb}
 use lib.Dec.{eqb, lit<, lit≤}
-use lib.IntN.{ℤ, pos}
 use lib.ListN.{length, getD, drop, length-append, length-drop, List·getD-append}
 use lib.Seq.{getD-drop}
 use Rattle.laws.specs.Pick.{pick}
@@ -19,26 +18,25 @@ use Rattle.bc6h_spec.specs.declared.Fields.{Fields}
 use Rattle.bc6h_spec.specs.Layout.{row, twoRegions, precision, ownWidth, transformed}
 use Rattle.bc6h_spec.specs.Regions.{mapOf, regionOf, fixupOf}
 use Rattle.bc6h_spec.specs.Fields.{gathered, stored, indexOf, indexIn, fieldsAt, Valid}
-use Rattle.bc6h_spec.specs.Half.{unquantized, minusInfinity}
+use Rattle.bc6h_spec.specs.Half.{keep, unquantized, minusInfinity}
 use Rattle.bc6h_spec.specs.Picture.{firstEnd, otherEnd, endpoint, weights8, weights16, weights, between, palette, value, pictureAs}
 use Rattle.bc6h_spec.proofs.Ranges.{unquantized-in}
 use Rattle.bc6h_spec.proofs.Reading.{at-endpoint, at-index, read-valid}
 use Rattle.bc6h_spec.proofs.Widths.{Mode, known, mode-facts, first-fits, other-fits}
-use Rattle.bc6h_spec.proofs.Shown.{endpoint-in, weight-le, unsigned-finite}
+use Rattle.bc6h_spec.proofs.Shown.{endpoint-in, unsigned-finite}
 use Rattle.bcn_data.specs.declared.Subset2Map.{Subset2Map}
 use Rattle.bcn_data.specs.Subsets.{subset2}
 use Rattle.bcn_util.specs.declared.Indexes.{Indexes}
 use Rattle.bcn_util.specs.Indexed.{indexesOf}
 use Rattle.bcn_util.proofs.Indexing.{index-read}
 use Rattle.bc6_fields.proofs.Whole.{fixup-range}
-use Rattle.bc6_palette.specs.declared.ModeBits.{ModeBits}
-use Rattle.bc6_palette.specs.Colours.{bitsOf}
+use Rattle.bc6_half.specs.declared.ModeBits.{ModeBits}
+use Rattle.bc6_half.specs.Colours.{bitsOf}
 use Rattle.bc6_runs.specs.Ends.{storedEnd}
 use Rattle.bc6_runs.proofs.Partition.{partition-at}
-use Rattle.bc6_tone.specs.Tones.{biased, pointAt, finishAt}
-use Rattle.bc6_ends.specs.Ends.{Stored, endFrom, toneFrom, widthOf, AllStored, Toned}
-use Rattle.bc6_paint.specs.Values.{endAt, digit, oneValue, twoValue, PaintedAs, PaintedIn}
-use Rattle.bc6_paint.proofs.Link.{worked-out}
+use Rattle.bc6_ends.specs.Ends.{Stored, wordFrom, widthOf, AllStored, WorkedOut}
+use Rattle.bc6_paint.specs.Values.{endAt, digit, shadeOf, valueOf, oneValue, twoValue, PaintedAs, PaintedIn}
+use Rattle.bc6_paint.proofs.Points.{worked-out}
 use Rattle.bc6_picture.specs.Shown.{partitionIn, Picked, OnePicked}
 use Rattle.bc6_picture.specs.declared.Picks.{Picks}
 
@@ -48,53 +46,50 @@ module _ (s : Bool) (f : Fields) (v : Valid f) where
   abbrev p : ℕ
   p = precision (f .mode)
 
-  -- channel c of endpoint e, unquantised and carried above zero
-  abbrev tone : ℕ → ℕ → ℕ
-  tone e c = biased s (unquantized s p (endpoint s f e c))
+  -- channel c of endpoint e, unquantised, as 16 bits
+  abbrev word : ℕ → ℕ → ℕ
+  word e c = keep 16 (unquantized s p (endpoint s f e c))
 
   end-in : (e c : ℕ) → e < 4 → c < 3 → InBits s 16 (unquantized s p (endpoint s f e c))
   end-in e c he hc = unquantized-in s p (endpoint s f e c) (known f v .most) (endpoint-in s f v e c he hc)
 
   -- the value at index i of region r
-  shown : (r c i a b : ℕ) → r < 2 → c < 3 → a ≡ tone (2 * r) c → b ≡ tone (2 * r + 1) c
-      → finishAt s (pointAt a b (getD (weights (f .mode)) i 0)) ≡ palette s f r c i
+  shown : (r c i a b : ℕ) → r < 2 → c < 3 → a ≡ word (2 * r) c → b ≡ word (2 * r + 1) c → shadeOf s a b (getD (weights (f .mode)) i 0) ≡ palette s f r c i
   unfolding palette between
   shown r c i a b hr hc ea eb =
-      (λ j. finishAt s (pointAt (ea j) (eb j) (getD (weights (f .mode)) i 0)))
+      (λ j. shadeOf s (ea j) (eb j) (getD (weights (f .mode)) i 0))
       ∙ worked-out s (unquantized s p (endpoint s f (2 * r) c)) (unquantized s p (endpoint s f (2 * r + 1) c)) (getD (weights (f .mode)) i 0)
-      (end-in (2 * r) c (omega arith) hc) (end-in (2 * r + 1) c (omega arith) hc) (weight-le (f .mode) i)
+      (end-in (2 * r) c (omega arith) hc) (end-in (2 * r + 1) c (omega arith) hc)
 
-  module _ (ends : List ℕ) (word : ℕ) where
-    one-shown : twoRegions (f .mode) ≡ false → ((c e : ℕ) → c < 3 → e < 2 → endAt ends e c ≡ tone e c)
-        → ((k : ℕ) → k < 16 → digit 4 word k ≡ indexOf f k) → (j : ℕ) → j < 48 → oneValue s ends word j ≡ value s f j
-    unfolding oneValue value regionOf
+  module _ (ends : List ℕ) (indices : ℕ) where
+    one-shown : twoRegions (f .mode) ≡ false → ((c e : ℕ) → c < 3 → e < 2 → endAt ends e c ≡ word e c)
+        → ((k : ℕ) → k < 16 → digit 4 indices k ≡ indexOf f k) → (j : ℕ) → j < 48 → oneValue s ends indices j ≡ value s f j
+    unfolding valueOf value regionOf
     one-shown t et ei j h =
         let w : weights16 ≡ weights (f .mode) = rw t refl in
         let c = j % 3 in
         let hc : j % 3 < 3 = mod-lt j (lit< tt) in
-        (λ i. finishAt s (pointAt (endAt ends 0 c) (endAt ends 1 c) (getD (w i) (ei (j / 3) (omega arith) i) 0)))
+        (λ i. shadeOf s (endAt ends 0 c) (endAt ends 1 c) (getD (w i) (ei (j / 3) (omega arith) i) 0))
         ∙ shown 0 c (indexOf f (j / 3)) _ _ (lit< tt) hc (et c 0 hc (lit< tt)) (et c 1 hc (lit< tt))
         ∙ ap (λ (r : ℕ). palette s f r c (indexOf f (j / 3))) (sym (rw t refl))
 
-    two-shown : twoRegions (f .mode) ≡ true → ((c e : ℕ) → c < 3 → e < 4 → endAt ends e c ≡ tone e c)
-        → ((k : ℕ) → k < 16 → digit 3 word k ≡ indexOf f k) → (map : ℕ) → map ≡ mapOf (f .partition) → (j : ℕ) → j < 48
-        → twoValue s ends map word j ≡ value s f j
-    unfolding twoValue value regionOf
+    two-shown : twoRegions (f .mode) ≡ true → ((c e : ℕ) → c < 3 → e < 4 → endAt ends e c ≡ word e c)
+        → ((k : ℕ) → k < 16 → digit 3 indices k ≡ indexOf f k) → (map : ℕ) → map ≡ mapOf (f .partition) → (j : ℕ) → j < 48
+        → twoValue s ends map indices j ≡ value s f j
+    unfolding valueOf value regionOf
     two-shown t et ei map em j h =
         let w : weights8 ≡ weights (f .mode) = rw t refl in
         let c = j % 3 in
         let hc : j % 3 < 3 = mod-lt j (lit< tt) in
         let i = indexOf f (j / 3) in
         (λ n.
-        finishAt s
-        (pointAt (pick (eqb (bit map (j / 3)) 1) (endAt ends 2 c) (endAt ends 0 c)) (pick (eqb (bit map (j / 3)) 1) (endAt ends 3 c) (endAt ends 1 c))
-        (getD (w n) (ei (j / 3) (omega arith) n) 0)))
+        shadeOf s (pick (eqb (bit map (j / 3)) 1) (endAt ends 2 c) (endAt ends 0 c)) (pick (eqb (bit map (j / 3)) 1) (endAt ends 3 c) (endAt ends 1 c))
+        (getD (w n) (ei (j / 3) (omega arith) n) 0))
         ∙ by-region (bit map (j / 3)) (mod-lt _ (lit< tt)) i c hc
         ∙ ap (λ (r : ℕ). palette s f r c i) (ap (λ (m : ℕ). bit m (j / 3)) em ∙ sym (rw t refl))
       where
         by-region : (r : ℕ) → r < 2 → (i c : ℕ) → c < 3
-            → finishAt s
-            (pointAt (pick (eqb r 1) (endAt ends 2 c) (endAt ends 0 c)) (pick (eqb r 1) (endAt ends 3 c) (endAt ends 1 c)) (getD (weights (f .mode)) i 0))
+            → shadeOf s (pick (eqb r 1) (endAt ends 2 c) (endAt ends 0 c)) (pick (eqb r 1) (endAt ends 3 c) (endAt ends 1 c)) (getD (weights (f .mode)) i 0)
             ≡ palette s f r c i
         by-region zero h i c k = shown 0 c i _ _ h k (et c 0 k (lit< tt)) (et c 1 k (lit< tt))
         by-region (suc zero) h i c k = shown 1 c i _ _ h k (et c 2 k (lit< tt)) (et c 3 k (lit< tt))
@@ -166,26 +161,26 @@ module _ (s : Bool) (format m n : ℕ) (known-format : format ≤ 1) (low : 1 �
           }
 
       -- what is worked out of it is each endpoint's
-      tone-is : (ends : List ℕ) → Toned s bits count l ends → (c e : ℕ) → c < 3 → e < count → endAt ends e c ≡ tone s f valid e c
-      unfolding toneFrom endpoint bitsOf fieldsAt
-      tone-is ends t c e hc he =
-          t .tones c e hc he
-          ∙ ap (λ (b : ModeBits). toneFrom s (b .transformed) (b .a0) (widthOf b c) (drop (4 * c) l) e) told
+      word-is : (ends : List ℕ) → WorkedOut s bits count l ends → (c e : ℕ) → c < 3 → e < count → endAt ends e c ≡ word s f valid e c
+      unfolding wordFrom endpoint bitsOf fieldsAt
+      word-is ends t c e hc he =
+          t .words c e hc he
+          ∙ ap (λ (b : ModeBits). wordFrom s (b .transformed) (b .a0) (widthOf b c) (drop (4 * c) l) e) told
           ∙ (λ i.
-          biased s
+          keep 16
           (unquantized s (precision m)
           (pick (eqb e 0) (firstEnd s (precision m) (stored-is c 0 hc (lit< tt) i))
           (otherEnd s (transformed m) (precision m) (width-is c hc i) (firstEnd s (precision m) (stored-is c 0 hc (lit< tt) i)) (stored-is c e hc (omega arith) i)))))
 
     module _ (bits : ModeBits) (told : bits ≡ bitsOf m) (ends : List ℕ) where
-      pub two-picture : m ≤ 10 → Toned s bits 4 l ends → (picks : Picks) → Picked n picks
+      pub two-picture : m ≤ 10 → WorkedOut s bits 4 l ends → (picks : Picks) → Picked n picks
           → made (twoValue s ends (picks .map) (picks .indices)) 48 ≡ pictureAs s f
       unfolding pictureAs fieldsAt
       two-picture h t picks k =
           let two : twoRegions m ≡ true = le-leb m 10 h in
           let part : gathered (row m) n 13 ≡ partitionIn n = partition-at m n low h in
           made-same _ (value s f) 48
-          (two-shown s f valid ends (picks .indices) two (tone-is bits told 4 (lit≤ tt) ends t)
+          (two-shown s f valid ends (picks .indices) two (word-is bits told 4 (lit≤ tt) ends t)
           (λ i hi.
           k .index i hi
           ∙ ap (λ (q : ℕ). indexIn 3 (0 ∷ fixupOf q ∷ []) (n / 2 ^ 82) i) (sym part)
@@ -193,12 +188,12 @@ module _ (s : Bool) (format m n : ℕ) (known-format : format ≤ 1) (low : 1 �
           ∙ sym (at-index format m n low high i hi))
           (picks .map) (k .regions ∙ ap mapOf (sym part)))
 
-      pub one-picture : 10 < m → Toned s bits 2 l ends → (word : ℕ) → OnePicked n word → made (oneValue s ends word) 48 ≡ pictureAs s f
+      pub one-picture : 10 < m → WorkedOut s bits 2 l ends → (word : ℕ) → OnePicked n word → made (oneValue s ends word) 48 ≡ pictureAs s f
       unfolding pictureAs fieldsAt
       one-picture h t word k =
           let one : twoRegions m ≡ false = lt-leb m 10 h in
           made-same _ (value s f) 48
-          (one-shown s f valid ends word one (tone-is bits told 2 (lit≤ tt) ends t)
+          (one-shown s f valid ends word one (word-is bits told 2 (lit≤ tt) ends t)
           (λ i hi.
           k .index i hi
           ∙ ap (λ (b : Bool). indexIn (pick b 3 4) (pick b (0 ∷ fixupOf (gathered (row m) n 13) ∷ []) (0 ∷ [])) (n / 2 ^ pick b 82 65) i) (sym one)

@@ -1,19 +1,17 @@
 // From a block's bits to the values that it shows, with no palette.
 //
-// The endpoints stand in one array of twelve, channel by channel: first as they are stored, then, in place, unquantised and carried
-// above zero. Each format has functions of its own: the compiler then works out the endpoints with the format known.
-use bc6_ends::one_ends_signed;
-use bc6_ends::one_ends_unsigned;
-use bc6_ends::two_ends_signed;
-use bc6_ends::two_ends_unsigned;
-use bc6_palette::ModeBits;
+// The endpoints stand in one array of twelve, channel by channel: first as they are stored, then, in place, unquantised. Each format has a
+// function of its own: the compiler then works out the endpoints with the format known.
+use bc6_ends::one_ends;
+use bc6_ends::two_ends;
+use bc6_half::ModeBits;
 use bcn_data::Subset2Map;
 use bcn_util::BitStream;
 use bcn_util::Indexes;
 ghost use mathlib.Core.Path.{_≡_};
 ghost use mathlib.Core.Bool.{true, false};
 ghost use mathlib.Core.List.{_++_};
-ghost use Prim.Native.Nat.{_<_, _≤_};
+ghost use Prim.Native.Nat.{_≤_};
 ghost use lib.ListN.{length, drop, replicate};
 ghost use Rattle.bcn_util.specs.Stream.{number};
 ghost use Rattle.bc6h_spec.specs.Fields.{modeIn, fieldsAt};
@@ -55,11 +53,11 @@ fn show_unsigned(mode: u8, lo: u64, hi: u64, out: &mut [u16]) -> u16
     let bits = ModeBits::of(mode);
     let stream = BitStream { lo, hi };
     if mode <= 10 {
-        two_ends_unsigned(bits, &mut ends);
+        two_ends(bits, false, &mut ends);
         let picks = two_picks(stream);
         return bc6_paint_two::paint_two(false, ends, picks.map, picks.indices, out);
     }
-    one_ends_unsigned(bits, &mut ends);
+    one_ends(bits, false, &mut ends);
     bc6_paint_one::paint_one(false, ends, one_indices(stream), out)
 }
 
@@ -72,11 +70,11 @@ fn show_signed(mode: u8, lo: u64, hi: u64, out: &mut [u16]) -> u16
     let bits = ModeBits::of(mode);
     let stream = BitStream { lo, hi };
     if mode <= 10 {
-        two_ends_signed(bits, &mut ends);
+        two_ends(bits, true, &mut ends);
         let picks = two_picks(stream);
         return bc6_paint_two::paint_two(true, ends, picks.map, picks.indices, out);
     }
-    one_ends_signed(bits, &mut ends);
+    one_ends(bits, true, &mut ends);
     bc6_paint_one::paint_one(true, ends, one_indices(stream), out)
 }
 

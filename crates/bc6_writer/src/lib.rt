@@ -1,5 +1,5 @@
 // A block written from its fields: the way back of crate bc6_fields.
-use bc6_palette::ModeBits;
+use bc6_half::ModeBits;
 use bc6h_spec::Answer;
 use bc6h_spec::Block;
 use bc6h_spec::Fields;
@@ -17,7 +17,7 @@ ghost use Rattle.bc6h_spec.specs.Layout.{row, ownWidth, width};
 ghost use Rattle.bc6h_spec.specs.Regions.{region1Of};
 ghost use Rattle.bc6h_spec.specs.Fields.{codeOf, indexBits, indexOf, Valid};
 ghost use Rattle.bc6h_spec.specs.Writer.{scattered, placed, numberFrom, bytesOf};
-ghost use Rattle.bc6_palette.specs.Colours.{bitsOf};
+ghost use Rattle.bc6_half.specs.Colours.{bitsOf};
 ghost use Rattle.bc6_fields.specs.Places.{entry};
 ghost use Rattle.bcn_util.specs.Stream.{number};
 ghost use Rattle.bc6_writer.specs.Validity.{endpointFits, indexFits, valid};

@@ -1,82 +1,39 @@
 -- `bc6_ends::end_unsigned` meets its contract: the steps, joined. Assumes nothing.
 use borrow.Author.Needs.{needs}
-use mathlib.Core.Path.{_≡_, _∙_, sym, ap, subst}
 use mathlib.Core.Bool.{false}
-use native.Mathlib.Omega.{arith}
-use Prim.Native.Nat.{_^_, _<_, _≤_}
-use lib.IntN.{ℤ, natAbs, pos}
-use mir.Syntax.{w32}
-use mir.Val.{toZ, ofZ}
-use mir.ValLaws.{toZ-ofZ}
-use Rattle.laws.specs.Ranges.{Below, Within, InBits}
-use Rattle.laws.proofs.Num.{passed, read, widened}
-use Rattle.bc6h_spec.specs.Half.{signExtend, transform, unquantized, unquantizeU}
-use Rattle.bc6h_spec.proofs.Ranges.{transformed-in, unquantized-in}
-use Rattle.bc6_tone.specs.Tones.{biased}
-use Rattle.bc6_ends.specs.Ends.{endOver}
-use Rattle.bc6_ends.proofs.Lanes.{extended-within}
+use Rattle.bc6h_spec.specs.Half.{unquantized}
+use Rattle.bc6_ends.proofs.Lanes.{extend-asks, move-asks, moved-in, end-is}
 use Rattle.bc6_ends.proofs.end_unsigned.Statement.{statement}
 use Rattle.bc6_ends.proofs.end_unsigned.Tie as tie
 
-sign-extend-requires : tie.Need-sign-extend-requires
-sign-extend-requires c κs =
-    (c .pre .1 .0, omega arith, subst (Below (2 ^ c .args .width)) (sym (widened (c .fits .field .fits))) (record { nonneg = tt; below = c .pre .1 .2 }))
-
--- what `sign_extend` hands back
-difference : (c : tie.After-sign-extend) → toZ w32 (ofZ w32 (c .sign-extend .result)) ≡ signExtend (c .before .args .width) (c .before .args .field)
-difference c =
-    let s = c .before in
-    read (c .sign-extend .ok) (c .sign-extend .ensures) ∙ ap (λ (z : ℤ). signExtend (s .args .width) (natAbs z)) (widened (s .fits .field .fits))
-
 transform-one-requires : tie.Need-transform-one-requires
 transform-one-requires c κs =
-    let s = c .before in (
-      s .pre .0 .0,
-      omega arith,
-      (
-        passed (Within 65536) (s .fits .base) (s .pre .2),
-        subst (Within 65536) (sym (difference c)) (extended-within (s .args .width) (s .args .field) (s .pre .1 .0) (s .pre .1 .1) (s .pre .1 .2)),
-      ),
-    )
-
--- what `transform_one` hands back
-moved : (c : tie.After-transform-one) → toZ w32 (ofZ w32 (c .transform-one .result)) ≡ transform false (c .before .before .args .bits) (c .before .before .args .base) (signExtend (c .before .before .args .width) (c .before .before .args .field))
-moved c =
-    let s = c .before .before in
-    read (c .transform-one .ok) (c .transform-one .ensures)
-    ∙ (λ i. transform false (s .args .bits) (toZ-ofZ w32 (s .args .base) (s .fits .base) i) (difference (c .before) i))
-
-moved-in : (c : tie.After-transform-one) → InBits false (c .before .before .args .bits) (toZ w32 (ofZ w32 (c .transform-one .result)))
-moved-in c = rw (moved c) (transformed-in false _ _ _ (c .before .before .pre .0 .0))
+    let s = c .before in
+    move-asks (s .pre) (s .fits .field .fits) (s .fits .base) _ (c .sign-extend .ok) (c .sign-extend .ensures)
 
 unquantize-narrow-requires : tie.Need-unquantize-narrow-requires
 unquantize-narrow-requires c κs =
     let s = c .before .before in
-    let r = moved-in c in
-    (s .pre .0 .0, s .pre .0 .1, record { nonneg = r .sign; below = r .inside })
-
--- what `unquantize_narrow` hands back
-ready : (c : tie.After-unquantize-narrow) → toZ w32 (ofZ w32 (c .unquantize-narrow .result)) ≡ unquantized false (c .before .before .before .args .bits) (toZ w32 (ofZ w32 (c .before .transform-one .result)))
-unfolding unquantized
-ready c = read (c .unquantize-narrow .ok) (c .unquantize-narrow .ensures)
-
-above-zero-unsigned-requires : tie.Need-above-zero-unsigned-requires
-above-zero-unsigned-requires c κs = let s = c .before .before .before in rw (ready c) (unquantized-in false _ _ (omega arith) (moved-in (c .before)))
+    let d = c .before .sign-extend in
+    let r = moved-in (s .pre) (s .fits .field .fits) (s .fits .base) _ (d .ok) (d .ensures) false _ (c .transform-one .ok) (c .transform-one .ensures) in
+    (s .pre .some, s .pre .few, record { nonneg = r .sign; below = r .inside })
 
 returns : tie.Need-returns
-unfolding endOver
+unfolding unquantized
 returns c =
+    let u = c .before .unquantize-narrow in
+    let m = c .before .before .transform-one in
+    let d = c .before .before .before .sign-extend in
     let s = c .before .before .before .before in
-    c .above-zero-unsigned .ensures
-    ∙ ap (biased false) (ready (c .before) ∙ ap (unquantized false (s .args .bits)) (moved (c .before .before)))
+    end-is (s .pre) (s .fits .field .fits) (s .fits .base) _ (d .ok) (d .ensures) false _ (m .ok) (m .ensures) _ (u .ok) (u .ensures) _ (c .kept-16 .ensures)
 
 pub end-unsigned-spec : {M : Type 1} → statement M
 end-unsigned-spec =
     tie.close
     (tie.spec
     (λ c. search needs)
-    sign-extend-requires
+    (λ c κs. extend-asks (c .pre) (c .fits .field .fits) (c .fits .base))
     transform-one-requires
     unquantize-narrow-requires
-    above-zero-unsigned-requires
+    (λ c κs. search needs)
     returns)

@@ -1,93 +1,89 @@
--- `bc6_paint_two::paint_two_unsigned` meets its contract: six stores a turn, of pixels k and 8 + k. Assumes nothing.
-use borrow.Author.Needs.{needs}
-use mathlib.Core.Path.{_∙_}
-use mathlib.Core.Bool.{false}
-use Prim.Native.Nat.{_+_, _-_, _/_, _^_, _≤_}
-use native.Mathlib.Numerals.{add-one-le, add-one-dec}
+-- `bc6_paint_two::paint_two_unsigned` meets its contract: pixels k and 8 + k a turn, a channel of both after the other. Assumes nothing.
+use mathlib.Core.Bool.{Bool, false}
+use Prim.Native.Nat.{ℕ, _-_, _*_, _<_}
+use native.Mathlib.Numerals.{add-one-dec}
 use native.Mathlib.Omega.{arith}
 use lib.Dec.{lit<, lit≤}
-use lib.ListN.{length-set}
-use Rattle.bc6_paint.specs.Values.{twoValue}
-use Rattle.bc6_paint.proofs.Pixels.{Fronts, none-painted, both-painted, all-painted, Turn, next-fits, place-fits, place-scales, place-inside, index-low, digit-high, bit-above, two-pixel}
+use Rattle.bc6_paint.specs.Values.{twoSecond, twoWeight, twoValue}
+use Rattle.bc6_paint.proofs.Pixels.{Fronts, none-painted, all-painted, Stores, stores-of, stores-on, first-inside, next-inside, Shades, valueAt, shades-of, turn-painted}
 use Rattle.bc6_paint_two.proofs.paint_two_unsigned.Statement.{statement}
 use Rattle.bc6_paint_two.proofs.paint_two_unsigned.Tie as tie
 
 abbrev Inv-loop : tie.InvT-loop
-Inv-loop map word out₀ ends low high map-high k₀ out k = (k ≤ 8) × Fronts (twoValue false ends map word) k out₀ out
+Inv-loop map word out₀ ends k₀ out k = Fronts (twoValue false ends map word) (3 * k) out₀ out
 
 abbrev μ-loop : tie.MeasureT-loop
-μ-loop map word out₀ ends low high map-high k₀ out k = 8 - k
+μ-loop map word out₀ ends k₀ out k = 8 - k
 
 -- where a turn stands before its stores
-abbrev Ready : Type 0
-Ready = tie.After-in-region-12 Inv-loop μ-loop
+module _ (c : tie.After-turn-two Inv-loop μ-loop) where
+  abbrev at : tie.At-loop Inv-loop μ-loop
+  at = c .before .before
 
-abbrev at : Ready → tie.At-loop Inv-loop μ-loop
-at c = c .before .before .before .before .before .before .before
+  abbrev start : tie.Start Inv-loop μ-loop
+  start = at .before .before
 
-turn : (c : Ready) → Turn (at c .loop .k) (at c .loop .out)
-turn c = record { below = c .before .before .before .before .before .before .loop-test .taken; room = omega arith }
+  abbrev k : ℕ
+  k = at .loop .k
 
-light-low : (c : Ready) → c .before .before .before .before .weight-3 .result ≤ 64
-light-low c = c .before .before .before .before .weight-3 .ensures .1
+  below : k < 8
+  below = c .before .loop-test .taken
 
-light-high : (c : Ready) → c .before .before .weight-32 .result ≤ 64
-light-high c = c .before .before .weight-32 .ensures .1
+  abbrev shade : Bool → ℕ → ℕ → ℕ
+  shade = valueAt false (start .args .t1) (twoSecond (start .args .map)) (twoWeight (start .args .word))
 
--- the turn of a store
-abbrev first : tie.After-finish-unsigned Inv-loop μ-loop → Ready
-first c = c .before .before
+  shades : Shades (twoValue false (start .args .t1) (start .args .map) (start .args .word)) k (shade (c .turn-two .result .second) (c .turn-two .result .w)) (shade (c .turn-two .result .second8) (c .turn-two .result .w8))
+  shades = shades-of false (start .args .t1) (twoSecond (start .args .map)) (twoWeight (start .args .word)) (c .turn-two .ensures)
 
-abbrev second : tie.After-finish-unsigned2 Inv-loop μ-loop → Ready
-second c = first (c .before .before)
+  first : Stores k (at .loop .out)
+  first = stores-of (at .loop .inv) below
 
-abbrev third : tie.After-finish-unsigned3 Inv-loop μ-loop → Ready
-third c = second (c .before .before)
+-- .. after one channel, and after two
+second : (c : tie.After-channel-unsigned Inv-loop μ-loop) → Stores (k (c .before .before)) (c .channel-unsigned .last .1 .1 .1 .1 .1 .1 .0)
+second c = stores-on (first (c .before .before)) _ _ _ _ (c .channel-unsigned .ensures)
 
-abbrev fourth : tie.After-finish-unsigned4 Inv-loop μ-loop → Ready
-fourth c = third (c .before .before)
+abbrev two : tie.After-channel-unsigned2 Inv-loop μ-loop → tie.After-channel-unsigned Inv-loop μ-loop
+two c = c .before .before .before .before
 
-abbrev fifth : tie.After-finish-unsigned5 Inv-loop μ-loop → Ready
-fifth c = fourth (c .before .before)
+third : (c : tie.After-channel-unsigned2 Inv-loop μ-loop) → Stores (k (two c .before .before)) (c .channel-unsigned2 .last .1 .1 .1 .1 .1 .1 .0)
+third c = stores-on (second (two c)) _ _ _ _ (c .channel-unsigned2 .ensures)
 
-abbrev sixth : tie.After-finish-unsigned6 Inv-loop μ-loop → Ready
-sixth c = fifth (c .before .before)
+channel-unsigned-requires : tie.Need-channel-unsigned-requires Inv-loop μ-loop
+channel-unsigned-requires c κs = let r = c .before in (r .turn-two .ensures .most, r .turn-two .ensures .most8, first-inside (first r))
+
+channel-unsigned-requires-2 : tie.Need-channel-unsigned-requires-2 Inv-loop μ-loop
+channel-unsigned-requires-2 c κs =
+    let o = c .before .before .before in
+    let r = o .before .before in
+    (r .turn-two .ensures .most, r .turn-two .ensures .most8, next-inside (second o) 1 (lit≤ tt))
+
+channel-unsigned-requires-3 : tie.Need-channel-unsigned-requires-3 Inv-loop μ-loop
+channel-unsigned-requires-3 c κs =
+    let o = c .before .before .before in
+    let r = two o .before .before in
+    (r .turn-two .ensures .most, r .turn-two .ensures .most8, next-inside (third o) 2 (lit≤ tt))
+
+-- the whole turn
+module _ (c : tie.After-slice-known4 Inv-loop μ-loop) where
+  abbrev o₃ : tie.After-channel-unsigned3 Inv-loop μ-loop
+  o₃ = c .before .before
+
+  abbrev o₂ : tie.After-channel-unsigned2 Inv-loop μ-loop
+  o₂ = o₃ .before .before .before .before
+
+  abbrev o₁ : tie.After-channel-unsigned Inv-loop μ-loop
+  o₁ = two o₂
+
+  abbrev ready : tie.After-turn-two Inv-loop μ-loop
+  ready = o₁ .before .before
 
 loop-again : tie.Need-loop-again Inv-loop μ-loop
 loop-again c =
-    let s₆ = c in
-    let s₅ = s₆ .before .before in
-    let s₄ = s₅ .before .before in
-    let s₃ = s₄ .before .before in
-    let s₂ = s₃ .before .before in
-    let s₁ = s₂ .before .before in
-    let region-high = s₁ .before .before in
-    let region-low = region-high .before in
-    let weight-high = region-low .before in
-    let weight-low = weight-high .before .before in
-    let inside = weight-low .before .before in
-    let loop = inside .before .loop in
-    let words = inside .before .before in
-    let start = words .before .before .before in
-    let k = loop .k in
-    let a = start .args in
-    let below = inside .loop-test .taken in
-    let i = index-low 3 (a .word) _ k _ (words .before .low-24 .ensures) (weight-low .before .index-3 .ensures .0) below in
-    let j = index-low 3 (a .word / 2 ^ 24) _ k _ (words .high-24 .ensures) (weight-high .before .index-32 .ensures .0) below ∙ digit-high 3 (a .word) k in
-    let low =
-    two-pixel k false (a .t1) (a .word) _ _ (a .map) _ i (weight-low .weight-3 .ensures .0) (region-low .in-region-1 .ensures) _ _ _ _ _ _
-    (s₁ .before .point-in .ensures) (s₃ .before .point-in3 .ensures) (s₅ .before .point-in5 .ensures)
-    (s₁ .finish-unsigned .ensures) (s₃ .finish-unsigned3 .ensures) (s₅ .finish-unsigned5 .ensures) in
-    let high =
-    two-pixel (8 + k) false (a .t1) (a .word) _ _ (a .map) _ j (weight-high .weight-32 .ensures .0) (region-high .in-region-12 .ensures ∙ bit-above (a .map) k) _ _ _ _ _ _
-    (s₂ .before .point-in2 .ensures) (s₄ .before .point-in4 .ensures) (s₆ .before .point-in6 .ensures)
-    (s₂ .finish-unsigned2 .ensures) (s₄ .finish-unsigned4 .ensures) (s₆ .finish-unsigned6 .ensures) in
-    (add-one-le below, both-painted _ _ (loop .out) k _ _ _ _ _ _ (loop .inv .1) low high below (start .pre))
+    let r = ready c in
+    turn-painted (shades r) (at r .loop .inv) (below r) (o₁ c .channel-unsigned .ensures) (o₂ c .channel-unsigned2 .ensures) (o₃ c .channel-unsigned3 .ensures)
 
 returns : tie.Need-returns Inv-loop μ-loop
-returns c =
-    let l = c .before .loop in
-    all-painted _ _ _ (l .k) (l .inv .1) (l .inv .0) (c .loop-test .left) (c .before .before .before .before .before .pre)
+returns c = let left = c .loop-test .left in all-painted (c .before .loop .inv) (omega arith)
 
 pub paint-two-unsigned-spec : {M : Type 1} → statement M
 paint-two-unsigned-spec =
@@ -95,71 +91,28 @@ paint-two-unsigned-spec =
     (tie.spec
     Inv-loop
     μ-loop
-    (λ c κs. search needs)
-    (λ c κs. search needs)
-    (λ c. (search needs, none-painted _ _))
-    (λ c κs. search needs)
-    (λ c κs. search needs)
-    (λ c κs. search needs)
-    (λ c κs. search needs)
-    (λ c κs. search needs)
-    (λ c κs. search needs)
-    (λ c. search needs)
+    (λ c. none-painted _ _ (c .before .pre))
+    (λ c κs. c .loop-test .taken)
+    (λ c. let h = below c in record { fits = omega arith })
     (λ c. lit< tt)
     (λ c. lit< tt)
     (λ c. lit< tt)
     (λ c. lit< tt)
-    (λ c κs. light-low c)
-    (λ c κs. search needs)
-    (λ c. search needs)
-    (λ c. search needs)
+    channel-unsigned-requires
     (λ c. lit< tt)
     (λ c. lit< tt)
     (λ c. lit< tt)
     (λ c. lit< tt)
-    (λ c κs. light-high (first c))
-    (λ c κs. search needs)
-    (λ c. place-fits (turn (second c)) _ (lit≤ tt))
-    (λ c. place-scales (turn (second c)) _ (lit≤ tt))
-    (λ c. simp length-set (place-inside (turn (second c)) _ (lit≤ tt)))
+    (λ c. let h = below (c .before .before .before .before) in record { fits = omega arith })
+    channel-unsigned-requires-2
     (λ c. lit< tt)
     (λ c. lit< tt)
     (λ c. lit< tt)
     (λ c. lit< tt)
-    (λ c κs. light-low (second c))
-    (λ c κs. search needs)
-    (λ c. place-fits (turn (third c)) _ (lit≤ tt))
-    (λ c. place-scales (turn (third c)) _ (lit≤ tt))
-    (λ c. simp length-set (place-inside (turn (third c)) _ (lit≤ tt)))
-    (λ c. lit< tt)
-    (λ c. lit< tt)
-    (λ c. lit< tt)
-    (λ c. lit< tt)
-    (λ c κs. light-high (third c))
-    (λ c κs. search needs)
-    (λ c. place-fits (turn (fourth c)) _ (lit≤ tt))
-    (λ c. place-scales (turn (fourth c)) _ (lit≤ tt))
-    (λ c. simp length-set (place-inside (turn (fourth c)) _ (lit≤ tt)))
-    (λ c. lit< tt)
-    (λ c. lit< tt)
-    (λ c. lit< tt)
-    (λ c. lit< tt)
-    (λ c κs. light-low (fourth c))
-    (λ c κs. search needs)
-    (λ c. place-fits (turn (fifth c)) _ (lit≤ tt))
-    (λ c. place-scales (turn (fifth c)) _ (lit≤ tt))
-    (λ c. simp length-set (place-inside (turn (fifth c)) _ (lit≤ tt)))
-    (λ c. lit< tt)
-    (λ c. lit< tt)
-    (λ c. lit< tt)
-    (λ c. lit< tt)
-    (λ c κs. light-high (fifth c))
-    (λ c κs. search needs)
-    (λ c. place-fits (turn (sixth c)) _ (lit≤ tt))
-    (λ c. place-scales (turn (sixth c)) _ (lit≤ tt))
-    (λ c. simp length-set (place-inside (turn (sixth c)) _ (lit≤ tt)))
-    (λ c. next-fits (turn (sixth c)))
-    (λ c. add-one-dec 8 _ (turn (sixth c) .below))
+    (λ c. let h = below (two (c .before .before) .before .before) in record { fits = omega arith })
+    channel-unsigned-requires-3
+    (λ c. let h = below (ready c) in record { fits = omega arith })
+    (λ c. add-one-dec 8 _ (below (ready c)))
     loop-again
-    (λ c. search needs)
+    (λ c. c .before .loop .inv .long)
     returns)

@@ -15,9 +15,10 @@ use Rattle.bc6h_spec.specs.Fields.{Valid}
 use Rattle.bc6h_spec.specs.Picture.{firstEnd, otherEnd, endpoint}
 use Rattle.bc6h_spec.proofs.Widths.{known, first-fits, other-fits}
 use Rattle.bc6h_spec.proofs.Shown.{endpoint-in}
-use Rattle.bc6_half.specs.declared.ModeBits.{ModeBits}
+use Rattle.bc6_mode.specs.declared.ModeBits.{ModeBits}
 use Rattle.bc6_half.specs.declared.Colour.{Colour}
-use Rattle.bc6_half.specs.Colours.{bitsOf, endOf, OfBits}
+use Rattle.bc6_mode.specs.Modes.{bitsOf}
+use Rattle.bc6_half.specs.Colours.{endOf, OfBits}
 use Rattle.bc6_half.proofs.Words.{wider}
 
 -- a colour by its three numbers

@@ -1,21 +1,14 @@
--- What a mode says of its endpoints, and an endpoint as a colour. Assumes nothing.
+-- An endpoint as a colour. Assumes nothing.
 use mathlib.Core.Bool.{Bool, false}
 use mathlib.Core.List.{List}
 use Prim.Native.Nat.{ℕ}
 use lib.ListN.{replicate}
 use Rattle.laws.specs.Ranges.{InBits}
 use Rattle.bc6h_spec.specs.declared.Fields.{Fields}
-use Rattle.bc6h_spec.specs.Layout.{precision, ownWidth, transformed}
 use Rattle.bc6h_spec.specs.Half.{unquantized}
 use Rattle.bc6h_spec.specs.Picture.{endpoint}
 use Rattle.bc6_half.specs.declared.Half.{Half}
-use Rattle.bc6_half.specs.declared.ModeBits.{ModeBits}
 use Rattle.bc6_half.specs.declared.Colour.{Colour}
-
--- the precision of a mode, its own widths, and whether it is transformed
-unfoldable pub bitsOf : ℕ → ModeBits
-bitsOf mode =
-    record { a0 = precision mode; r = ownWidth mode 0; g = ownWidth mode 1; b = ownWidth mode 2; transformed = transformed mode }
 
 -- endpoint e, after the transform
 unfoldable pub endOf : Bool → Fields → ℕ → Colour

@@ -1,5 +1,6 @@
 // From fields to half-floats: sign extension, transform, unquantise, interpolate, scale.
 // Each step is worked out first and chosen after, so that no jump depends on the data. Then an endpoint as a colour of three such numbers.
+use bc6_mode::ModeBits;
 use bc6h_spec::Fields;
 ghost use mathlib.Core.Path.{_≡_};
 ghost use mathlib.Core.Bool.{true, false};
@@ -11,8 +12,9 @@ ghost use Rattle.laws.specs.Ranges.{Below, Within, InBits};
 ghost use Rattle.bc6h_spec.specs.Fields.{Valid};
 ghost use Rattle.bc6h_spec.specs.Half.{signExtend, keep, transform, unquantizeU, unquantizeM, unquantized, interpolated, finishS};
 ghost use Rattle.bc6h_spec.specs.Picture.{firstEnd, delta, otherEnd, weights8, weights16};
+ghost use Rattle.bc6_mode.specs.Modes.{bitsOf};
 ghost use Rattle.bc6_half.specs.Halves.{halfOf};
-ghost use Rattle.bc6_half.specs.Colours.{bitsOf, endOf, unquantizedOf, OfBits, black};
+ghost use Rattle.bc6_half.specs.Colours.{endOf, unquantizedOf, OfBits, black};
 
 // The number that `bits` bits with the value `x` stand for in two's complement.
 pub fn sign_extend(x: i32, bits: u8) -> i32
@@ -260,52 +262,6 @@ pub fn other_end(a: i32, field: u16, width: u8, bits: u8, moved: bool, signed: b
         end_at(a, field, width, bits, moved, true)
     } else {
         end_at(a, field, width, bits, moved, false)
-    }
-}
-
-// What a mode says of its endpoints: the bits of the first, the bits of the others' red, green and blue, and whether the
-// others are stored as differences from the first.
-pub struct ModeBits {
-    pub a0: u8,
-    pub r: u8,
-    pub g: u8,
-    pub b: u8,
-    pub transformed: bool,
-}
-
-impl ModeBits {
-    fn new(a0: u8, r: u8, g: u8, b: u8, transformed: bool) -> Self
-        ensures { λ s. ⌜ s ≡ record { a0 = a0; r = r; g = g; b = b; transformed = transformed } ⌝ }
-    {
-        Self {
-            a0,
-            r,
-            g,
-            b,
-            transformed,
-        }
-    }
-
-    pub fn of(mode: u8) -> Self
-        requires { ⌜ (1 ≤ mode) × (mode ≤ 14) ⌝ }
-        ensures { λ s. ⌜ s ≡ bitsOf mode ⌝ }
-    {
-        match mode {
-            1 => ModeBits::new(10, 5, 5, 5, true),
-            2 => ModeBits::new(7, 6, 6, 6, true),
-            3 => ModeBits::new(11, 5, 4, 4, true),
-            4 => ModeBits::new(11, 4, 5, 4, true),
-            5 => ModeBits::new(11, 4, 4, 5, true),
-            6 => ModeBits::new(9, 5, 5, 5, true),
-            7 => ModeBits::new(8, 6, 5, 5, true),
-            8 => ModeBits::new(8, 5, 6, 5, true),
-            9 => ModeBits::new(8, 5, 5, 6, true),
-            10 => ModeBits::new(6, 6, 6, 6, false),
-            11 => ModeBits::new(10, 10, 10, 10, false),
-            12 => ModeBits::new(11, 9, 9, 9, true),
-            13 => ModeBits::new(12, 8, 8, 8, true),
-            _ => ModeBits::new(16, 4, 4, 4, true),
-        }
     }
 }
 

@@ -1,5 +1,5 @@
 // What a block's values are (specs), what its pixels have, and the values of a channel of two of them. A turn of the loops, which are the crates
-// bc6_paint_one and bc6_paint_two, paints pixels k and k + 8. Names that end in 8 are of pixel k + 8.
+// bc6_one_region and bc6_two_regions, paints pixels k and k + 8. Names that end in 8 are of pixel k + 8.
 use bc6_half::finish_signed;
 use bc6_half::finish_unsigned;
 use bc6_half::interpolate;

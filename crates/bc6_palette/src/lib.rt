@@ -1,12 +1,12 @@
 // The picture of a field record, as the document reads: the palettes between its endpoints, then each pixel's colour by its index, all of them
-// triples made, passed and returned by value. (Decoding a block builds no palette: bc6_picture.)
+// triples made, passed and returned by value. (Decoding a block builds no palette: bc6.)
 use bc6_half::Colour;
 use bc6_half::Half;
-use bc6_half::ModeBits;
 use bc6_half::finish_unquantize;
 use bc6_half::interpolate;
 use bc6_half::weight_3;
 use bc6_half::weight_4;
+use bc6_mode::ModeBits;
 use bc6_valid::is_valid;
 use bc6h_spec::Answer;
 use bc6h_spec::Block;

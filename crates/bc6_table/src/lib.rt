@@ -2,7 +2,7 @@
 pub mod destinations;
 
 use bcn_util::BitStream;
-use destinations::destination;
+use destinations::codes;
 ghost use mathlib.Core.Path.{_≡_};
 ghost use Prim.Native.Nat.{_+_, _*_, _/_, _%_, _^_, _<_, _≤_};
 ghost use lib.ListN.{getD, set};
@@ -53,13 +53,14 @@ pub fn read_places(mode: usize, stream: BitStream) -> [u16; 14]
     requires { ⌜ (1 ≤ mode) × (mode ≤ 14) ⌝ }
     ensures { λ r. ⌜ r ≡ made (gathered (row mode) (number stream)) 14 ⌝ }
 {
+    let table = codes();
     let start = row_start(mode);
     let count = table_bits(mode);
     let mut values = [0u16; 14];
     let mut rest = stream;
     let mut k = 0;
     while k < count {
-        let code = destination(start + k);
+        let code = table[start + k];
         let read = rest.consume_bits(1);
         let next = fed(values, code, read.bits);
         values = next;

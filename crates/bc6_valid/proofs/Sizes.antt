@@ -20,8 +20,8 @@ use Rattle.bc6h_spec.proofs.Once.{row-once}
 use Rattle.bc6h_spec.proofs.Partitions.{counted-one}
 use Rattle.bcn_data.specs.declared.Subset2Map.{Subset2Map}
 use Rattle.bcn_data.specs.Subsets.{subset2}
-use Rattle.bc6_half.specs.declared.ModeBits.{ModeBits}
-use Rattle.bc6_half.specs.Colours.{bitsOf}
+use Rattle.bc6_mode.specs.declared.ModeBits.{ModeBits}
+use Rattle.bc6_mode.specs.Modes.{bitsOf}
 use Rattle.bc6_valid.specs.Sizes.{secondFixup, sizeAt}
 
 pub below-power : (value bits : ℕ) → bits ≤ 16 → ltb value (1 * 2 ^ bits % 2 ^ 32) ≡ ltb value (2 ^ bits)

@@ -1,5 +1,5 @@
 // Which field records a block has.
-use bc6_half::ModeBits;
+use bc6_mode::ModeBits;
 use bc6h_spec::Fields;
 use bcn_data::Subset2Map;
 ghost use mathlib.Core.Path.{_≡_};
@@ -9,7 +9,7 @@ ghost use Rattle.laws.specs.Every.{below};
 ghost use Rattle.bc6h_spec.specs.Layout.{ownWidth, width};
 ghost use Rattle.bc6h_spec.specs.Regions.{region1Of};
 ghost use Rattle.bc6h_spec.specs.Fields.{indexBits};
-ghost use Rattle.bc6_half.specs.Colours.{bitsOf};
+ghost use Rattle.bc6_mode.specs.Modes.{bitsOf};
 ghost use Rattle.bc6_valid.specs.Validity.{endpointFits, indexFits, valid};
 ghost use Rattle.bc6_valid.specs.Sizes.{secondFixup, sizeAt};
 

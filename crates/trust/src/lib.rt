@@ -1,7 +1,7 @@
 // Whether a block may be trusted: whether it meets by itself what the copies theorem asks, so that no other such block of its
 // format, mode and partition shows its picture.
 use bc6_half::Colour;
-use bc6_half::ModeBits;
+use bc6_mode::ModeBits;
 use bc6h_spec::Block;
 use bc6h_spec::Fields;
 use bcn_data::Subset2Map;

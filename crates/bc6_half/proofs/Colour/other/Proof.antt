@@ -10,9 +10,10 @@ use mir.ValLaws.{toZ-ofZ}
 use Rattle.laws.proofs.Num.{read}
 use Rattle.bc6h_spec.specs.Layout.{ownWidth}
 use Rattle.bc6h_spec.specs.Picture.{endpoint}
-use Rattle.bc6_half.specs.declared.ModeBits.{ModeBits}
+use Rattle.bc6_mode.specs.declared.ModeBits.{ModeBits}
 use Rattle.bc6_half.specs.declared.Colour.{Colour}
-use Rattle.bc6_half.specs.Colours.{bitsOf, endOf}
+use Rattle.bc6_mode.specs.Modes.{bitsOf}
+use Rattle.bc6_half.specs.Colours.{endOf}
 use Rattle.bc6_half.proofs.Ends.{colour-is, other-asks, other-is}
 use Rattle.bc6_half.proofs.Colour.other.Statement.{statement}
 use Rattle.bc6_half.proofs.Colour.other.Tie as tie

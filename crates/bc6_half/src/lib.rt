@@ -273,15 +273,11 @@ pub struct Colour {
 }
 
 impl Colour {
-    // The zero colour, as patterns.
+    // The zero colour: the patterns of 0.
     pub fn black() -> [Half; 3]
         ensures { λ r. ⌜ r ≡ black ⌝ }
     {
-        let zero = Half {
-            pattern: 0,
-            infinite: false,
-        };
-        [zero; 3]
+        [finish_unsigned(0); 3]
     }
 
     // The first endpoint of a block.

@@ -1,12 +1,15 @@
 -- `bc6_table::read_places` meets its contract: so many bits are read, and what is gathered so far and what is to come is the whole.
 -- Assumes nothing.
-use mathlib.Core.Path.{_≡_, sym, ap, subst}
+use mathlib.Core.Path.{_≡_, _∙_, sym, ap, subst}
 use mathlib.Core.List.{List}
 use Prim.Native.Nat.{ℕ, _≤_, _<_, _-_, _+_, _*_, _/_, _%_, _^_}
 use native.Mathlib.Nat.{lt-of-lt-of-le, mod-lt}
+use native.Mathlib.Omega.{arith}
 use borrow.Author.Needs.{needs}
 use lib.Dec.{lit<, lit≤}
-use lib.ListN.{getD}
+use lib.ListN.{getD, set}
+use mir.Syntax.{w64}
+use mir.Val.{Fits}
 use Rattle.bcn_util.specs.Stream.{number}
 use Rattle.bc6h_spec.specs.Layout as layout
 use Rattle.bc6_table.proofs.Walk.{Walked, walked-first, walked-at, walked-place, walked-room, walked-next, walked-done}
@@ -24,40 +27,40 @@ loop-holds : tie.Need-loop-holds Inv-loop μ-loop
 loop-holds c =
     (search needs, walked-first _ _ _ _ (search needs) (search needs) (search needs) (search needs), c .before .before .codes .ensures)
 
-at : (c : tie.In-loop Inv-loop μ-loop) → c .before .before .before .row-start .result + c .before .loop .k < 1080
-at c = walked-at (c .before .loop .inv .1) (c .loop-test .taken)
+-- a turn of the loop
+module _ (c : tie.In-loop Inv-loop μ-loop) where
+  abbrev at : ℕ
+  at = c .before .before .before .row-start .result + c .before .loop .k
 
-add-code : tie.Need-add-code Inv-loop μ-loop
-add-code c = record { fits = lt-of-lt-of-le (at c) (lit≤ tt) }
+  abbrev code : ℕ
+  code = getD (c .before .before .before .before .codes .result) at 0
 
--- the code that was read is the table's
-code-is : (c : tie.In-loop Inv-loop μ-loop) → (j : ℕ) → getD (c .before .before .before .before .codes .result) j 0 ≡ getD layout.table j 0
-code-is c j = ap (λ (l : List ℕ). getD l j 0) (c .before .loop .inv .2)
+  inside : at < 1080
+  inside = walked-at (c .before .loop .inv .1) (c .loop-test .taken)
 
-fed-requires : tie.Need-fed-requires Inv-loop μ-loop
-fed-requires c κs =
-    let turn = c .before in
-    let l = turn .before .loop in
-    let w = l .inv .1 in
-    let h = turn .loop-test .taken in
-    let e = sym (c .consume-bits .ensures .next) in
-    let code = code-is turn (turn .before .before .before .row-start .result + l .k) in
-    let read = getD (turn .before .before .before .before .codes .result) (turn .before .before .before .row-start .result + l .k) 0 in (
-      subst (λ (x : ℕ). x < 2) e (mod-lt _ (lit< tt)),
-      walked-place w h code,
-      subst (λ (x : ℕ). getD (l .values) (read / 16) 0 + x * 2 ^ (read % 16) < 65536) e (walked-room w h code),
-    )
+  -- the code that is read is the table's
+  code-is : code ≡ getD layout.table at 0
+  code-is = ap (λ (l : List ℕ). getD l at 0) (c .before .loop .inv .2)
 
-loop-again : tie.Need-loop-again Inv-loop μ-loop
-loop-again c =
-    let read = c .before .before .consume-bits .ensures in
-    let turn = c .before .before .before in
-    let l = turn .before .loop in (
-      search needs,
-      rw (c .before .fed .ensures, read .next, read .left)
-          (walked-next (l .inv .1) (turn .loop-test .taken) (code-is turn (turn .before .before .before .row-start .result + l .k))),
-      l .inv .2,
-    )
+  place : code / 16 < 14
+  place = walked-place (c .before .loop .inv .1) (c .loop-test .taken) code-is
+
+  doubled : Fits w64 (code / 16 * 2)
+  doubled = let h = place in record { fits = omega (arith, h) }
+
+  module _ {bit : ℕ} (e : bit ≡ number (c .before .loop .rest) % 2) where
+    small : bit < 2
+    small = subst (λ (x : ℕ). x < 2) (sym e) (mod-lt _ (lit< tt))
+
+    room : {put : ℕ} → put ≡ bit * 2 ^ (code % 16) → getD (c .before .loop .values) (code / 16) 0 + put < 65536
+    room q =
+        subst (λ (x : ℕ). getD (c .before .loop .values) (code / 16) 0 + x < 65536)
+        (sym (q ∙ ap (λ (x : ℕ). x * 2 ^ (code % 16)) e))
+        (walked-room (c .before .loop .inv .1) (c .loop-test .taken) code-is)
+
+    next : {put rest : ℕ} → put ≡ bit * 2 ^ (code % 16) → rest ≡ number (c .before .loop .rest) / 2
+        → Walked (c .before .before .before .before .before .args .mode) (number (c .before .before .before .before .before .args .stream)) (c .before .before .before .row-start .result) (c .before .before .table-bits .result) (set (c .before .loop .values) (code / 16) (getD (c .before .loop .values) (code / 16) 0 + put)) rest (c .before .loop .k + 1)
+    next q r = rw (q ∙ ap (λ (x : ℕ). x * 2 ^ (code % 16)) e, r) (walked-next (c .before .loop .inv .1) (c .loop-test .taken) code-is)
 
 returns : tie.Need-returns Inv-loop μ-loop
 returns c = walked-done (c .before .loop .inv .1) (c .before .loop .inv .0) (c .loop-test .left)
@@ -72,11 +75,17 @@ read-places-spec =
     (λ c κs. search needs)
     (λ c κs. search needs)
     loop-holds
-    add-code
-    at
+    (λ c. record { fits = lt-of-lt-of-le (inside c) (lit≤ tt) })
+    inside
+    (λ c. record { fits = lt-of-lt-of-le (place c) (lit≤ tt) })
     (λ c κs. search needs)
-    fed-requires
+    (λ c. doubled (c .before))
+    (λ c. place (c .before))
+    (λ c κs. (small (c .before) (c .consume-bits .ensures .next), mod-lt _ (lit< tt)))
+    (λ c. record { fits = room (c .before .before) (c .before .consume-bits .ensures .next) (c .bit-at .ensures) })
+    (λ c. doubled (c .before .before))
+    (λ c. place (c .before .before))
     (λ c. search needs)
     (λ c. search needs)
-    loop-again
+    (λ c. (search needs, next (c .before .before .before) (c .before .before .consume-bits .ensures .next) (c .before .bit-at .ensures) (c .before .before .consume-bits .ensures .left), c .before .before .before .before .loop .inv .2))
     returns)

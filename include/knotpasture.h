@@ -103,6 +103,13 @@ uint32_t knot_block_fields(const uint8_t *block, size_t block_length, uint8_t fo
  */
 uint32_t knot_write_block(const uint16_t *numbers, size_t numbers_length, uint8_t *out, size_t out_length);
 
+/* What a field record shows, without a block written first: numbers as knot_block_fields writes them, valid as knot_write_block says. The
+ * 48 values become out[0] to out[47], as knot_block_pixels would write them of the record's block; the rest of out stays.
+ *
+ * Answers the number alone. Refusals: 1, 10 (also for another count of numbers than 32), 3, in this order.
+ */
+uint32_t knot_fields_pixels(const uint16_t *numbers, size_t numbers_length, uint16_t *out, size_t out_length);
+
 /* Record n of a store of 24-byte records: tile number (4 bytes, low byte first), format, three zero bytes, block.
  *
  * Answers the number in the low byte; where that is 0, the format in the next byte and the tile in the high 32 bits.

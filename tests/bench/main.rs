@@ -1,8 +1,10 @@
 //! Blocks per second, ours and the Rust's in one run, both built for release: for each format and group of modes, over 4,096
 //! blocks that stay in cache and over 64 MiB of blocks; the call over a run of blocks against a call for each; a block written
-//! from its fields against decoding it; and the twin list's two worst stores against decoding their blocks.
+//! from its fields, its fields read, and its fields shown, each against decoding it; and the twin list's two worst stores against
+//! decoding their blocks.
 //!
 //!     bench                  the table
+//!     bench fields           the fields' part of it
 //!     bench ours|rust        decodes 100,000 mixed blocks with one side, in `counted`, for a count of instructions
 #[allow(dead_code)]
 #[path = "../compare/blocks.rs"]
@@ -23,6 +25,7 @@ extern "C" {
     fn knot_blocks_pixels(blocks: *const u8, blocks_length: usize, format: u8, out: *mut u16, out_length: usize, done: *mut usize, infinite: *mut usize) -> u32;
     fn knot_block_fields(block: *const u8, block_length: usize, format: u8, numbers: *mut u16, room: usize) -> u32;
     fn knot_write_block(numbers: *const u16, count: usize, out: *mut u8, room: usize) -> u32;
+    fn knot_fields_pixels(numbers: *const u16, count: usize, out: *mut u16, room: usize) -> u32;
     fn knot_twin_list(store: *const u8, store_length: usize, marks: *mut u8, marks_length: usize) -> u64;
 }
 
@@ -103,6 +106,7 @@ fn table() {
     runs(&groups[0].1);
     for (group, modes) in &groups {
         writing(group, modes);
+        fields(group, modes);
     }
     twins(&groups[0].1);
 }
@@ -158,6 +162,28 @@ fn writing(group: &str, modes: &[&Mode]) {
     println!("writing, {group}: {:.1} ns a block; decoding {:.1} ns; {:.1} times", cost(write), cost(decode), write / decode);
 }
 
+/// Nanoseconds a block: its fields read, the fields shown, and the block decoded.
+fn fields(group: &str, modes: &[&Mode]) {
+    let blocks = blocks_of(modes, 4096);
+    let mut records = vec![[0u16; 32]; blocks.len()];
+    let mut read_all = || {
+        for (block, numbers) in black_box(&blocks).iter().zip(&mut records) {
+            unsafe { knot_block_fields(block.as_ptr(), 16, 0, numbers.as_mut_ptr(), 32) };
+        }
+    };
+    let (read, decode) = best(&mut read_all, || decode_all(&blocks, 1, 0, ours));
+    let mut out = [0; 48];
+    let mut show_all = || {
+        for numbers in black_box(&records) {
+            unsafe { knot_fields_pixels(numbers.as_ptr(), 32, out.as_mut_ptr(), 48) };
+            black_box(&out);
+        }
+    };
+    let (show, again) = best(&mut show_all, || decode_all(&blocks, 1, 0, ours));
+    let cost = |seconds: f64| seconds * 1e9 / blocks.len() as f64;
+    println!("fields, {group}: read in {:.1} ns, {:.1} times a decode; shown in {:.1} ns, {:.1} times", cost(read), read / decode, cost(show), show / again);
+}
+
 fn record(block: [u8; 16]) -> [u8; 24] {
     let mut record = [0; 24];
     record[8..].copy_from_slice(&block);
@@ -200,8 +226,12 @@ fn count(decode: fn(&[u8; 16], u8, &mut [u16; 48])) {
 fn main() {
     match std::env::args().nth(1).as_deref() {
         None => table(),
+        Some("fields") => {
+            let modes = Mode::all();
+            fields("mixed", &modes.iter().filter(|mode| !mode.reserved()).collect::<Vec<_>>());
+        }
         Some("ours") => count(ours),
         Some("rust") => count(rust),
-        Some(word) => eprintln!("bench takes ours, rust or nothing, and not {word}"),
+        Some(word) => eprintln!("bench takes fields, ours, rust or nothing, and not {word}"),
     }
 }

@@ -1,3 +1,5 @@
+pub mod Link
+pub mod Whole
 pub mod Calls
 pub mod Values
 pub mod Firm

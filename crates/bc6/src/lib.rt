@@ -1,9 +1,115 @@
-// The pixels call.
+// The pixels call: from a block's bits to the values that it shows, with no palette.
+//
+// The endpoints stand in one array of twelve, channel by channel: first as they are stored, then, in place, unquantised. Each format has a
+// function of its own: the compiler then works out the endpoints with the format known.
+use bc6_endpoints::one_ends;
+use bc6_endpoints::two_ends;
+use bc6_half::Colour;
+use bc6_mode::ModeBits;
+use bc6_mode::extract_mode;
 use bc6h_spec::Answer;
 use bc6h_spec::Block;
+use bcn_data::Subset2Map;
 use bcn_util::BitStream;
+use bcn_util::Indexes;
 ghost use mathlib.Core.Path.{_≡_};
+ghost use mathlib.Core.Bool.{true, false};
+ghost use mathlib.Core.List.{_++_};
+ghost use Prim.Native.Nat.{_≤_};
+ghost use lib.ListN.{length, drop, replicate};
+ghost use Rattle.bcn_util.specs.Stream.{number};
+ghost use Rattle.bc6h_spec.specs.Fields.{modeIn, fieldsAt};
+ghost use Rattle.bc6h_spec.specs.Picture.{pictureAs};
+ghost use Rattle.bc6_paint.specs.Values.{PaintedAs};
+ghost use Rattle.bc6.specs.Shown.{Picked, OnePicked, shownOf};
 ghost use Rattle.bc6.specs.Call.{Painted};
+
+// What a block of two regions says of its pixels: the map of the regions, and sixteen indices of three bits.
+struct Picks {
+    map: u16,
+    indices: u64,
+}
+
+fn two_picks(stream: BitStream) -> Picks
+    ensures { λ r. ⌜ Picked (number stream) r ⌝ }
+{
+    let map = Subset2Map::of(bc6_runs::read_partition(stream) as usize);
+    let indexes = Indexes::new_p2(3, stream.skip(82), map.fixup_index_2 as u64);
+    Picks {
+        map: map.subset_indexes,
+        indices: indexes.uncompressed,
+    }
+}
+
+// Sixteen indices of four bits.
+fn one_indices(stream: BitStream) -> u64
+    ensures { λ r. ⌜ OnePicked (number stream) r ⌝ }
+{
+    let indexes = Indexes::new_p1(4, stream.skip(65));
+    indexes.uncompressed
+}
+
+fn show_unsigned(mode: u8, lo: u64, hi: u64, out: &mut [u16]) -> u16
+    requires { ⌜ ((1 ≤ mode) × (mode ≤ 14)) × (48 ≤ length (now out)) ⌝ }
+    ensures { λ r. ⌜ PaintedAs (pictureAs false (fieldsAt 0 mode (number (record { lo = lo; hi = hi })))) (now (out .entry)) r (now (out .exit)) ⌝ }
+{
+    let mut ends = [0u16; 12];
+    bc6_runs::read_ends(mode as usize, lo, hi, &mut ends);
+    let bits = ModeBits::of(mode);
+    let stream = BitStream { lo, hi };
+    if mode <= 10 {
+        two_ends(bits, false, &mut ends);
+        let picks = two_picks(stream);
+        return bc6_two_regions::paint_two(false, ends, picks.map, picks.indices, out);
+    }
+    one_ends(bits, false, &mut ends);
+    bc6_one_region::paint_one(false, ends, one_indices(stream), out)
+}
+
+fn show_signed(mode: u8, lo: u64, hi: u64, out: &mut [u16]) -> u16
+    requires { ⌜ ((1 ≤ mode) × (mode ≤ 14)) × (48 ≤ length (now out)) ⌝ }
+    ensures { λ r. ⌜ PaintedAs (pictureAs true (fieldsAt 1 mode (number (record { lo = lo; hi = hi })))) (now (out .entry)) r (now (out .exit)) ⌝ }
+{
+    let mut ends = [0u16; 12];
+    bc6_runs::read_ends(mode as usize, lo, hi, &mut ends);
+    let bits = ModeBits::of(mode);
+    let stream = BitStream { lo, hi };
+    if mode <= 10 {
+        two_ends(bits, true, &mut ends);
+        let picks = two_picks(stream);
+        return bc6_two_regions::paint_two(true, ends, picks.map, picks.indices, out);
+    }
+    one_ends(bits, true, &mut ends);
+    bc6_one_region::paint_one(true, ends, one_indices(stream), out)
+}
+
+// Sixteen black pixels: 48 zeros.
+fn write_black(out: &mut [u16])
+    requires { ⌜ 48 ≤ length (now out) ⌝ }
+    ensures { λ _. ⌜ now (out .exit) ≡ replicate 48 0 ++ drop 48 (now (out .entry)) ⌝ }
+{
+    let black = Colour::black();
+    for j in 0..48usize {
+        let value = black[j % 3];
+        out[j] = value.pattern;
+    }
+}
+
+// What is shown of a block, from its mode and its bits: its values, and how many of them are minus infinity. (It takes the two words, and
+// not a stream: a struct that is handed on is stored and read back.)
+pub fn show(mode: u8, lo: u64, hi: u64, signed: bool, out: &mut [u16]) -> u16
+    requires { ⌜ (mode ≡ modeIn (number (record { lo = lo; hi = hi }))) × (48 ≤ length (now out)) ⌝ }
+    ensures { λ r. ⌜ PaintedAs (shownOf signed (number (record { lo = lo; hi = hi }))) (now (out .entry)) r (now (out .exit)) ⌝ }
+{
+    if mode == 0 {
+        write_black(out);
+        return 0;
+    }
+    if signed {
+        return show_signed(mode, lo, hi, out);
+    }
+    show_unsigned(mode, lo, hi, out)
+}
 
 // What the pixels call answers.
 pub struct Pixels {
@@ -38,8 +144,8 @@ pub fn block_pixels(block: &[u8], format: u8, out: &mut [u16]) -> Pixels
         return Pixels::refused(Answer::SHORT_OUTPUT);
     }
     let stream = BitStream::new(block);
-    let mode = bc6_fields::extract_mode(stream) as u8;
-    let infinite = bc6_picture::show(mode, stream.lo, stream.hi, format == 1, out);
+    let mode = extract_mode(stream) as u8;
+    let infinite = show(mode, stream.lo, stream.hi, format == 1, out);
     Pixels {
         answer: Answer::DONE,
         mode,

@@ -19,8 +19,8 @@ use Rattle.bc6h_spec.specs.Picture.{valueCount}
 use Rattle.bc6h_spec.specs.Block.{pixelsOf, infinitiesOf}
 use Rattle.bc6h_spec.proofs.Values.{length-pixels}
 use Rattle.bc6_paint.specs.Values.{PaintedAs}
-use Rattle.bc6_picture.specs.Shown.{shownOf}
-use Rattle.bc6_picture.proofs.Whole.{block-shown}
+use Rattle.bc6.specs.Shown.{shownOf}
+use Rattle.bc6.proofs.Whole.{block-shown}
 use Rattle.bc6_blocks.specs.Run.{blockAt, shownAt, runOf, RunWritten}
 
 -- what is painted into the part that was lent, and what is counted of it

@@ -1,4 +1,5 @@
 // The pixels of a run of blocks of one format.
+use bc6_mode::extract_mode;
 use bc6h_spec::Answer;
 use bc6h_spec::Block;
 use bcn_util::BitStream;
@@ -37,8 +38,8 @@ fn paint_run(blocks: &[u8], signed: bool, count: usize, out: &mut [u16]) -> usiz
         let end = start + Block::SIZE;
         let place = Block::VALUES * n;
         let stream = BitStream::new(&blocks[start..end]);
-        let mode = bc6_fields::extract_mode(stream) as u8;
-        let shown = bc6_picture::show(mode, stream.lo, stream.hi, signed, &mut out[place..]);
+        let mode = extract_mode(stream) as u8;
+        let shown = bc6::show(mode, stream.lo, stream.hi, signed, &mut out[place..]);
         infinite += shown as usize;
     }
     infinite

@@ -1,4 +1,6 @@
 // From a block's bits to its fields.
+use bc6_mode::extract_mode;
+use bc6_table::read_places;
 use bc6h_spec::Answer;
 use bc6h_spec::Block;
 use bc6h_spec::Fields;
@@ -12,26 +14,9 @@ ghost use Rattle.laws.specs.Made.{made};
 ghost use Rattle.bcn_util.specs.Stream.{number};
 ghost use Rattle.bcn_util.specs.Indexed.{indexAt};
 ghost use Rattle.bc6h_spec.specs.Layout.{row};
-ghost use Rattle.bc6h_spec.specs.Fields.{modeIn, gathered, fieldsAt, fieldsOf};
+ghost use Rattle.bc6h_spec.specs.Fields.{gathered, fieldsAt, fieldsOf};
 ghost use Rattle.bc6_fields.specs.Call.{Extracted};
-ghost use Rattle.bc6_fields.specs.Places.{entry, turned, fieldsOfNumber};
-
-// The mode number, 0 for a reserved mode.
-pub fn extract_mode(stream: BitStream) -> usize
-    ensures { λ r. ⌜ r ≡ modeIn (number stream) ⌝ }
-{
-    let two = stream.consume_bits(2);
-    let low2 = two.bits;
-    let rest = two.rest;
-    let three = rest.consume_bits(3);
-    let high3 = three.bits as usize;
-    match low2 {
-        0b00 => 1,
-        0b01 => 2,
-        0b10 => 3 + high3,
-        _ => { if high3 < 4 { 11 + high3 } else { 0 } }
-    }
-}
+ghost use Rattle.bc6_fields.specs.Places.{entry};
 
 // Of the fourteen places the endpoints' values.
 fn endpoints_of(places: [u16; 14]) -> [u16; 12]
@@ -42,22 +27,6 @@ fn endpoints_of(places: [u16; 14]) -> [u16; 12]
     while k < 12 {
         endpoints[k] = places[k];
         k += 1;
-    }
-    endpoints
-}
-
-// Endpoint after endpoint, of what stands channel after channel.
-fn by_endpoint(ends: [u16; 12]) -> [u16; 12]
-    ensures { λ r. ⌜ r ≡ made (turned ends) 12 ⌝ }
-{
-    let mut endpoints = [0u16; 12];
-    let mut e = 0;
-    while e < 4 {
-        let at = 3 * e;
-        endpoints[at] = ends[e];
-        endpoints[at + 1] = ends[4 + e];
-        endpoints[at + 2] = ends[8 + e];
-        e += 1;
     }
     endpoints
 }
@@ -111,35 +80,8 @@ fn fields_from(
     }
 }
 
-// The fields of a block of a format, read by runs. A reserved mode has none. (It takes the block's bits, and not its bytes: a slice that
-// is only handed on is stored and read back.)
-pub fn fields_in(stream: BitStream, format: u8) -> Fields
-    ensures { λ r. ⌜ r ≡ fieldsOfNumber format (number stream) ⌝ }
-{
-    let mode = extract_mode(stream);
-    if mode == 0 {
-        return Fields::none();
-    }
-    let mut ends = [0u16; 12];
-    bc6_runs::read_ends(mode, stream.lo, stream.hi, &mut ends);
-    fields_from(
-        format,
-        mode,
-        by_endpoint(ends),
-        bc6_runs::read_partition(stream),
-        stream,
-    )
-}
-
+// The fields of a block of a format, read bit by bit as the table says. A reserved mode has none.
 pub fn fields_of(block: &[u8], format: u8) -> Fields
-    requires { ⌜ length (now block) ≡ 16 ⌝ }
-    ensures { λ r. ⌜ r ≡ fieldsOf format (now (block .entry)) ⌝ }
-{
-    fields_in(BitStream::new(block), format)
-}
-
-// The same, read bit by bit as the table says.
-pub fn plain_fields(block: &[u8], format: u8) -> Fields
     requires { ⌜ length (now block) ≡ 16 ⌝ }
     ensures { λ r. ⌜ r ≡ fieldsOf format (now (block .entry)) ⌝ }
 {
@@ -148,7 +90,7 @@ pub fn plain_fields(block: &[u8], format: u8) -> Fields
     if mode == 0 {
         return Fields::none();
     }
-    let places = bc6_table::read_places(mode, stream);
+    let places = read_places(mode, stream);
     fields_from(format, mode, endpoints_of(places), places[13], stream)
 }
 

@@ -3,3 +3,5 @@ pub mod Extend
 pub mod Sized
 pub mod Told
 pub mod Weights
+pub mod Words
+pub mod Ends

@@ -5,7 +5,7 @@ use Prim.Native.Nat.{ℕ, zero, suc, _+_, _*_, _/_, _<_, _≤_}
 use native.Mathlib.Nat.{mul-comm}
 use native.Mathlib.Omega.{arith}
 use lib.Dec.{T}
-use lib.IntN.{ℤ, pos, negsuc, negℤ, natAbs, _+ℤ_, _*ℤ_}
+use lib.IntN.{ℤ, pos, negsuc, negℤ, natAbs, _*ℤ_}
 use lib.Signed.{mag, shrZ, ltZ}
 use borrow.Author.Tests.{ltb-true, ltb-false}
 use Rattle.laws.proofs.Num.{abs-neg}
@@ -27,11 +27,11 @@ neg-pattern zero h = absurd (omega arith)
 neg-pattern (suc t) h = omega arith
 
 -- below −1 the scaled magnitude is not 0, so the sign is there; at −1 and above it is not
-pub low-pattern : (x : ℤ) → ltZ x (negsuc 0) ≡ true → pos 32768 +ℤ pos (31 * natAbs x / 32) ≡ pos (finishS x)
+pub low-pattern : (x : ℤ) → ltZ x (negsuc 0) ≡ true → 32768 + 31 * natAbs x / 32 ≡ finishS x
 unfolding finishS scaled
 low-pattern (pos n) e = absurd (subst T (sym e) tt)
 low-pattern (negsuc zero) e = absurd (subst T (sym e) tt)
-low-pattern (negsuc (suc n)) e = ap pos (neg-pattern (31 * suc (suc n) / 32) (omega arith))
+low-pattern (negsuc (suc n)) e = neg-pattern (31 * suc (suc n) / 32) (omega arith)
 
 pub high-pattern : (x : ℤ) → ltZ x (negsuc 0) ≡ false → 31 * natAbs x / 32 ≡ finishS x
 unfolding finishS scaled

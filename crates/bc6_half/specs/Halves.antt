@@ -1,10 +1,15 @@
--- A pattern, and whether it is minus infinity. Assumes nothing.
+-- A number of 16 bits; a pattern, and whether it is minus infinity. Assumes nothing.
 use mathlib.Core.Bool.{Bool}
 use Prim.Native.Nat.{ℕ}
 use lib.Dec.{eqb}
-use lib.IntN.{ℤ}
-use Rattle.bc6h_spec.specs.Half.{minusInfinity, finished, isLowest}
+use lib.IntN.{ℤ, pos}
+use Rattle.laws.specs.Pick.{pick}
+use Rattle.bc6h_spec.specs.Half.{signExtend, minusInfinity, finished, isLowest}
 use Rattle.bc6_half.specs.declared.Half.{Half}
+
+-- the number that 16 bits stand for: in signed format in two's complement
+unfoldable pub numberAt : Bool → ℕ → ℤ
+numberAt signed u = pick signed (signExtend 16 u) (pos u)
 
 -- the pattern of a number, and "whether its number was −32768"
 unfoldable pub halfOf : Bool → ℤ → Half

@@ -1,26 +1,10 @@
--- A value is the interpolated number, scaled; painted values under another name, and in either format. Assumes nothing.
-use mathlib.Core.Path.{_≡_, _∙_, refl, sym, ap, subst}
+-- Painted values under another name, and in either format. Assumes nothing.
+use mathlib.Core.Path.{_≡_, refl, sym, subst}
 use mathlib.Core.Bool.{Bool, true, false}
 use mathlib.Core.List.{List, _++_}
-use Prim.Native.Nat.{ℕ, _≤_}
-use native.Mathlib.Omega.{arith}
-use lib.IntN.{ℤ, pos}
+use Prim.Native.Nat.{ℕ}
 use lib.ListN.{drop}
-use Rattle.laws.specs.Ranges.{InBits}
-use Rattle.bc6h_spec.specs.Half.{interpolated, finished}
-use Rattle.bc6h_spec.proofs.Ranges.{interpolated-in}
-use Rattle.bc6_tone.specs.Tones.{biased, pointAt, finishAt}
-use Rattle.bc6_tone.proofs.Biased.{biased-off, interpolated-biased, finished-biased}
 use Rattle.bc6_paint.specs.Values.{PaintedAs, PaintedIn}
-
--- a value between two numbers of 16 bits
-pub worked-out : (s : Bool) (a b : ℤ) (w : ℕ) → InBits s 16 a → InBits s 16 b → w ≤ 64
-    → finishAt s (pointAt (biased s a) (biased s b) w) ≡ finished s (interpolated a b (pos w))
-worked-out s a b w ia ib h =
-    sym
-    (finished-biased s (interpolated a b (pos w)) (pointAt (biased s a) (biased s b) w)
-    (interpolated-biased s a b (biased s a) (biased s b) w h (biased-off s a ia) (biased-off s b ib))
-    (interpolated-in s a b (pos w) (record { nonneg = tt; below = omega arith }) ia ib))
 
 -- the same values, under another name
 pub painted-as : {x y out after : List ℕ} {n : ℕ} → PaintedAs x out n after → x ≡ y → PaintedAs y out n after

@@ -1,45 +1,149 @@
-// What a block's values are (specs), and the indices that its pixels have: sixteen in one word, pixel 0 lowest. The loops that paint are the
-// crates bc6_paint_one and bc6_paint_two.
+// What a block's values are (specs), what its pixels have, and the values of a channel of two of them. A turn of the loops, which are the crates
+// bc6_one_region and bc6_two_regions, paints pixels k and k + 8. Names that end in 8 are of pixel k + 8.
+use bc6_half::finish_signed;
+use bc6_half::finish_unsigned;
+use bc6_half::interpolate;
+use bc6_half::number_16;
+use bc6_half::weight_3;
+use bc6_half::weight_4;
 ghost use mathlib.Core.Path.{_≡_};
-ghost use Prim.Native.Nat.{_/_, _%_, _^_, _<_};
-ghost use Rattle.bc6_paint.specs.Values.{digit};
+ghost use mathlib.Core.Bool.{true, false};
+ghost use Prim.Native.Nat.{_+_, _/_, _%_, _^_, _≤_, _<_};
+ghost use lib.Dec.{eqb};
+ghost use lib.IntN.{pos};
+ghost use lib.ListN.{length, getD};
+ghost use Rattle.laws.specs.Pick.{pick};
+ghost use Rattle.laws.specs.Bit.{bit};
+ghost use Rattle.bc6_paint.specs.Values.{digit, oneSecond, oneWeight, twoSecond, twoWeight, TurnOf, pointOf, pairAt, Pair};
 
-// The first eight indices of a word, and the other eight: of three bits ..
-pub fn low_24(word: u64) -> u32
+// The first eight of sixteen indices in a word, pixel 0 lowest, and the other eight: of three bits ..
+fn low_24(word: u64) -> u32
     ensures { λ r. ⌜ r ≡ word % 2 ^ 24 ⌝ }
 {
     (word % 0x100_0000) as u32
 }
 
-pub fn high_24(word: u64) -> u32
+fn high_24(word: u64) -> u32
     ensures { λ r. ⌜ r ≡ word / 2 ^ 24 % 2 ^ 24 ⌝ }
 {
     ((word >> 24) % 0x100_0000) as u32
 }
 
 // .. and of four.
-pub fn low_32(word: u64) -> u32
+fn low_32(word: u64) -> u32
     ensures { λ r. ⌜ r ≡ word % 2 ^ 32 ⌝ }
 {
     (word % 0x1_0000_0000) as u32
 }
 
-pub fn high_32(word: u64) -> u32
+fn high_32(word: u64) -> u32
     ensures { λ r. ⌜ r ≡ word / 2 ^ 32 ⌝ }
 {
     (word >> 32) as u32
 }
 
-pub fn index_3(word: u32, k: usize) -> u16
+fn index_3(word: u32, k: usize) -> u16
     requires { ⌜ k < 8 ⌝ }
     ensures { λ r. ⌜ (r ≡ digit 3 word k) × (r < 8) ⌝ }
 {
     ((word >> (3 * k)) % 8) as u16
 }
 
-pub fn index_4(word: u32, k: usize) -> u16
+fn index_4(word: u32, k: usize) -> u16
     requires { ⌜ k < 8 ⌝ }
     ensures { λ r. ⌜ (r ≡ digit 4 word k) × (r < 16) ⌝ }
 {
     ((word >> (4 * k)) % 16) as u16
+}
+
+// Whether a pixel lies in region 1.
+fn in_region_1(map: u16, pixel: usize) -> bool
+    requires { ⌜ pixel < 16 ⌝ }
+    ensures { λ r. ⌜ r ≡ eqb (bit map pixel) 1 ⌝ }
+{
+    (map >> pixel) % 2 == 1
+}
+
+// What a turn's two pixels have: whether each lies in region 1, and its weight.
+pub struct Turn {
+    pub second: bool,
+    pub second8: bool,
+    pub w: u16,
+    pub w8: u16,
+}
+
+// Turn k of a block of one region, by its indices ..
+pub fn turn_one(word: u64, k: usize) -> Turn
+    requires { ⌜ k < 8 ⌝ }
+    ensures { λ r. ⌜ TurnOf oneSecond (oneWeight word) k r ⌝ }
+{
+    Turn {
+        second: false,
+        second8: false,
+        w: weight_4(index_4(low_32(word), k)),
+        w8: weight_4(index_4(high_32(word), k)),
+    }
+}
+
+// .. and of one of two, by the map of its regions too.
+pub fn turn_two(word: u64, map: u16, k: usize) -> Turn
+    requires { ⌜ k < 8 ⌝ }
+    ensures { λ r. ⌜ TurnOf (twoSecond map) (twoWeight word) k r ⌝ }
+{
+    Turn {
+        second: in_region_1(map, k),
+        second8: in_region_1(map >> 8, k),
+        w: weight_3(index_3(low_24(word), k)),
+        w8: weight_3(index_3(high_24(word), k)),
+    }
+}
+
+// Of two numbers the one of the pixel's region.
+fn select(second: bool, a: u16, c: u16) -> u16
+    ensures { λ r. ⌜ r ≡ pick second c a ⌝ }
+{
+    if second { c } else { a }
+}
+
+// The number at weight w: between a and b in region 0, between c and d in region 1.
+fn point_unsigned(second: bool, a: u16, b: u16, c: u16, d: u16, w: u16) -> u16
+    requires { ⌜ w ≤ 64 ⌝ }
+    ensures { λ r. ⌜ pos r ≡ pointOf false (pick second c a) (pick second d b) w ⌝ }
+{
+    interpolate(select(second, a, c) as i32, select(second, b, d) as i32, w) as u16
+}
+
+fn point_signed(second: bool, a: u16, b: u16, c: u16, d: u16, w: u16) -> i32
+    requires { ⌜ w ≤ 64 ⌝ }
+    ensures { λ r. ⌜ r ≡ pointOf true (pick second c a) (pick second d b) w ⌝ }
+{
+    interpolate(
+        number_16(select(second, a, c)),
+        number_16(select(second, b, d)),
+        w,
+    )
+}
+
+// A channel of a turn's pixels, whose values stand at `at` and 24 behind it. The signed form takes pixel k + 8 first: in the same order the
+// compiler would choose the ends of both formats before it asks for the format, and keep them on the stack.
+pub fn channel_unsigned(t: Turn, a: u16, b: u16, c: u16, d: u16, at: usize, out: &mut [u16])
+    requires { ⌜ (t .w ≤ 64) × (t .w8 ≤ 64) × (at + 24 < length (now out)) ⌝ }
+    ensures { λ _. ⌜ now (out .exit) ≡ pairAt false t a b c d at (now (out .entry)) ⌝ }
+{
+    let low = finish_unsigned(point_unsigned(t.second, a, b, c, d, t.w));
+    out[at] = low.pattern;
+    let high = finish_unsigned(point_unsigned(t.second8, a, b, c, d, t.w8));
+    out[at + 24] = high.pattern;
+}
+
+// .. and how many of the two are minus infinity.
+pub fn channel_signed(t: Turn, a: u16, b: u16, c: u16, d: u16, at: usize, out: &mut [u16]) -> u16
+    requires { ⌜ (t .w ≤ 64) × (t .w8 ≤ 64) × (at + 24 < length (now out)) ⌝ }
+    ensures { λ r. ⌜ Pair t a b c d at (now (out .entry)) r (now (out .exit)) ⌝ }
+{
+    let high = finish_signed(point_signed(t.second8, a, b, c, d, t.w8));
+    out[at + 24] = high.pattern;
+    let low = finish_signed(point_signed(t.second, a, b, c, d, t.w));
+    out[at] = low.pattern;
+    low.counted() + high.counted()
 }

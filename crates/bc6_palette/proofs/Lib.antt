@@ -1,2 +1,3 @@
-pub mod Weights
-pub mod Ends
+pub mod Entries
+pub mod Flat
+pub mod Calls

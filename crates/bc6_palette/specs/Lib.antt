@@ -1,1 +1,3 @@
-pub mod Colours
+pub mod Palettes
+pub mod Triples
+pub mod Call

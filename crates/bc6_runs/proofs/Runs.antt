@@ -107,9 +107,9 @@ runs-sum (c ∷ cs) n k p =
 pub run-law : (l : List ℕ) (n p : ℕ) → total n (runs l 0 p) ≡ gathered l n p
 run-law l n p = total-is n (runs l 0 p) ∙ runs-sum l n 0 p ∙ ap (λ (x : ℕ). gathered l x p) (div-one n)
 
--- the fourteen places of a row by runs; at a literal mode these are the sums that the code writes
+-- the twelve endpoint places of a row by runs; at a literal mode these are the sums that the code writes
 abbrev pub byRuns : ℕ → ℕ → List ℕ
-byRuns mode n = made (λ p. total n (runs (row mode) 0 p)) 14
+byRuns mode n = made (λ p. total n (runs (row mode) 0 p)) 12
 
-pub by-runs : {values : List ℕ} (mode n : ℕ) → values ≡ byRuns mode n → values ≡ made (gathered (row mode) n) 14
-by-runs mode n e = e ∙ made-cong _ _ (run-law (row mode) n) 14
+pub by-runs : {values : List ℕ} (mode n : ℕ) → values ≡ byRuns mode n → values ≡ made (gathered (row mode) n) 12
+by-runs mode n e = e ∙ made-cong _ _ (run-law (row mode) n) 12

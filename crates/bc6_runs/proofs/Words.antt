@@ -83,7 +83,7 @@ module _ (mode n : ℕ) (low : 1 ≤ mode) (high : mode ≤ 14) where
   fits p h = small mode n p low high h
 
   abbrev whole : Channels
-  whole = channelsOf (made at 14)
+  whole = channelsOf (made at 12)
 
   all-lanes : (made (lane (whole .red)) 4 ++ made (lane (whole .green)) 4) ++ made (lane (whole .blue)) 4 ≡ made (storedEnd mode n) 12
   unfolding made storedEnd
@@ -95,7 +95,7 @@ module _ (mode n : ℕ) (low : 1 ≤ mode) (high : mode ≤ 14) where
       (lanes (at 2) (at 5) (at 8) (at 11) (fits 2 (lit< tt)) (fits 5 (lit< tt)) (fits 8 (lit< tt)) (fits 11 (lit< tt)))
 
   -- a word a channel, written one behind the other
-  pub ends-written : (channels : Channels) (out₀ out₁ out₂ part₂ part₃ : List ℕ) → channels ≡ channelsOf (made (gathered (row mode) n) 14)
+  pub ends-written : (channels : Channels) (out₀ out₁ out₂ part₂ part₃ : List ℕ) → channels ≡ channelsOf (made (gathered (row mode) n) 12)
       → out₁ ≡ made (lane (channels .red)) 4 ++ drop 4 out₀
       → part₂ ≡ made (lane (channels .green)) 4 ++ drop 4 (midOf 4 (length out₁ - 4) out₁) → out₂ ≡ putMid 4 (length out₁ - 4) out₁ part₂
       → part₃ ≡ made (lane (channels .blue)) 4 ++ drop 4 (midOf 8 (length out₂ - 8) out₂)

@@ -1,5 +1,5 @@
 // The bits before the indices, by runs: each place of a mode is a sum of a few stretches of bits. This is what decoding reads.
-// The places are red, green and blue of the endpoints w, x, y and z, then the mode and the partition.
+// The places are red, green and blue of the endpoints w, x, y and z; the mode and the partition are read elsewhere.
 use bcn_util::BitStream;
 ghost use mathlib.Core.Path.{_≡_};
 ghost use mathlib.Core.List.{_++_};
@@ -23,8 +23,8 @@ fn run(stream: BitStream, at: u64, count: u64, shift: u64) -> u16
 }
 
 // M10_555
-fn places_1(s: BitStream) -> [u16; 14]
-    ensures { λ r. ⌜ r ≡ made (gathered (row 1) (number s)) 14 ⌝ }
+fn places_1(s: BitStream) -> [u16; 12]
+    ensures { λ r. ⌜ r ≡ made (gathered (row 1) (number s)) 12 ⌝ }
 {
     [
         run(s, 5, 10, 0),
@@ -39,14 +39,12 @@ fn places_1(s: BitStream) -> [u16; 14]
         run(s, 71, 5, 0),
         run(s, 40, 1, 4) + run(s, 51, 4, 0),
         run(s, 4, 1, 4) + run(s, 50, 1, 0) + run(s, 60, 1, 1) + run(s, 70, 1, 2) + run(s, 76, 1, 3),
-        run(s, 0, 2, 0),
-        run(s, 77, 5, 0),
     ]
 }
 
 // M7_666
-fn places_2(s: BitStream) -> [u16; 14]
-    ensures { λ r. ⌜ r ≡ made (gathered (row 2) (number s)) 14 ⌝ }
+fn places_2(s: BitStream) -> [u16; 12]
+    ensures { λ r. ⌜ r ≡ made (gathered (row 2) (number s)) 12 ⌝ }
 {
     [
         run(s, 5, 7, 0),
@@ -65,14 +63,12 @@ fn places_2(s: BitStream) -> [u16; 14]
             + run(s, 32, 1, 3)
             + run(s, 33, 1, 5)
             + run(s, 34, 1, 4),
-        run(s, 0, 2, 0),
-        run(s, 77, 5, 0),
     ]
 }
 
 // M11_544
-fn places_3(s: BitStream) -> [u16; 14]
-    ensures { λ r. ⌜ r ≡ made (gathered (row 3) (number s)) 14 ⌝ }
+fn places_3(s: BitStream) -> [u16; 12]
+    ensures { λ r. ⌜ r ≡ made (gathered (row 3) (number s)) 12 ⌝ }
 {
     [
         run(s, 5, 10, 0) + run(s, 40, 1, 10),
@@ -87,14 +83,12 @@ fn places_3(s: BitStream) -> [u16; 14]
         run(s, 71, 5, 0),
         run(s, 51, 4, 0),
         run(s, 50, 1, 0) + run(s, 60, 1, 1) + run(s, 70, 1, 2) + run(s, 76, 1, 3),
-        run(s, 0, 5, 0),
-        run(s, 77, 5, 0),
     ]
 }
 
 // M11_454
-fn places_4(s: BitStream) -> [u16; 14]
-    ensures { λ r. ⌜ r ≡ made (gathered (row 4) (number s)) 14 ⌝ }
+fn places_4(s: BitStream) -> [u16; 12]
+    ensures { λ r. ⌜ r ≡ made (gathered (row 4) (number s)) 12 ⌝ }
 {
     [
         run(s, 5, 10, 0) + run(s, 39, 1, 10),
@@ -109,14 +103,12 @@ fn places_4(s: BitStream) -> [u16; 14]
         run(s, 71, 4, 0),
         run(s, 40, 1, 4) + run(s, 51, 4, 0),
         run(s, 60, 1, 1) + run(s, 69, 1, 0) + run(s, 70, 1, 2) + run(s, 76, 1, 3),
-        run(s, 0, 5, 0),
-        run(s, 77, 5, 0),
     ]
 }
 
 // M11_445
-fn places_5(s: BitStream) -> [u16; 14]
-    ensures { λ r. ⌜ r ≡ made (gathered (row 5) (number s)) 14 ⌝ }
+fn places_5(s: BitStream) -> [u16; 12]
+    ensures { λ r. ⌜ r ≡ made (gathered (row 5) (number s)) 12 ⌝ }
 {
     [
         run(s, 5, 10, 0) + run(s, 39, 1, 10),
@@ -131,14 +123,12 @@ fn places_5(s: BitStream) -> [u16; 14]
         run(s, 71, 4, 0),
         run(s, 51, 4, 0),
         run(s, 50, 1, 0) + run(s, 69, 2, 1) + run(s, 75, 1, 4) + run(s, 76, 1, 3),
-        run(s, 0, 5, 0),
-        run(s, 77, 5, 0),
     ]
 }
 
 // M9_555
-fn places_6(s: BitStream) -> [u16; 14]
-    ensures { λ r. ⌜ r ≡ made (gathered (row 6) (number s)) 14 ⌝ }
+fn places_6(s: BitStream) -> [u16; 12]
+    ensures { λ r. ⌜ r ≡ made (gathered (row 6) (number s)) 12 ⌝ }
 {
     [
         run(s, 5, 9, 0),
@@ -157,14 +147,12 @@ fn places_6(s: BitStream) -> [u16; 14]
             + run(s, 60, 1, 1)
             + run(s, 70, 1, 2)
             + run(s, 76, 1, 3),
-        run(s, 0, 5, 0),
-        run(s, 77, 5, 0),
     ]
 }
 
 // M8_655
-fn places_7(s: BitStream) -> [u16; 14]
-    ensures { λ r. ⌜ r ≡ made (gathered (row 7) (number s)) 14 ⌝ }
+fn places_7(s: BitStream) -> [u16; 12]
+    ensures { λ r. ⌜ r ≡ made (gathered (row 7) (number s)) 12 ⌝ }
 {
     [
         run(s, 5, 8, 0),
@@ -179,14 +167,12 @@ fn places_7(s: BitStream) -> [u16; 14]
         run(s, 71, 6, 0),
         run(s, 13, 1, 4) + run(s, 51, 4, 0),
         run(s, 23, 1, 2) + run(s, 33, 2, 3) + run(s, 50, 1, 0) + run(s, 60, 1, 1),
-        run(s, 0, 5, 0),
-        run(s, 77, 5, 0),
     ]
 }
 
 // M8_565
-fn places_8(s: BitStream) -> [u16; 14]
-    ensures { λ r. ⌜ r ≡ made (gathered (row 8) (number s)) 14 ⌝ }
+fn places_8(s: BitStream) -> [u16; 12]
+    ensures { λ r. ⌜ r ≡ made (gathered (row 8) (number s)) 12 ⌝ }
 {
     [
         run(s, 5, 8, 0),
@@ -205,14 +191,12 @@ fn places_8(s: BitStream) -> [u16; 14]
             + run(s, 60, 1, 1)
             + run(s, 70, 1, 2)
             + run(s, 76, 1, 3),
-        run(s, 0, 5, 0),
-        run(s, 77, 5, 0),
     ]
 }
 
 // M8_556
-fn places_9(s: BitStream) -> [u16; 14]
-    ensures { λ r. ⌜ r ≡ made (gathered (row 9) (number s)) 14 ⌝ }
+fn places_9(s: BitStream) -> [u16; 12]
+    ensures { λ r. ⌜ r ≡ made (gathered (row 9) (number s)) 12 ⌝ }
 {
     [
         run(s, 5, 8, 0),
@@ -232,14 +216,12 @@ fn places_9(s: BitStream) -> [u16; 14]
             + run(s, 50, 1, 0)
             + run(s, 70, 1, 2)
             + run(s, 76, 1, 3),
-        run(s, 0, 5, 0),
-        run(s, 77, 5, 0),
     ]
 }
 
 // M6_666
-fn places_10(s: BitStream) -> [u16; 14]
-    ensures { λ r. ⌜ r ≡ made (gathered (row 10) (number s)) 14 ⌝ }
+fn places_10(s: BitStream) -> [u16; 12]
+    ensures { λ r. ⌜ r ≡ made (gathered (row 10) (number s)) 12 ⌝ }
 {
     [
         run(s, 5, 6, 0),
@@ -258,14 +240,12 @@ fn places_10(s: BitStream) -> [u16; 14]
             + run(s, 32, 1, 3)
             + run(s, 33, 1, 5)
             + run(s, 34, 1, 4),
-        run(s, 0, 5, 0),
-        run(s, 77, 5, 0),
     ]
 }
 
 // M10_10
-fn places_11(s: BitStream) -> [u16; 14]
-    ensures { λ r. ⌜ r ≡ made (gathered (row 11) (number s)) 14 ⌝ }
+fn places_11(s: BitStream) -> [u16; 12]
+    ensures { λ r. ⌜ r ≡ made (gathered (row 11) (number s)) 12 ⌝ }
 {
     [
         run(s, 5, 10, 0),
@@ -280,14 +260,12 @@ fn places_11(s: BitStream) -> [u16; 14]
         0,
         0,
         0,
-        run(s, 0, 5, 0),
-        0,
     ]
 }
 
 // M11_9
-fn places_12(s: BitStream) -> [u16; 14]
-    ensures { λ r. ⌜ r ≡ made (gathered (row 12) (number s)) 14 ⌝ }
+fn places_12(s: BitStream) -> [u16; 12]
+    ensures { λ r. ⌜ r ≡ made (gathered (row 12) (number s)) 12 ⌝ }
 {
     [
         run(s, 5, 10, 0) + run(s, 44, 1, 10),
@@ -302,14 +280,12 @@ fn places_12(s: BitStream) -> [u16; 14]
         0,
         0,
         0,
-        run(s, 0, 5, 0),
-        0,
     ]
 }
 
 // M12_8
-fn places_13(s: BitStream) -> [u16; 14]
-    ensures { λ r. ⌜ r ≡ made (gathered (row 13) (number s)) 14 ⌝ }
+fn places_13(s: BitStream) -> [u16; 12]
+    ensures { λ r. ⌜ r ≡ made (gathered (row 13) (number s)) 12 ⌝ }
 {
     [
         run(s, 5, 10, 0) + run(s, 43, 1, 11) + run(s, 44, 1, 10),
@@ -324,14 +300,12 @@ fn places_13(s: BitStream) -> [u16; 14]
         0,
         0,
         0,
-        run(s, 0, 5, 0),
-        0,
     ]
 }
 
 // M16_4
-fn places_14(s: BitStream) -> [u16; 14]
-    ensures { λ r. ⌜ r ≡ made (gathered (row 14) (number s)) 14 ⌝ }
+fn places_14(s: BitStream) -> [u16; 12]
+    ensures { λ r. ⌜ r ≡ made (gathered (row 14) (number s)) 12 ⌝ }
 {
     [
         run(s, 5, 10, 0)
@@ -364,8 +338,6 @@ fn places_14(s: BitStream) -> [u16; 14]
         0,
         0,
         0,
-        run(s, 0, 5, 0),
-        0,
     ]
 }
 
@@ -386,7 +358,7 @@ struct Channels {
     blue: u64,
 }
 
-fn channels_of(places: [u16; 14]) -> Channels
+fn channels_of(places: [u16; 12]) -> Channels
     ensures { λ r. ⌜ r ≡ channelsOf places ⌝ }
 {
     Channels {
@@ -399,7 +371,7 @@ fn channels_of(places: [u16; 14]) -> Channels
 // Words, and not numbers, where the fourteen modes meet: three stay in registers.
 fn read_channels(mode: usize, stream: BitStream) -> Channels
     requires { ⌜ (1 ≤ mode) × (mode ≤ 14) ⌝ }
-    ensures { λ r. ⌜ r ≡ channelsOf (made (gathered (row mode) (number stream)) 14) ⌝ }
+    ensures { λ r. ⌜ r ≡ channelsOf (made (gathered (row mode) (number stream)) 12) ⌝ }
 {
     match mode {
         1 => channels_of(places_1(stream)),

@@ -1,8 +1,6 @@
 // The table of 1,080 codes, mode by bit: 16 times the place that the bit feeds, plus the bit of that place. Places 0 to 11 are the
 // endpoints' values, 12 is the mode and 13 the partition.
 ghost use mathlib.Core.Path.{_≡_};
-ghost use Prim.Native.Nat.{_<_};
-ghost use lib.ListN.{getD};
 ghost use Rattle.bc6h_spec.specs.Layout.{table};
 
 const DESTINATIONS: [u8; 1080] = [
@@ -1088,17 +1086,9 @@ const DESTINATIONS: [u8; 1080] = [
     42,
 ];
 
-// The whole table, for a loop over a row of it.
+// The whole table, for a loop over a row of it: an array that is read at a variable index is copied for each read.
 pub fn codes() -> [u8; 1080]
     ensures { λ r. ⌜ r ≡ table ⌝ }
 {
     DESTINATIONS
-}
-
-// The code at a place of the table. (No decoder calls this for each bit: the array is copied for each read.)
-pub fn destination(at: usize) -> u8
-    requires { ⌜ at < 1080 ⌝ }
-    ensures { λ r. ⌜ r ≡ getD table at 0 ⌝ }
-{
-    DESTINATIONS[at]
 }

@@ -2,10 +2,9 @@
 pub mod destinations;
 
 use bcn_util::BitStream;
-use destinations::destination;
+use destinations::codes;
 ghost use mathlib.Core.Path.{_≡_};
-ghost use Prim.Native.Nat.{_+_, _*_, _/_, _%_, _^_, _<_, _≤_};
-ghost use lib.ListN.{getD, set};
+ghost use Prim.Native.Nat.{_*_, _^_, _<_, _≤_};
 ghost use Rattle.laws.specs.Made.{made};
 ghost use Rattle.bcn_util.specs.Stream.{number};
 ghost use Rattle.bc6h_spec.specs.Layout.{row, rowStart, tableBits};
@@ -37,32 +36,22 @@ fn bit_at(bit: u64, at: u8) -> u16
     (bit as u16) << at
 }
 
-// The values with a bit put where its code says.
-fn fed(values: [u16; 14], code: u8, bit: u64) -> [u16; 14]
-    requires { ⌜ (bit < 2) × (code / 16 < 14) × (getD values (code / 16) 0 + bit * 2 ^ (code % 16) < 2 ^ 16) ⌝ }
-    ensures { λ r. ⌜ r ≡ set values (code / 16) (getD values (code / 16) 0 + bit * 2 ^ (code % 16)) ⌝ }
-{
-    let mut out = values;
-    let place = (code / 16) as usize;
-    out[place] = out[place] + bit_at(bit, code % 16);
-    out
-}
-
 // The numbers at the fourteen places.
 pub fn read_places(mode: usize, stream: BitStream) -> [u16; 14]
     requires { ⌜ (1 ≤ mode) × (mode ≤ 14) ⌝ }
     ensures { λ r. ⌜ r ≡ made (gathered (row mode) (number stream)) 14 ⌝ }
 {
+    let table = codes();
     let start = row_start(mode);
     let count = table_bits(mode);
     let mut values = [0u16; 14];
     let mut rest = stream;
     let mut k = 0;
     while k < count {
-        let code = destination(start + k);
+        let code = table[start + k];
+        let place = (code / 16) as usize;
         let read = rest.consume_bits(1);
-        let next = fed(values, code, read.bits);
-        values = next;
+        values[place] = values[place] + bit_at(read.bits, code % 16);
         rest = read.rest;
         k += 1;
     }

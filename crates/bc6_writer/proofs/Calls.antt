@@ -5,22 +5,16 @@ use mathlib.Core.List.{List}
 use Prim.Native.Nat.{ℕ, _≤_, _<_}
 use lib.ListN.{length}
 use borrow.Author.Tests.{lt-ltb, le-ltb, eq-eqb, ne-eqb}
-use Rattle.laws.proofs.Search.{holds}
 use Rattle.bc6h_spec.specs.declared.Fields.{Fields}
 use Rattle.bc6h_spec.specs.Answers.{done, badFormat, invalidRecord, badBuffer}
 use Rattle.bc6h_spec.specs.Bits.{blockSize}
-use Rattle.bc6h_spec.specs.Fields.{Valid}
 use Rattle.bc6h_spec.specs.Writer.{numberFrom, bytesOf, blockOf}
-use Rattle.bc6_writer.specs.Validity.{valid}
+use Rattle.bc6_valid.specs.Validity.{valid}
 use Rattle.bc6_writer.specs.Call.{Written}
-use Rattle.bc6_writer.proofs.Validity.{sound}
 
 -- the statement admits one outcome
 pub one-outcome : {f : Fields} {lent : List ℕ} {r s : ℕ} {a b : List ℕ} → Written f lent r a → Written f lent s b → (r ≡ s) × (a ≡ b)
 one-outcome p q = (p .answers ∙ sym (q .answers), p .holds ∙ sym (q .holds))
-
-pub is-known : (f : Fields) {r : Bool} → r ≡ valid f → r ≡ true → Valid f
-is-known f e t = sound f (holds (sym e ∙ t))
 
 module _ (f : Fields) (lent : List ℕ) where
   pub bad-format : 1 < f .format → Written f lent badFormat lent

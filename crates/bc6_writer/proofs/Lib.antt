@@ -1,6 +1,3 @@
-pub mod Validity
-pub mod Sizes
-pub mod Verdict
 pub mod Scattering
 pub mod Packing
 pub mod Joining

@@ -15,10 +15,11 @@ use Rattle.bc6h_spec.specs.declared.Fields.{Fields}
 use Rattle.bc6h_spec.specs.Layout.{tableBits}
 use Rattle.bc6h_spec.specs.Fields.{indexOf, Valid}
 use Rattle.bc6h_spec.proofs.Undo.{bits-128}
-use Rattle.bc6_writer.specs.Parts.{secondFixup, sizeAt, storedSize}
-use Rattle.bc6_writer.proofs.Sizes.{stored-size}
+use Rattle.bc6_valid.specs.Sizes.{secondFixup, sizeAt}
+use Rattle.bc6_writer.specs.Parts.{storedSize}
+use Rattle.bc6_valid.proofs.Sizes.{stored-size}
 use Rattle.bc6_writer.proofs.Scattering.{bits-range}
-use Rattle.bc6_writer.proofs.Validity.{stored-fits}
+use Rattle.bc6_valid.proofs.Validity.{stored-fits}
 
 -- k pixels are packed
 pub record So (f : Fields) (bits at k : ℕ) : Type 0 where

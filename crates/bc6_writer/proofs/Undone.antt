@@ -16,9 +16,9 @@ use Rattle.bc6h_spec.proofs.Undo.{written-read, read-written-back, is-written}
 use Rattle.bc6_fields.specs.declared.FieldsRead.{FieldsRead}
 use Rattle.bc6_fields.specs.Call.{Extracted}
 use Rattle.bc6_fields.proofs.Calls.{block-read}
-use Rattle.bc6_writer.specs.Validity.{valid}
+use Rattle.bc6_valid.specs.Validity.{valid}
 use Rattle.bc6_writer.specs.Call.{refusalOf, Written}
-use Rattle.bc6_writer.proofs.Validity.{complete}
+use Rattle.bc6_valid.proofs.Validity.{complete}
 
 -- a valid record is written
 module _ (f : Fields) (v : Valid f) {lent : List ℕ} (l : length lent ≡ blockSize) {r : ℕ} {after : List ℕ} (w : Written f lent r after) where

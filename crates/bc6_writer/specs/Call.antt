@@ -9,7 +9,7 @@ use Rattle.bc6h_spec.specs.declared.Fields.{Fields}
 use Rattle.bc6h_spec.specs.Answers.{done, badFormat, invalidRecord, badBuffer}
 use Rattle.bc6h_spec.specs.Bits.{blockSize}
 use Rattle.bc6h_spec.specs.Writer.{blockOf}
-use Rattle.bc6_writer.specs.Validity.{valid}
+use Rattle.bc6_valid.specs.Validity.{valid}
 
 -- "Refusals: 10, invalid record; 11, lent block buffer not 16 bytes; order 1, 10, 11"
 abbrev pub refusalOf : Fields → ℕ → ℕ

@@ -1,3 +1,2 @@
-pub mod Validity
 pub mod Parts
 pub mod Call

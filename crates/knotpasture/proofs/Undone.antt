@@ -19,7 +19,7 @@ use Rattle.knotpasture.specs.Packed.{FieldsCalled}
 use Rattle.knotpasture.proofs.FieldNumbers.{of-numbers}
 
 -- the numbers that are written of an unreserved block, where there is room for no other
-numbers-are : (block : List ℕ) (format : ℕ) → length block ≡ blockSize → format ≤ 1 → 1 ≤ modeOf block → {lent : List ℕ} → length lent ≡ numberCount
+pub numbers-are : (block : List ℕ) (format : ℕ) → length block ≡ blockSize → format ≤ 1 → 1 ≤ modeOf block → {lent : List ℕ} → length lent ≡ numberCount
     → {r : ℕ} {numbers : List ℕ} → FieldsCalled block format lent r numbers → numbers ≡ numbersOf (fieldsOf format block)
 numbers-are block format s k m {lent} l d =
     d .holds

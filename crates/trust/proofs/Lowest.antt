@@ -17,10 +17,11 @@ use Rattle.bc6h_spec.specs.declared.Fields.{Fields}
 use Rattle.bc6h_spec.specs.Layout.{precision, twoRegions}
 use Rattle.bc6h_spec.specs.Fields.{Valid}
 use Rattle.bc6h_spec.specs.Picture.{endpoint}
-use Rattle.bc6_palette.specs.declared.ModeBits.{ModeBits}
-use Rattle.bc6_palette.specs.declared.Colour.{Colour}
-use Rattle.bc6_palette.specs.Colours.{bitsOf, endOf, OfBits}
-use Rattle.bc6_palette.proofs.Ends.{a0-is, palette-asks}
+use Rattle.bc6_mode.specs.declared.ModeBits.{ModeBits}
+use Rattle.bc6_half.specs.declared.Colour.{Colour}
+use Rattle.bc6_mode.specs.Modes.{bitsOf}
+use Rattle.bc6_half.specs.Colours.{endOf, OfBits}
+use Rattle.bc6_half.proofs.Ends.{a0-is, palette-asks}
 use Rattle.copies.specs.Wide.{regions}
 use Rattle.copies.specs.Trust.{isLeast, leastAt, hasLeast}
 use Rattle.trust.specs.Least.{leastOf, endCount}

@@ -12,7 +12,7 @@ ghost use Rattle.records.specs.Store.{recordsIn, formatOf, blockOf, Unrefused};
 ghost use Rattle.twins.specs.Twins.{pictureAt, marks, Reserved, holding, showing, alike, firstTwin, marksOf, listRefusal, refusal, Listed};
 ghost use Rattle.twins.specs.Kept.{pictureIn, kindAt, printOf, Pictured, Decoded};
 use bc6::block_pixels;
-use bc6_fields::extract_mode;
+use bc6_mode::extract_mode;
 use bc6h_spec::Answer;
 use bc6h_spec::Block;
 use bcn_util::BitStream;

@@ -6,7 +6,7 @@ use Prim.Native.Nat.{_≤_}
 use Rattle.bc6h_spec.specs.Fields.{modeIn, modeOf}
 use Rattle.bc6h_spec.proofs.Modes.{mode-range}
 use Rattle.bc6_paint.proofs.Link.{painted-as}
-use Rattle.bc6_picture.proofs.Whole.{block-shown}
+use Rattle.bc6.proofs.Whole.{block-shown}
 use Rattle.bc6.proofs.Calls.{painted-format, painted-block, painted-output, painted-done}
 use Rattle.bc6.proofs.block_pixels.Statement.{statement}
 use Rattle.bc6.proofs.block_pixels.Tie as tie

@@ -2,7 +2,8 @@
 use borrow.Author.Needs.{needs}
 use Prim.Native.Nat.{_<_}
 use lib.Dec.{lit≤}
-use Rattle.bc6_fields.proofs.Whole.{few-ones, fixup-range, narrow, partition-fits, one-region, two-regions}
+use Rattle.bcn_data.proofs.Fixups.{fixup-range}
+use Rattle.bc6_fields.proofs.Whole.{few-ones, narrow, partition-fits, one-region, two-regions}
 use Rattle.bc6_fields.proofs.fields_from.Statement.{statement}
 use Rattle.bc6_fields.proofs.fields_from.Tie as tie
 

@@ -2,7 +2,7 @@
 use mathlib.Core.Path.{_≡_, sym, ap, subst, _∙_}
 use mathlib.Core.Bool.{Bool, true}
 use native.Mathlib.Omega.{arith}
-use Prim.Native.Nat.{_^_, _≤_}
+use Prim.Native.Nat.{_^_}
 use lib.IntN.{ℤ, pos, natAbs}
 use mir.Syntax.{w32}
 use mir.ValLaws.{toZ-ofZ}

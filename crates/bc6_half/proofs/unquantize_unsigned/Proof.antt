@@ -1,7 +1,7 @@
 -- `bc6_half::unquantize_unsigned` meets its contract: by the width. Assumes nothing.
-use mathlib.Core.Path.{_≡_, sym, ap, _∙_}
+use mathlib.Core.Path.{sym, ap, _∙_}
 use native.Mathlib.Omega.{arith}
-use Prim.Native.Nat.{_^_, _<_}
+use Prim.Native.Nat.{_^_}
 use lib.IntN.{ℤ, pos, natAbs}
 use lib.Signed.{pos-natAbs}
 use mir.Syntax.{w32}

@@ -11,27 +11,24 @@ returns : tie.Need-returns
 unfolding made rows row11
 returns c =
     by-runs 11 _
-    (cons (c .before .before .before .before .before .before .run .ensures .is)
-    (cons (c .before .before .before .before .before .run2 .ensures .is)
-    (cons (c .before .before .before .before .run3 .ensures .is)
-    (cons (c .before .before .before .run4 .ensures .is)
-    (cons (c .before .before .run5 .ensures .is)
-    (cons (c .before .run6 .ensures .is)
+    (cons (c .before .before .before .before .before .run .ensures .is)
+    (cons (c .before .before .before .before .run2 .ensures .is)
+    (cons (c .before .before .before .run3 .ensures .is)
+    (cons (c .before .before .run4 .ensures .is)
+    (cons (c .before .run5 .ensures .is)
+    (cons (c .run6 .ensures .is)
     (cons none
     (cons none
     (cons none
     (cons none
     (cons none
     (cons none
-    (cons (c .run7 .ensures .is)
-    (cons none
-    end))))))))))))))
+    end))))))))))))
 
 pub places-11-spec : {M : Type 1} → statement M
 places-11-spec =
     tie.close
     (tie.spec
-    (λ c κs. (lit< tt, lit≤ tt))
     (λ c κs. (lit< tt, lit≤ tt))
     (λ c κs. (lit< tt, lit≤ tt))
     (λ c κs. (lit< tt, lit≤ tt))

@@ -11,21 +11,19 @@ returns : tie.Need-returns
 unfolding made rows row12
 returns c =
     by-runs 12 _
-    (cons (added (c .before .before .before .before .before .before .before .before .before .run .ensures .is) (c .before .before .before .before .before .before .before .before .run2 .ensures .is))
-    (cons (added (c .before .before .before .before .before .before .before .run3 .ensures .is) (c .before .before .before .before .before .before .run4 .ensures .is))
-    (cons (added (c .before .before .before .before .before .run5 .ensures .is) (c .before .before .before .before .run6 .ensures .is))
-    (cons (c .before .before .before .run7 .ensures .is)
-    (cons (c .before .before .run8 .ensures .is)
-    (cons (c .before .run9 .ensures .is)
+    (cons (added (c .before .before .before .before .before .before .before .before .run .ensures .is) (c .before .before .before .before .before .before .before .run2 .ensures .is))
+    (cons (added (c .before .before .before .before .before .before .run3 .ensures .is) (c .before .before .before .before .before .run4 .ensures .is))
+    (cons (added (c .before .before .before .before .run5 .ensures .is) (c .before .before .before .run6 .ensures .is))
+    (cons (c .before .before .run7 .ensures .is)
+    (cons (c .before .run8 .ensures .is)
+    (cons (c .run9 .ensures .is)
     (cons none
     (cons none
     (cons none
     (cons none
     (cons none
     (cons none
-    (cons (c .run10 .ensures .is)
-    (cons none
-    end))))))))))))))
+    end))))))))))))
 
 pub places-12-spec : {M : Type 1} → statement M
 places-12-spec =
@@ -40,7 +38,6 @@ places-12-spec =
     (λ c κs. (lit< tt, lit≤ tt))
     (λ c κs. (lit< tt, lit≤ tt))
     (λ c. fit (plus (c .before .run5 .ensures .most) (c .run6 .ensures .most)) tt)
-    (λ c κs. (lit< tt, lit≤ tt))
     (λ c κs. (lit< tt, lit≤ tt))
     (λ c κs. (lit< tt, lit≤ tt))
     (λ c κs. (lit< tt, lit≤ tt))

@@ -11,21 +11,19 @@ returns : tie.Need-returns
 unfolding made rows row13
 returns c =
     by-runs 13 _
-    (cons (added (added (c .before .before .before .before .before .before .before .before .before .before .before .before .run .ensures .is) (c .before .before .before .before .before .before .before .before .before .before .before .run2 .ensures .is)) (c .before .before .before .before .before .before .before .before .before .before .run3 .ensures .is))
-    (cons (added (added (c .before .before .before .before .before .before .before .before .before .run4 .ensures .is) (c .before .before .before .before .before .before .before .before .run5 .ensures .is)) (c .before .before .before .before .before .before .before .run6 .ensures .is))
-    (cons (added (added (c .before .before .before .before .before .before .run7 .ensures .is) (c .before .before .before .before .before .run8 .ensures .is)) (c .before .before .before .before .run9 .ensures .is))
-    (cons (c .before .before .before .run10 .ensures .is)
-    (cons (c .before .before .run11 .ensures .is)
-    (cons (c .before .run12 .ensures .is)
+    (cons (added (added (c .before .before .before .before .before .before .before .before .before .before .before .run .ensures .is) (c .before .before .before .before .before .before .before .before .before .before .run2 .ensures .is)) (c .before .before .before .before .before .before .before .before .before .run3 .ensures .is))
+    (cons (added (added (c .before .before .before .before .before .before .before .before .run4 .ensures .is) (c .before .before .before .before .before .before .before .run5 .ensures .is)) (c .before .before .before .before .before .before .run6 .ensures .is))
+    (cons (added (added (c .before .before .before .before .before .run7 .ensures .is) (c .before .before .before .before .run8 .ensures .is)) (c .before .before .before .run9 .ensures .is))
+    (cons (c .before .before .run10 .ensures .is)
+    (cons (c .before .run11 .ensures .is)
+    (cons (c .run12 .ensures .is)
     (cons none
     (cons none
     (cons none
     (cons none
     (cons none
     (cons none
-    (cons (c .run13 .ensures .is)
-    (cons none
-    end))))))))))))))
+    end))))))))))))
 
 pub places-13-spec : {M : Type 1} → statement M
 places-13-spec =
@@ -46,7 +44,6 @@ places-13-spec =
     (λ c. fit (plus (c .before .run7 .ensures .most) (c .run8 .ensures .most)) tt)
     (λ c κs. (lit< tt, lit≤ tt))
     (λ c. fit (plus (plus (c .before .before .run7 .ensures .most) (c .before .run8 .ensures .most)) (c .run9 .ensures .most)) tt)
-    (λ c κs. (lit< tt, lit≤ tt))
     (λ c κs. (lit< tt, lit≤ tt))
     (λ c κs. (lit< tt, lit≤ tt))
     (λ c κs. (lit< tt, lit≤ tt))

@@ -11,21 +11,19 @@ returns : tie.Need-returns
 unfolding made rows row5
 returns c =
     by-runs 5 _
-    (cons (added (c .before .before .before .before .before .before .before .before .before .before .before .before .before .before .before .before .before .before .before .before .run .ensures .is) (c .before .before .before .before .before .before .before .before .before .before .before .before .before .before .before .before .before .before .before .run2 .ensures .is))
-    (cons (added (c .before .before .before .before .before .before .before .before .before .before .before .before .before .before .before .before .before .before .run3 .ensures .is) (c .before .before .before .before .before .before .before .before .before .before .before .before .before .before .before .before .before .run4 .ensures .is))
-    (cons (added (c .before .before .before .before .before .before .before .before .before .before .before .before .before .before .before .before .run5 .ensures .is) (c .before .before .before .before .before .before .before .before .before .before .before .before .before .before .before .run6 .ensures .is))
-    (cons (c .before .before .before .before .before .before .before .before .before .before .before .before .before .before .run7 .ensures .is)
-    (cons (c .before .before .before .before .before .before .before .before .before .before .before .before .before .run8 .ensures .is)
-    (cons (c .before .before .before .before .before .before .before .before .before .before .before .before .run9 .ensures .is)
-    (cons (c .before .before .before .before .before .before .before .before .before .before .before .run10 .ensures .is)
-    (cons (c .before .before .before .before .before .before .before .before .before .before .run11 .ensures .is)
-    (cons (added (c .before .before .before .before .before .before .before .before .before .run12 .ensures .is) (c .before .before .before .before .before .before .before .before .run13 .ensures .is))
-    (cons (c .before .before .before .before .before .before .before .run14 .ensures .is)
-    (cons (c .before .before .before .before .before .before .run15 .ensures .is)
-    (cons (added (added (added (c .before .before .before .before .before .run16 .ensures .is) (c .before .before .before .before .run17 .ensures .is)) (c .before .before .before .run18 .ensures .is)) (c .before .before .run19 .ensures .is))
-    (cons (c .before .run20 .ensures .is)
-    (cons (c .run21 .ensures .is)
-    end))))))))))))))
+    (cons (added (c .before .before .before .before .before .before .before .before .before .before .before .before .before .before .before .before .before .before .run .ensures .is) (c .before .before .before .before .before .before .before .before .before .before .before .before .before .before .before .before .before .run2 .ensures .is))
+    (cons (added (c .before .before .before .before .before .before .before .before .before .before .before .before .before .before .before .before .run3 .ensures .is) (c .before .before .before .before .before .before .before .before .before .before .before .before .before .before .before .run4 .ensures .is))
+    (cons (added (c .before .before .before .before .before .before .before .before .before .before .before .before .before .before .run5 .ensures .is) (c .before .before .before .before .before .before .before .before .before .before .before .before .before .run6 .ensures .is))
+    (cons (c .before .before .before .before .before .before .before .before .before .before .before .before .run7 .ensures .is)
+    (cons (c .before .before .before .before .before .before .before .before .before .before .before .run8 .ensures .is)
+    (cons (c .before .before .before .before .before .before .before .before .before .before .run9 .ensures .is)
+    (cons (c .before .before .before .before .before .before .before .before .before .run10 .ensures .is)
+    (cons (c .before .before .before .before .before .before .before .before .run11 .ensures .is)
+    (cons (added (c .before .before .before .before .before .before .before .run12 .ensures .is) (c .before .before .before .before .before .before .run13 .ensures .is))
+    (cons (c .before .before .before .before .before .run14 .ensures .is)
+    (cons (c .before .before .before .before .run15 .ensures .is)
+    (cons (added (added (added (c .before .before .before .run16 .ensures .is) (c .before .before .run17 .ensures .is)) (c .before .run18 .ensures .is)) (c .run19 .ensures .is))
+    end))))))))))))
 
 pub places-5-spec : {M : Type 1} → statement M
 places-5-spec =
@@ -57,6 +55,4 @@ places-5-spec =
     (λ c. fit (plus (plus (c .before .before .run16 .ensures .most) (c .before .run17 .ensures .most)) (c .run18 .ensures .most)) tt)
     (λ c κs. (lit< tt, lit≤ tt))
     (λ c. fit (plus (plus (plus (c .before .before .before .run16 .ensures .most) (c .before .before .run17 .ensures .most)) (c .before .run18 .ensures .most)) (c .run19 .ensures .most)) tt)
-    (λ c κs. (lit< tt, lit≤ tt))
-    (λ c κs. (lit< tt, lit≤ tt))
     returns)

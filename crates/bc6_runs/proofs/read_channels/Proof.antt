@@ -13,9 +13,9 @@ use Rattle.bc6_runs.specs.Ends.{channelsOf}
 use Rattle.bc6_runs.proofs.read_channels.Statement.{statement}
 use Rattle.bc6_runs.proofs.read_channels.Tie as tie
 
-at : {values : List ℕ} {channels : Channels} {k : ℕ} (mode n : ℕ) → mode ≡ k → values ≡ made (gathered (row k) n) 14 → channels ≡ channelsOf values
-    → channels ≡ channelsOf (made (gathered (row mode) n) 14)
-at mode n e h d = d ∙ ap channelsOf h ∙ ap (λ (m : ℕ). channelsOf (made (gathered (row m) n) 14)) (sym e)
+at : {values : List ℕ} {channels : Channels} {k : ℕ} (mode n : ℕ) → mode ≡ k → values ≡ made (gathered (row k) n) 12 → channels ≡ channelsOf values
+    → channels ≡ channelsOf (made (gathered (row mode) n) 12)
+at mode n e h d = d ∙ ap channelsOf h ∙ ap (λ (m : ℕ). channelsOf (made (gathered (row m) n) 12)) (sym e)
 
 last : (c : tie.At-match-rest) → c .before .args .mode ≡ 14
 last c = le-antisymm (c .before .pre .1) (past 1 _ 13 (c .before .pre .0) (c .match .rest))

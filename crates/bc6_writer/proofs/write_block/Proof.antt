@@ -2,6 +2,7 @@
 use borrow.Author.Needs.{needs}
 use mathlib.Core.Path.{sym, _∙_}
 use borrow.Author.Tests.{not-true, not-false}
+use Rattle.bc6_valid.proofs.Verdict.{is-known}
 use Rattle.bc6_writer.proofs.Calls as laws
 use Rattle.bc6_writer.proofs.write_block.Statement.{statement}
 use Rattle.bc6_writer.proofs.write_block.Tie as tie
@@ -16,7 +17,7 @@ returns-3 : tie.Need-returns-3
 returns-3 c = laws.bad-buffer _ _ (search needs) (c .before .before .is-valid .ensures) (not-false _ (c .before .if2 .left)) (c .if3 .taken)
 
 block-words-requires : tie.Need-block-words-requires
-block-words-requires c κs = laws.is-known _ (c .before .before .is-valid .ensures) (not-false _ (c .before .if2 .left))
+block-words-requires c κs = is-known _ (c .before .before .is-valid .ensures) (not-false _ (c .before .if2 .left))
 
 returns-4 : tie.Need-returns-4
 returns-4 c =

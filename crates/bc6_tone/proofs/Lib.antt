@@ -1,2 +1,0 @@
-pub mod Biased
-pub mod Lines

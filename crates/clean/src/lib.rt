@@ -1,0 +1,183 @@
+// A clean-up of a store: the records that stay, in order and byte for byte. A record goes exactly when it is an earlier one that stays
+// once more: neither refused nor reserved, of the same format, with the same sixteen block bytes. Nothing is decoded.
+
+ghost use mathlib.Core.Path.{_≡_};
+ghost use Prim.Native.Nat.{_+_, _*_, _≤_, _<_};
+ghost use lib.ListN.{length};
+ghost use lib.Seq.{paste};
+ghost use Rattle.laws.specs.Every.{same};
+ghost use Rattle.bc6h_spec.specs.Bits.{blockSize};
+ghost use Rattle.records.specs.Store.{recordSize, recordsIn};
+ghost use Rattle.clean.specs.Clean.{repeats, firstOf, goes, recordOf, refusal, CleanedInto};
+ghost use Rattle.clean.specs.Prints.{printOf, Printed};
+use bc6h_spec::Answer;
+use bc6h_spec::Block;
+use records::Record;
+use records::RecordReading;
+use records::record_at;
+use records::record_block;
+use twins::TwinList;
+use twins::list_refusal;
+use twins_scratch::mode_at;
+
+// Done, with how many records stay and how many are removed; or a refusal's number.
+pub struct Cleaned {
+    pub answer: u8,
+    pub kept: usize,
+    pub removed: usize,
+}
+
+impl Cleaned {
+    fn refused(answer: u8) -> Cleaned
+        ensures { λ r. ⌜ r ≡ refusal answer ⌝ }
+    {
+        Cleaned {
+            answer,
+            kept: 0,
+            removed: 0,
+        }
+    }
+}
+
+fn same_block(a: &[u8], b: &[u8]) -> bool
+    requires { ⌜ (length (now a) ≡ blockSize) × (length (now b) ≡ blockSize) ⌝ }
+    ensures { λ r. ⌜ r ≡ same (now (a .entry)) (now (b .entry)) ⌝ }
+{
+    for k in 0..Block::SIZE {
+        if a[k] != b[k] {
+            return false;
+        }
+    }
+    true
+}
+
+fn wide(byte: u8) -> u64
+    ensures { λ r. ⌜ (r ≡ byte) × (r < 256) ⌝ }
+{
+    byte as u64
+}
+
+// A number that records of another format or with other bytes seldom share.
+fn fingerprint(format: u8, block: &[u8]) -> u64
+    requires { ⌜ length (now block) ≡ blockSize ⌝ }
+    ensures { λ r. ⌜ r ≡ printOf format (now (block .entry)) ⌝ }
+{
+    let mut print: u64 = wide(format) + 1;
+    for k in 0..Block::SIZE {
+        print = print % 0x10000000000 * 0x9E3779 + wide(block[k]);
+    }
+    print
+}
+
+// The fingerprint of each record that is not refused, at the record's number.
+fn print_records(store: &[u8], prints: &mut [u64])
+    requires { ⌜ recordsIn (now store) ≤ length (now prints) ⌝ }
+    ensures { λ _. ⌜ Printed (now (store .entry)) (recordsIn (now (store .entry))) (now (prints .exit)) ⌝ }
+{
+    let count = store.len() / Record::SIZE;
+    for n in 0..count {
+        let RecordReading::Record(found) = record_at(store, n) else {
+            continue;
+        };
+        prints[n] = fingerprint(found.format, record_block(store, n));
+    }
+}
+
+// Record n is record `earlier` once more.
+fn is_repeat(store: &[u8], n: usize, earlier: usize) -> bool
+    ensures { λ r. ⌜ r ≡ repeats (now (store .entry)) n earlier ⌝ }
+{
+    let RecordReading::Record(again) = record_at(store, n) else {
+        return false;
+    };
+    let RecordReading::Record(kept) = record_at(store, earlier) else {
+        return false;
+    };
+    if again.format != kept.format {
+        return false;
+    }
+    let mode = mode_at(store, n);
+    if mode == 0 {
+        return false;
+    }
+    same_block(record_block(store, n), record_block(store, earlier))
+}
+
+// The record that stays for record n where that is removed; n where it stays.
+pub fn first_of(store: &[u8], n: usize) -> usize
+    ensures { λ r. ⌜ r ≡ firstOf (now (store .entry)) n ⌝ }
+{
+    let RecordReading::Record(_) = record_at(store, n) else {
+        return n;
+    };
+    for earlier in 0..n {
+        if is_repeat(store, n, earlier) {
+            return earlier;
+        }
+    }
+    n
+}
+
+// Record n is removed, by the fingerprints.
+fn is_gone(store: &[u8], prints: &[u64], n: usize) -> bool
+    requires { ⌜ n < recordsIn (now store) ⌝ }
+    requires { ⌜ recordsIn (now store) ≤ length (now prints) ⌝ }
+    requires { ⌜ Printed (now store) (recordsIn (now store)) (now prints) ⌝ }
+    ensures { λ r. ⌜ r ≡ goes (now (store .entry)) n ⌝ }
+{
+    let RecordReading::Record(_) = record_at(store, n) else {
+        return false;
+    };
+    if mode_at(store, n) == 0 {
+        return false;
+    }
+    let print = prints[n];
+    'search: for earlier in 0..n {
+        if prints[earlier] != print {
+            continue 'search;
+        }
+        if is_repeat(store, n, earlier) {
+            return true;
+        }
+    }
+    false
+}
+
+// Record n of the store as record `place` of `out`.
+fn copy_record(store: &[u8], n: usize, out: &mut [u8], place: usize)
+    requires { ⌜ n < recordsIn (now store) ⌝ }
+    requires { ⌜ place * recordSize + recordSize ≤ length (now out) ⌝ }
+    ensures { λ _. ⌜ now (out .exit) ≡ paste (now (out .entry)) (place * recordSize) (recordOf (now (store .entry)) n) recordSize ⌝ }
+{
+    let from = n * Record::SIZE;
+    let to = place * Record::SIZE;
+    for k in 0..Record::SIZE {
+        out[to + k] = store[from + k];
+    }
+}
+
+// Writes the records of a store that stay, in order and byte for byte, and counts those and the ones that are removed.
+pub fn clean_store(store: &[u8], out: &mut [u8]) -> Cleaned
+    ensures { λ r. ⌜ CleanedInto (now (store .entry)) (now (out .entry)) r (now (out .exit)) ⌝ }
+{
+    let refusal = list_refusal(store, out.len() / Record::SIZE);
+    if refusal != Answer::DONE {
+        return Cleaned::refused(refusal);
+    }
+    let mut prints = [0u64; TwinList::RECORDS];
+    print_records(store, &mut prints);
+    let count = store.len() / Record::SIZE;
+    let mut kept: usize = 0;
+    for n in 0..count {
+        if is_gone(store, &prints, n) {
+            continue;
+        }
+        copy_record(store, n, out, kept);
+        kept += 1;
+    }
+    Cleaned {
+        answer: Answer::DONE,
+        kept,
+        removed: count - kept,
+    }
+}

@@ -1,4 +1,5 @@
 pub mod Repeating
+pub mod Linking
 pub mod Leaving
 pub mod Cleaning
 pub mod Moving

@@ -2,26 +2,20 @@
 use mathlib.Core.Path.{_≡_, refl, sym, _∙_, ap, ap₂}
 use mathlib.Core.Bool.{Bool, true, false, not}
 use mathlib.Core.List.{List}
-use Prim.Native.Nat.{ℕ, _+_, _*_, _%_, _≤_, _<_}
-use native.Mathlib.Numerals.{add-one}
+use Prim.Native.Nat.{ℕ, _≤_, _<_}
 use native.Mathlib.Omega.{arith}
 use lib.Dec.{eqb}
-use lib.ListN.{length, getD, set}
-use lib.Seq.{getD-set-same, getD-set-other}
-use borrow.Author.Count.{below-none, below-more}
 use borrow.Author.Tests.{eq-eqb, ne-eqb, eqb-true, eqb-false, lt-ltb, le-ltb, ltb-true, ltb-false}
 use Rattle.laws.specs.Every.{same}
-use Rattle.laws.specs.First.{firstBelow}
 use Rattle.laws.proofs.Tests.{cases, both-true}
-use Rattle.laws.proofs.Firsts.{first-end, first-at, first-passes, first-least, first-never}
+use Rattle.laws.proofs.Firsts.{first-passes, first-least, first-never}
 use Rattle.laws.proofs.Sameness.{true-false, not-so, same-so, same-means}
 use Rattle.bc6h_spec.specs.Fields.{modeOf}
-use Rattle.records.specs.Store.{recordsIn, formatOf, blockOf, recordRefusal, Unrefused, partAt}
+use Rattle.records.specs.Store.{formatOf, blockOf, recordRefusal, Unrefused, partAt}
 use Rattle.records.proofs.Readings.{part-of}
 use Rattle.twins_scratch.specs.Shown.{Reserved, isRecord, isReserved}
 use Rattle.twins_scratch.proofs.Shown.{is-record, is-refused}
 use Rattle.clean.specs.Clean.{Repeats, repeats, firstOf, goes, Goes}
-use Rattle.clean.specs.Prints.{printUpto, printOf, Printed}
 
 not-means : (b : Bool) → not b ≡ true → b ≡ false
 not-means true e = absurd (true-false (sym e))
@@ -89,42 +83,6 @@ module _ (store : List ℕ) (n earlier : ℕ) where
       (sym (part-of store n (p .unrefused))) (sym (part-of store earlier (p .earlier-unrefused)))
       (sym (same-so (blockOf store n) (blockOf store earlier) (p .same-bytes))))
 
--- ---- the fingerprints
-
-pub print-none : (format : ℕ) (block : List ℕ) (k : ℕ) → k ≡ format → k + 1 ≡ printUpto format block 0
-unfolding printUpto
-print-none format block k e = rw e
-
-pub print-more : (format : ℕ) (block : List ℕ) (k print byte : ℕ) → print ≡ printUpto format block k → byte ≡ getD block k 0
-    → print % 0x10000000000 * 0x9E3779 + byte ≡ printUpto format block (k + 1)
-unfolding printUpto
-print-more format block k print byte p b = rw (add-one k, p, b)
-
-pub printed-none : (store prints : List ℕ) → Printed store 0 prints
-printed-none store prints = record { at = below-none _ }
-
-module _ {store : List ℕ} {n : ℕ} {prints : List ℕ} (d : Printed store n prints) where
-  pub printed-refused : (Unrefused store n → ⊥) → Printed store (n + 1) prints
-  printed-refused r = record { at = below-more _ _ (d .at) (λ u. absurd (r u)) }
-
-  pub printed-more : {print format : ℕ} {block : List ℕ} → n < length prints → Unrefused store n → format ≡ formatOf store n
-      → block ≡ partAt (recordRefusal store n) store n → print ≡ printOf format block → Printed store (n + 1) (set prints n print)
-  printed-more {print} l u f b p = record {
-    at =
-        below-more _ _ (λ k h v. getD-set-other prints n k print 0 (λ q. omega arith) ∙ d .at k h v)
-        (λ v. getD-set-same prints n print 0 l ∙ p ∙ ap₂ printOf f (b ∙ part-of store n u));
-  }
-
--- a record with another fingerprint is passed by
-pub repeats-other : {store prints : List ℕ} → Printed store (recordsIn store) prints → (n earlier : ℕ) → n < recordsIn store → earlier < n
-    → (getD prints earlier 0 ≡ getD prints n 0 → ⊥) → repeats store n earlier ≡ false
-repeats-other {store} d n earlier h l other =
-    not-so _
-    (λ t. let p = repeats-means store n earlier t in
-    other
-    (d .at earlier (omega arith) (p .earlier-unrefused) ∙ ap₂ printOf (sym (p .same-format)) (sym (p .same-bytes))
-    ∙ sym (d .at n h (p .unrefused))))
-
 -- ---- which records go
 
 module _ (store : List ℕ) (n : ℕ) where
@@ -145,15 +103,6 @@ module _ (store : List ℕ) (n : ℕ) where
 
   pub reserved-stays : Reserved store n → false ≡ goes store n
   reserved-stays z = stays-here (none-reserved z)
-
-  -- the search came to the end, or found one
-  pub unfound : (k : ℕ) → k ≤ n → n ≤ k → firstBelow (repeats store n) k ≡ k → false ≡ goes store n
-  unfolding firstOf
-  unfound k l h e = stays-here (first-end (repeats store n) n k l h e)
-
-  pub found : (k : ℕ) → firstBelow (repeats store n) k ≡ k → k < n → repeats store n k ≡ true → true ≡ goes store n
-  unfolding firstOf goes
-  found k e h t = let q = first-at (repeats store n) n k e t h in sym (lt-ltb (firstBelow (repeats store n) n) n (omega arith))
 
   pub goes-first : goes store n ≡ true → firstOf store n < n
   unfolding goes

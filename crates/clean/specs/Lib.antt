@@ -1,3 +1,3 @@
 pub mod Clean
-pub mod Prints
+pub mod Links
 pub mod Theorems

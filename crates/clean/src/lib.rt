@@ -9,7 +9,7 @@ ghost use Rattle.laws.specs.Every.{same};
 ghost use Rattle.bc6h_spec.specs.Bits.{blockSize};
 ghost use Rattle.records.specs.Store.{recordSize, recordsIn};
 ghost use Rattle.clean.specs.Clean.{repeats, firstOf, goes, recordOf, refusal, CleanedInto};
-ghost use Rattle.clean.specs.Prints.{printOf, Printed};
+ghost use Rattle.clean.specs.Links.{bucketCount, mixedUpto, bucketOf, Linked};
 use bc6h_spec::Answer;
 use bc6h_spec::Block;
 use records::Record;
@@ -28,6 +28,9 @@ pub struct Cleaned {
 }
 
 impl Cleaned {
+    // How many buckets the records are put in.
+    const BUCKETS: usize = 2048;
+
     fn refused(answer: u8) -> Cleaned
         ensures { λ r. ⌜ r ≡ refusal answer ⌝ }
     {
@@ -58,28 +61,39 @@ fn wide(byte: u8) -> u64
 }
 
 // A number that records of another format or with other bytes seldom share.
-fn fingerprint(format: u8, block: &[u8]) -> u64
+fn mixed(format: u8, block: &[u8]) -> u64
     requires { ⌜ length (now block) ≡ blockSize ⌝ }
-    ensures { λ r. ⌜ r ≡ printOf format (now (block .entry)) ⌝ }
+    ensures { λ r. ⌜ r ≡ mixedUpto format (now (block .entry)) blockSize ⌝ }
 {
-    let mut print: u64 = wide(format) + 1;
+    let mut mix: u64 = wide(format) + 1;
     for k in 0..Block::SIZE {
-        print = print % 0x10000000000 * 0x9E3779 + wide(block[k]);
+        mix = mix % 0x10000000000 * 0x9E3779 + wide(block[k]);
     }
-    print
+    mix
 }
 
-// The fingerprint of each record that is not refused, at the record's number.
-fn print_records(store: &[u8], prints: &mut [u64])
-    requires { ⌜ recordsIn (now store) ≤ length (now prints) ⌝ }
-    ensures { λ _. ⌜ Printed (now (store .entry)) (recordsIn (now (store .entry))) (now (prints .exit)) ⌝ }
+fn bucket_of(format: u8, block: &[u8]) -> usize
+    requires { ⌜ length (now block) ≡ blockSize ⌝ }
+    ensures { λ r. ⌜ (r ≡ bucketOf format (now (block .entry))) × (r < bucketCount) ⌝ }
+{
+    (mixed(format, block) / 0x1000000) as usize % Cleaned::BUCKETS
+}
+
+// Of each record that is not refused the last one before it of the same bucket, plus one; 0 where there is none.
+fn link_records(store: &[u8], links: &mut [u16])
+    requires { ⌜ recordsIn (now store) ≤ 2000 ⌝ }
+    requires { ⌜ recordsIn (now store) ≤ length (now links) ⌝ }
+    ensures { λ _. ⌜ Linked (now (store .entry)) (recordsIn (now (store .entry))) (now (links .exit)) ⌝ }
 {
     let count = store.len() / Record::SIZE;
+    let mut heads = [0u16; Cleaned::BUCKETS];
     for n in 0..count {
         let RecordReading::Record(found) = record_at(store, n) else {
             continue;
         };
-        prints[n] = fingerprint(found.format, record_block(store, n));
+        let bucket = bucket_of(found.format, record_block(store, n));
+        links[n] = heads[bucket];
+        heads[bucket] = (n + 1) as u16;
     }
 }
 
@@ -118,11 +132,17 @@ pub fn first_of(store: &[u8], n: usize) -> usize
     n
 }
 
-// Record n is removed, by the fingerprints.
-fn is_gone(store: &[u8], prints: &[u64], n: usize) -> bool
+fn place(link: u16) -> usize
+    ensures { λ r. ⌜ r ≡ link ⌝ }
+{
+    link as usize
+}
+
+// Record n is removed: a walk along the links, from the last record of its bucket to the first.
+fn is_gone(store: &[u8], links: &[u16], n: usize) -> bool
     requires { ⌜ n < recordsIn (now store) ⌝ }
-    requires { ⌜ recordsIn (now store) ≤ length (now prints) ⌝ }
-    requires { ⌜ Printed (now store) (recordsIn (now store)) (now prints) ⌝ }
+    requires { ⌜ recordsIn (now store) ≤ length (now links) ⌝ }
+    requires { ⌜ Linked (now store) (recordsIn (now store)) (now links) ⌝ }
     ensures { λ r. ⌜ r ≡ goes (now (store .entry)) n ⌝ }
 {
     let RecordReading::Record(_) = record_at(store, n) else {
@@ -131,14 +151,13 @@ fn is_gone(store: &[u8], prints: &[u64], n: usize) -> bool
     if mode_at(store, n) == 0 {
         return false;
     }
-    let print = prints[n];
-    'search: for earlier in 0..n {
-        if prints[earlier] != print {
-            continue 'search;
-        }
+    let mut at = place(links[n]);
+    while at > 0 {
+        let earlier = at - 1;
         if is_repeat(store, n, earlier) {
             return true;
         }
+        at = place(links[earlier]);
     }
     false
 }
@@ -164,12 +183,12 @@ pub fn clean_store(store: &[u8], out: &mut [u8]) -> Cleaned
     if refusal != Answer::DONE {
         return Cleaned::refused(refusal);
     }
-    let mut prints = [0u64; TwinList::RECORDS];
-    print_records(store, &mut prints);
+    let mut links = [0u16; TwinList::RECORDS];
+    link_records(store, &mut links);
     let count = store.len() / Record::SIZE;
     let mut kept: usize = 0;
     for n in 0..count {
-        if is_gone(store, &prints, n) {
+        if is_gone(store, &links, n) {
             continue;
         }
         copy_record(store, n, out, kept);

@@ -9,10 +9,10 @@ use Rattle.clean.proofs.clean_store.Statement.{statement}
 use Rattle.clean.proofs.clean_store.Tie as tie
 
 abbrev Inv-loop : tie.InvT-loop
-Inv-loop store out₀ refusal prints count kept₀ n₀ out kept n = SoFar store out₀ out n kept
+Inv-loop store out₀ refusal links count kept₀ n₀ out kept n = SoFar store out₀ out n kept
 
 abbrev μ-loop : tie.MeasureT-loop
-μ-loop store out₀ refusal prints count kept₀ n₀ out kept n = count - n
+μ-loop store out₀ refusal links count kept₀ n₀ out kept n = count - n
 
 list-refusal-requires : tie.Need-list-refusal-requires Inv-loop μ-loop
 list-refusal-requires c κs = search needs
@@ -23,11 +23,11 @@ refused-requires c κs = search needs
 returns : tie.Need-returns Inv-loop μ-loop
 returns c = laws.cleaned-refused _ _ _ (c .before .before .list-refusal .ensures) (c .before .if1 .taken) (c .refused .ensures)
 
-slice-aggregate-print-records : tie.Need-slice-aggregate-print-records Inv-loop μ-loop
-slice-aggregate-print-records c = search needs
+slice-aggregate-link-records : tie.Need-slice-aggregate-link-records Inv-loop μ-loop
+slice-aggregate-link-records c = search needs
 
-print-records-requires : tie.Need-print-records-requires Inv-loop μ-loop
-print-records-requires c κs = let w = whole-when (c .before .before .list-refusal .ensures) (c .before .if1 .left) in search needs
+link-records-requires : tie.Need-link-records-requires Inv-loop μ-loop
+link-records-requires c κs = let w = whole-when (c .before .before .list-refusal .ensures) (c .before .if1 .left) in (search needs, search needs)
 
 loop-holds : tie.Need-loop-holds Inv-loop μ-loop
 loop-holds c = laws.so-far-none _ _
@@ -36,7 +36,7 @@ slice-aggregate-is-gone : tie.Need-slice-aggregate-is-gone Inv-loop μ-loop
 slice-aggregate-is-gone c = search needs
 
 is-gone-requires : tie.Need-is-gone-requires Inv-loop μ-loop
-is-gone-requires c κs = let w = whole-when (c .before .before .before .before .before .before .before .list-refusal .ensures) (c .before .before .before .before .before .before .if1 .left) in (search needs, (search needs, c .before .before .before .before .print-records .ensures))
+is-gone-requires c κs = let w = whole-when (c .before .before .before .before .before .before .before .list-refusal .ensures) (c .before .before .before .before .before .before .if1 .left) in (search needs, (search needs, c .before .before .before .before .link-records .ensures))
 
 add-n : tie.Need-add-n Inv-loop μ-loop
 add-n c = search needs
@@ -80,8 +80,8 @@ clean-store-spec =
     list-refusal-requires
     refused-requires
     returns
-    slice-aggregate-print-records
-    print-records-requires
+    slice-aggregate-link-records
+    link-records-requires
     loop-holds
     slice-aggregate-is-gone
     is-gone-requires

@@ -188,7 +188,7 @@ size_t knot_first_damaged(const uint8_t *store, size_t store_length);
  * Answers the number in the low byte; where that is 0, how many records stay in bits 16 to 31 (the first 24 bytes of out for each) and how
  * many are removed in bits 32 to 47. Refusals: 5, 6, 3 (room for fewer records than the store has); a refusal's word is its number.
  *
- * Stack: 16,400 bytes.
+ * Stack: 8,500 bytes.
  */
 uint64_t knot_clean_store(const uint8_t *store, size_t store_length, uint8_t *out, size_t out_length);
 

@@ -4,8 +4,10 @@ usage: knot list [--strict] [STORE]
 
 Without a STORE it is read from standard input. A line a record: number, tile, answer, mode, mark (0 kept, 1 twin, 2 refused) and pixel
 15's three values in hex; then the counts. With --strict a store in which a record that is not refused has a reserved mode is refused
-whole. Of a refused store the line 'store refused' and the number are all.
+whole, and standard error has the number of the first such record. Of a refused store the line 'store refused' and the number are all.
 """
+import sys
+
 from . import house
 
 
@@ -16,6 +18,7 @@ def run(words):
         raise house.Usage("it takes --strict and one STORE")
     store = house.read(rest[0] if rest else None, house.STORE)
     listing, told = house.program("listing", store, ["--strict"] if strict else [])
+    sys.stderr.write(told.decode("ascii", "replace"))
     if listing.startswith(b"store refused "):
         raise house.Refused(int(listing.split()[2]), listing)
     house.put(listing)

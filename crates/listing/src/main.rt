@@ -16,6 +16,7 @@ use records::RecordReading;
 use records::record_at;
 use records::record_block;
 use records::tile_at;
+use strict::first_damaged;
 use strict::strict_twin_list;
 use text::print;
 use text::put;
@@ -24,6 +25,7 @@ use text::put_field;
 use text::put_hex;
 use text::put_refusal;
 use text::same_bytes;
+use text::tell;
 use twins::TwinList;
 use twins::twin_list;
 
@@ -117,19 +119,29 @@ fn print_counts(text: &mut [u8], list: TwinList)
     print(text, end);
 }
 
-fn print_refusal(text: &mut [u8], answer: u8)
+// The line for a store that is refused; which record is the first damaged one, on standard error.
+fn print_refusal(text: &mut [u8], store: &[u8], answer: u8)
     requires { ⌜ 128 ≤ length (now text) ⌝ }
 {
-    let end = put_refusal(text, 0, answer);
+    let mut end = put_refusal(text, 0, answer);
     print(text, end);
+    if answer == Answer::RESERVED_BLOCK {
+        end = put_count(
+            text,
+            0,
+            b"first damaged record ",
+            first_damaged(store) as u64,
+        );
+        end = put(text, end, b"\n");
+        tell(text, end);
+    }
 }
 
 fn list_records(store: &[u8], marks: &mut [u8], strict: bool) -> TwinList
     ensures { λ r. ⌜ (r .answer ≡ done → Listed (now (store .entry)) (now (marks .entry)) r (now (marks .exit))) ⌝ }
 {
     if strict {
-        let answer = strict_twin_list(store, marks);
-        return answer.list;
+        return strict_twin_list(store, marks);
     }
     twin_list(store, marks)
 }
@@ -139,7 +151,7 @@ fn print_store(store: &[u8], marks: &mut [u8], text: &mut [u8], strict: bool)
 {
     let list = list_records(store, marks, strict);
     if list.answer != Answer::DONE {
-        print_refusal(text, list.answer);
+        print_refusal(text, store, list.answer);
         return;
     }
     if print_records(text, store, marks) {

@@ -11,6 +11,13 @@ pub fn print(text: &[u8], end: usize) -> bool
     io::write_all(libc::STDOUT_FILENO, &text[..end])
 }
 
+// The same to standard error.
+pub fn tell(text: &[u8], end: usize) -> bool
+    requires { ⌜ end ≤ length (now text) ⌝ }
+{
+    io::write_all(libc::STDERR_FILENO, &text[..end])
+}
+
 pub fn put(text: &mut [u8], at: usize, word: &[u8]) -> usize
     requires { ⌜ at + length (now word) ≤ length (now text) ⌝ }
     ensures { λ r. ⌜ r ≡ at + length (now (word .entry)) ⌝ }

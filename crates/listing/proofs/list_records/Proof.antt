@@ -10,7 +10,7 @@ same-length : tie.Need-same-length
 same-length c = search needs
 
 returns : tie.Need-returns
-returns c = list-is (c .before .before .before .strict-twin-list .ensures)
+returns c = list-is (c .before .before .strict-twin-list .ensures)
 
 twin-list-requires : tie.Need-twin-list-requires
 twin-list-requires c κs = search needs

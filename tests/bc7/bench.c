@@ -1,5 +1,6 @@
 /* What a BC7 block costs, beside the plain decoder: processor time of the process, the two in turns, the best of 25, in nanoseconds a block.
- * First 4,096 blocks in cache, all modes at random and each by itself; then runs of 64 to 1,048,576 blocks in one call.
+ * First 4,096 blocks in cache, all modes at random and each by itself; then 1,048,576 blocks in runs of 64 to all of them
+ * in one call.
  */
 #define _POSIX_C_SOURCE 199309L
 #include "knotpasture.h"
@@ -43,16 +44,17 @@ static void beside(const char *what, size_t count)
     printf("%-12s ours %6.1f  plain %6.1f  ratio %.2f\n", what, ours, plain, plain / ours);
 }
 
+/* The same blocks in calls of `count`. */
 static void run(size_t count)
 {
     double best = 1e30;
-    size_t done, rounds = count < 16384 ? 16384 / count : 1;
+    size_t done;
     for (int turn = 0; turn < TURNS; turn++) {
         double from = now();
-        for (size_t k = 0; k < rounds; k++) sink += knot_bc7_blocks_pixels(blocks, 16 * count, out, 64 * count, &done);
-        least(&best, (now() - from) / (count * rounds));
+        for (size_t n = 0; n < MOST; n += count) sink += knot_bc7_blocks_pixels(blocks + 16 * n, 16 * count, out + 64 * n, 64 * count, &done);
+        least(&best, (now() - from) / MOST);
     }
-    printf("a run of %-8lu ours %6.1f\n", (unsigned long)count, best);
+    printf("runs of %-8lu ours %6.1f\n", (unsigned long)count, best);
 }
 
 static uint64_t state = 88172645463325252u;

@@ -35,3 +35,13 @@ endAt r g b a w wa p d j = endOf (getD (r ∷ g ∷ b ∷ a ∷ []) (j % 4) 0) (
 pub record Ended (count r g b a w wa p d : ℕ) (ends : List ℕ) : Type 0 where
   pub is : ends ≡ made (endAt r g b a w wa p d) (4 * count) ++ drop (4 * count) (replicate 24 0)
   pub small : AllBelow 256 ends
+
+-- what `ends_in` answers: the runs of the four channels stand one after the other from bit `at` of n on
+abbrev pub EndedIn : ℕ → ℕ → ℕ → ℕ → ℕ → ℕ → ℕ → List ℕ → Type 0
+EndedIn n at count w wa p d ends =
+    Ended count
+    (n / 2 ^ at % 2 ^ (count * w))
+    (n / 2 ^ (at + count * w) % 2 ^ (count * w))
+    (n / 2 ^ (at + count * w + count * w) % 2 ^ (count * w))
+    (n / 2 ^ (at + count * w + count * w + count * w) % 2 ^ (count * wa))
+    w wa p d ends

@@ -2,14 +2,15 @@
 use mathlib.Core.Path.{_≡_, _∙_, refl, sym, ap, subst}
 use mathlib.Core.Bool.{Bool}
 use mathlib.Core.List.{List, [], _∷_}
-use Prim.Native.Nat.{ℕ, zero, suc, _+_, _<_, _≤_}
+use Prim.Native.Nat.{ℕ, zero, suc, zero-le, _+_, _<_, _≤_}
 use native.Mathlib.Omega.{arith}
-use lib.Dec.{T, eqb, ltb, eqb→eq, ltb→lt}
+use lib.Dec.{T, eqb, ltb, eqb→eq, ltb→lt, lit<}
 use lib.ListN.{getD}
 use Rattle.laws.specs.Pick.{pick, both}
 use Rattle.laws.specs.Every.{below, same}
 use Rattle.laws.proofs.Tests.{both-left, both-right, below-at, same-eq}
 use Rattle.bc7_spec.specs.Rows.{partitionSet3, regionOf, fixupsOf}
+use Rattle.bcn_util.proofs.Indexing.{Rising}
 use Rattle.bcn_data.specs.declared.Subset2Map.{Subset2Map}
 use Rattle.bcn_data.specs.declared.Subset3Map.{Subset3Map}
 use Rattle.bcn_data.specs.Subsets.{maskOf, fixupAt, row2, row3}
@@ -46,6 +47,9 @@ one? : T (marked? 1 0 0 0 (0 ∷ []))
 unfolding regionOf fixupsOf
 one? = tt
 
+pub one-rising : Rising 0 16 (0 ∷ [])
+one-rising = (zero-le, (lit< tt, tt))
+
 pub marked-one : Marked 1 0 0 0 (0 ∷ [])
 marked-one = marked-so 1 0 0 0 (0 ∷ []) one?
 
@@ -74,6 +78,9 @@ two p s h e =
       low-positive = ltb→lt _ _ (both-left (ltb 0 (fixupAt 1 2 p)) _ t1);
       low-fits = (let l : fixupAt 1 2 p < 16 = ltb→lt _ _ (both-right (ltb 0 (fixupAt 1 2 p)) _ t1) in omega arith);
     })
+
+pub two-rising : {p : ℕ} {s : Subset2Map} → Two p s → Rising 0 16 (0 ∷ s .«fixup_index_2» ∷ [])
+two-rising t = (zero-le, (lit< tt, (t .low-positive, (omega (arith, t .low-fits), tt))))
 
 -- ---- three
 
@@ -109,3 +116,7 @@ three p s h e =
       low-high = ltb→lt _ _ (both-left (ltb (fixupAt 1 3 p) (fixupAt 2 3 p)) _ t2);
       high-fits = (let l : fixupAt 2 3 p < 16 = ltb→lt _ _ (both-right (ltb (fixupAt 1 3 p) (fixupAt 2 3 p)) _ t2) in omega arith);
     })
+
+pub three-rising : {p : ℕ} {s : Subset3Map} → Three p s → Rising 0 16 (0 ∷ s .«fixup_index_2» ∷ s .«fixup_index_3» ∷ [])
+three-rising t =
+    (zero-le, (lit< tt, (t .low-positive, (omega (arith, t .low-high, t .high-fits), (t .low-high, (omega (arith, t .high-fits), tt))))))

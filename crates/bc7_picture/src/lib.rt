@@ -1,5 +1,5 @@
 // From a block's bits to the 64 bytes that it shows: a function for each mode, with the places of its fields.
-use bc7_ends::ends_of;
+use bc7_ends::ends_in;
 use bc7_ends::run;
 use bc7_paint::paint;
 use bc7_weights::weigh_one;
@@ -30,13 +30,8 @@ fn show_0(s: BitStream, out: &mut [u8])
     requires { ⌜ 64 ≤ length (now out) ⌝ }
     ensures { λ _. ⌜ now (out .exit) ≡ made (byteIn 0 (number s)) 64 ++ drop 64 (now (out .entry)) ⌝ }
 {
-    let partition = run(s, 1, 4);
-    let red = run(s, 5, 24);
-    let green = run(s, 29, 24);
-    let blue = run(s, 53, 24);
-    let p = run(s, 77, 6);
-    let ends = ends_of(6, red, green, blue, 0, 4, 0, p, 1);
-    let map = Subset3Map::row(partition as usize);
+    let map = Subset3Map::row(run(s, 1, 4) as usize);
+    let ends = ends_in(s, 5, 6, 4, 0, run(s, 77, 6), 1);
     let weights = weigh_three(s, 83, 3, map.fixup_index_2, map.fixup_index_3);
     paint(ends, map.ones, map.twos, 0, weights, weights, out);
 }
@@ -45,15 +40,9 @@ fn show_1(s: BitStream, out: &mut [u8])
     requires { ⌜ 64 ≤ length (now out) ⌝ }
     ensures { λ _. ⌜ now (out .exit) ≡ made (byteIn 1 (number s)) 64 ++ drop 64 (now (out .entry)) ⌝ }
 {
-    let partition = run(s, 2, 6);
-    let red = run(s, 8, 24);
-    let green = run(s, 32, 24);
-    let blue = run(s, 56, 24);
-    let first = run(s, 80, 1);
-    let second = run(s, 81, 1);
-    let p = both_sides(first, second);
-    let ends = ends_of(4, red, green, blue, 0, 6, 0, p, 1);
-    let map = Subset2Map::row(partition as usize);
+    let map = Subset2Map::row(run(s, 2, 6) as usize);
+    let p = both_sides(run(s, 80, 1), run(s, 81, 1));
+    let ends = ends_in(s, 8, 4, 6, 0, p, 1);
     let weights = weigh_two(s, 82, 3, map.fixup_index_2);
     paint(ends, map.subset_indexes, 0, 0, weights, weights, out);
 }
@@ -62,12 +51,8 @@ fn show_2(s: BitStream, out: &mut [u8])
     requires { ⌜ 64 ≤ length (now out) ⌝ }
     ensures { λ _. ⌜ now (out .exit) ≡ made (byteIn 2 (number s)) 64 ++ drop 64 (now (out .entry)) ⌝ }
 {
-    let partition = run(s, 3, 6);
-    let red = run(s, 9, 30);
-    let green = run(s, 39, 30);
-    let blue = run(s, 69, 30);
-    let ends = ends_of(6, red, green, blue, 0, 5, 0, 0, 0);
-    let map = Subset3Map::row(partition as usize);
+    let map = Subset3Map::row(run(s, 3, 6) as usize);
+    let ends = ends_in(s, 9, 6, 5, 0, 0, 0);
     let weights = weigh_three(s, 99, 2, map.fixup_index_2, map.fixup_index_3);
     paint(ends, map.ones, map.twos, 0, weights, weights, out);
 }
@@ -76,13 +61,8 @@ fn show_3(s: BitStream, out: &mut [u8])
     requires { ⌜ 64 ≤ length (now out) ⌝ }
     ensures { λ _. ⌜ now (out .exit) ≡ made (byteIn 3 (number s)) 64 ++ drop 64 (now (out .entry)) ⌝ }
 {
-    let partition = run(s, 4, 6);
-    let red = run(s, 10, 28);
-    let green = run(s, 38, 28);
-    let blue = run(s, 66, 28);
-    let p = run(s, 94, 4);
-    let ends = ends_of(4, red, green, blue, 0, 7, 0, p, 1);
-    let map = Subset2Map::row(partition as usize);
+    let map = Subset2Map::row(run(s, 4, 6) as usize);
+    let ends = ends_in(s, 10, 4, 7, 0, run(s, 94, 4), 1);
     let weights = weigh_two(s, 98, 2, map.fixup_index_2);
     paint(ends, map.subset_indexes, 0, 0, weights, weights, out);
 }
@@ -91,11 +71,7 @@ fn show_4(s: BitStream, out: &mut [u8])
     requires { ⌜ 64 ≤ length (now out) ⌝ }
     ensures { λ _. ⌜ now (out .exit) ≡ made (byteIn 4 (number s)) 64 ++ drop 64 (now (out .entry)) ⌝ }
 {
-    let red = run(s, 8, 10);
-    let green = run(s, 18, 10);
-    let blue = run(s, 28, 10);
-    let alpha = run(s, 38, 12);
-    let ends = ends_of(2, red, green, blue, alpha, 5, 6, 0, 0);
+    let ends = ends_in(s, 8, 2, 5, 6, 0, 0);
     let rotation = run(s, 5, 2);
     let first = weigh_one(s, 50, 2);
     let second = weigh_one(s, 81, 3);
@@ -110,11 +86,7 @@ fn show_5(s: BitStream, out: &mut [u8])
     requires { ⌜ 64 ≤ length (now out) ⌝ }
     ensures { λ _. ⌜ now (out .exit) ≡ made (byteIn 5 (number s)) 64 ++ drop 64 (now (out .entry)) ⌝ }
 {
-    let red = run(s, 8, 14);
-    let green = run(s, 22, 14);
-    let blue = run(s, 36, 14);
-    let alpha = run(s, 50, 16);
-    let ends = ends_of(2, red, green, blue, alpha, 7, 8, 0, 0);
+    let ends = ends_in(s, 8, 2, 7, 8, 0, 0);
     let rotation = run(s, 6, 2);
     let first = weigh_one(s, 66, 2);
     let second = weigh_one(s, 97, 2);
@@ -125,12 +97,7 @@ fn show_6(s: BitStream, out: &mut [u8])
     requires { ⌜ 64 ≤ length (now out) ⌝ }
     ensures { λ _. ⌜ now (out .exit) ≡ made (byteIn 6 (number s)) 64 ++ drop 64 (now (out .entry)) ⌝ }
 {
-    let red = run(s, 7, 14);
-    let green = run(s, 21, 14);
-    let blue = run(s, 35, 14);
-    let alpha = run(s, 49, 14);
-    let p = run(s, 63, 2);
-    let ends = ends_of(2, red, green, blue, alpha, 7, 7, p, 1);
+    let ends = ends_in(s, 7, 2, 7, 7, run(s, 63, 2), 1);
     let weights = weigh_one(s, 65, 4);
     paint(ends, 0, 0, 0, weights, weights, out);
 }
@@ -139,14 +106,8 @@ fn show_7(s: BitStream, out: &mut [u8])
     requires { ⌜ 64 ≤ length (now out) ⌝ }
     ensures { λ _. ⌜ now (out .exit) ≡ made (byteIn 7 (number s)) 64 ++ drop 64 (now (out .entry)) ⌝ }
 {
-    let partition = run(s, 8, 6);
-    let red = run(s, 14, 20);
-    let green = run(s, 34, 20);
-    let blue = run(s, 54, 20);
-    let alpha = run(s, 74, 20);
-    let p = run(s, 94, 4);
-    let ends = ends_of(4, red, green, blue, alpha, 5, 5, p, 1);
-    let map = Subset2Map::row(partition as usize);
+    let map = Subset2Map::row(run(s, 8, 6) as usize);
+    let ends = ends_in(s, 14, 4, 5, 5, run(s, 94, 4), 1);
     let weights = weigh_two(s, 98, 2, map.fixup_index_2);
     paint(ends, map.subset_indexes, 0, 0, weights, weights, out);
 }

@@ -12,7 +12,7 @@ use Rattle.bc6h_spec.specs.Regions.{partitions, mapOf, fixupOf}
 use Rattle.bc7_spec.specs.Rows.{partitionSet3, fixupsOf}
 use Rattle.bcn_data.specs.declared.Subset2Map.{Subset2Map}
 use Rattle.bcn_data.specs.declared.Subset3Map.{Subset3Map}
-use Rattle.bcn_data.specs.Subsets.{subset2, maskOf, fixupAt, row2, row3, packedRow2, packedRow3}
+use Rattle.bcn_data.specs.Subsets.{subset2, maskOf, fixupAt, row2, row3, packedRow2, threeRow}
 
 -- ---- every map has sixteen bits, and every fix-up pixel four
 
@@ -60,7 +60,7 @@ module _ (p row : ℕ) (h : p < 64) (e : row ≡ packedRow2 p) where
       let low : row / 65536 ≡ fixupAt 1 2 p = omega (arith, e, f .ones) in
       λ i. record { «subset_indexes» = map i; «fixup_index_2» = low i }
 
-module _ (p row : ℕ) (h : p < 64) (e : row ≡ packedRow3 p) where
+module _ (p row : ℕ) (h : p < 64) (e : row ≡ threeRow p) where
   pub small3 : row / 68719476736 < 256
   small3 = let f = fits 1 p (omega arith) h in omega (arith, e, f .ones, f .twos, f .low, f .high)
 

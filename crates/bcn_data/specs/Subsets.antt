@@ -40,9 +40,15 @@ row3 partition =
       «fixup_index_3» = fixupAt 2 3 partition;
     }
 
--- the same as one number
+-- the same as one number: BC6H's rows, rows 32 to 63 of two regions, and the rows of three
+abbrev pub packedRow : ℕ → ℕ
+packedRow partition = mapOf partition + 65536 * fixupOf partition
+
 abbrev pub packedRow2 : ℕ → ℕ
 packedRow2 partition = maskOf 1 2 partition + 65536 * fixupAt 1 2 partition
 
-abbrev pub packedRow3 : ℕ → ℕ
-packedRow3 partition = maskOf 1 3 partition + 65536 * (maskOf 2 3 partition + 65536 * (fixupAt 1 3 partition + 16 * fixupAt 2 3 partition))
+abbrev pub laterRow : ℕ → ℕ
+laterRow row = packedRow2 (row + 32)
+
+abbrev pub threeRow : ℕ → ℕ
+threeRow partition = maskOf 1 3 partition + 65536 * (maskOf 2 3 partition + 65536 * (fixupAt 1 3 partition + 16 * fixupAt 2 3 partition))

@@ -5,9 +5,9 @@ use Rattle.bcn_data.proofs.Subset3Map.row.Statement.{statement}
 use Rattle.bcn_data.proofs.Subset3Map.row.Tie as tie
 
 returns : tie.Need-returns
-returns c = apart3 _ _ (c .before .pre) (c .packed-row-3 .ensures)
+returns c = apart3 _ _ (c .before .pre) (c .three-row .ensures)
 
 pub row-spec : {M : Type 1} → statement M
 row-spec =
     tie.close
-    (tie.spec (λ c κs. search needs) (λ c. search needs) (λ c. search needs) (λ c. search needs) (λ c. record { fits = small3 _ _ (c .before .pre) (c .packed-row-3 .ensures) }) returns)
+    (tie.spec (λ c κs. search needs) (λ c. search needs) (λ c. search needs) (λ c. search needs) (λ c. record { fits = small3 _ _ (c .before .pre) (c .three-row .ensures) }) returns)

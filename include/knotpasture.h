@@ -217,6 +217,24 @@ size_t knot_first_of(const uint8_t *store, size_t store_length, size_t n);
  */
 bool knot_is_trusted(const uint8_t *block, size_t block_length, uint8_t format);
 
+/* BC7: the sixteen pixels of a block as bytes: pixel 0 red, green, blue, alpha, then pixel 1, in the order of knot_block_pixels. They become
+ * out[0] to out[63], as interpolated, with no sRGB conversion; the rest of out stays.
+ *
+ * Answers the number in the low byte and the mode in the next: 0 to 7, or KNOT_BC7_RESERVED for a reserved block, which is done and shows 64
+ * zeros, alpha too. Refusals: 2, 3 (fewer than 64 bytes of room), in this order, with mode 0.
+ */
+uint32_t knot_bc7_pixels(const uint8_t *block, size_t block_length, uint8_t *out, size_t out_length);
+
+enum { KNOT_BC7_BYTES = 64, KNOT_BC7_RESERVED = 8 };
+
+/* BC7: the bytes of a run of blocks in one call: what knot_bc7_pixels writes for each in turn, block n's bytes from out[64 n] on. The rest of
+ * out stays.
+ *
+ * Answers the number; *done becomes the number of blocks, which may be 0. Refusals: 9, 3 (fewer than 64 bytes of room a block), in this order;
+ * nothing is written, not even the first block's bytes, and *done becomes 0.
+ */
+uint64_t knot_bc7_blocks_pixels(const uint8_t *blocks, size_t blocks_length, uint8_t *out, size_t out_length, size_t *done);
+
 #ifdef __cplusplus
 }
 #endif

@@ -3,7 +3,7 @@ use mathlib.Core.Path.{_≡_, sym, ap, subst}
 use Prim.Native.Nat.{ℕ, _+_, _-_, _*_, _/_, _%_, _^_, _<_, _≤_}
 use native.Mathlib.Nat.{mul-le-mul, mod-lt, mod-eq-of-lt, lt-of-lt-of-le}
 use native.Mathlib.Omega.{arith}
-use lib.Pow.{pow-pos, pow-mono, split}
+use lib.Pow.{pow-pos, pow-add, pow-mono, split}
 use Rattle.laws.specs.Packed.{opened}
 use Rattle.laws.proofs.Opening.{opened-le}
 use Rattle.bcn_util.proofs.Words.{one-shl}
@@ -26,14 +26,22 @@ module _ (n top : ℕ) (h : n < 2 ^ 63) where
   pub opens-fits : n + (n / 2 ^ top * 2 ^ top) % 2 ^ 64 < 2 ^ 64
   opens-fits = subst (λ (x : ℕ). x < 2 ^ 64) (sym opens) (let l : opened top n < 2 ^ 64 = omega (arith, opened-le top n) in l)
 
--- what was read stays below 2 ^ 63, with one top bit put in too
-pub read-short : (n t b : ℕ) → b ≡ n % 2 ^ t → t ≤ 63 → b < 2 ^ 63
-read-short n t b e h = subst (λ (x : ℕ). x < 2 ^ 63) (sym e) (lt-of-lt-of-le (mod-lt n (pow-pos t)) (pow-mono h))
+-- b has t bits
+pub record InBits (t b : ℕ) : Type 0 where
+  pub below : b < 2 ^ t
 
-pub opened-short : (n t top b x : ℕ) → b ≡ n % 2 ^ t → t ≤ 62 → x ≡ opened top b → x < 2 ^ 63
-opened-short n t top b x e h o =
-    let s : b < 2 ^ 62 = subst (λ (y : ℕ). y < 2 ^ 62) (sym e) (lt-of-lt-of-le (mod-lt n (pow-pos t)) (pow-mono h)) in
-    omega (arith, opened-le top b, o)
+-- what was read has t bits, and each top bit that is put in adds one: so it stays below 2 ^ 63
+pub read-fits : (n t b : ℕ) → b ≡ n % 2 ^ t → InBits t b
+read-fits n t b e = record { below = subst (λ (x : ℕ). x < 2 ^ t) (sym e) (mod-lt n (pow-pos t)) }
+
+pub opened-fits : {t b : ℕ} (top x : ℕ) → InBits t b → x ≡ opened top b → InBits (t + 1) x
+opened-fits {t} {b} top x h o =
+    let e : 2 ^ (t + 1) ≡ 2 ^ t * 2 = pow-add 2 t 1 in
+    let l : x < 2 ^ (t + 1) = omega (arith, opened-le top b, o, h .below) in
+    record { below = l }
+
+pub short : {t b : ℕ} → InBits t b → t ≤ 63 → b < 2 ^ 63
+short h l = lt-of-lt-of-le (h .below) (pow-mono l)
 
 -- an index fits a byte
 pub index-fits : (x bits : ℕ) → bits ≤ 4 → x % ((1 * 2 ^ bits) % 2 ^ 64) < 256

@@ -10,6 +10,9 @@ use lib.Dec.{lit<}
 pub one-shl : (n : ℕ) → n ≤ 63 → (1 * 2 ^ n) % 2 ^ 64 ≡ 2 ^ n
 one-shl n h = shl-exact {a = 1} 1 n 64 (lit< tt) (omega arith) ∙ one-mul (2 ^ n)
 
+pub one-shl-32 : (n : ℕ) → n ≤ 31 → (1 * 2 ^ n) % 2 ^ 32 ≡ 2 ^ n
+one-shl-32 n h = shl-exact {a = 1} 1 n 32 (lit< tt) (omega arith) ∙ one-mul (2 ^ n)
+
 -- p is 2 ^ n, q is 2 ^ (64 - n), and w, their product, is 2 ^ 64
 module _ (p q w lo hi : ℕ) (e : p * q ≡ w) (hp : 0 < p) (hq : 0 < q) where
   whole : w * hi ≡ p * (q * hi)

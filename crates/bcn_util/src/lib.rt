@@ -123,6 +123,20 @@ impl Indexes {
         }
     }
 
+    // Three regions: so are the fix-up pixels of regions 1 and 2, the lower pixel first.
+    pub fn new_p3(bits: u64, stream: BitStream, low: u64, high: u64) -> Indexes
+        requires { ⌜ (1 ≤ bits) × (bits ≤ 4) × (1 ≤ low) × (low < high) × (high ≤ 15) ⌝ }
+        ensures { λ r. ⌜ r ≡ indexesOf bits (0 ∷ low ∷ high ∷ []) (number stream) ⌝ }
+    {
+        let read = stream.consume_bits(16 * bits - 3);
+        let first = Indexes::decompress_single_index(bits, read.bits, 0);
+        let second = Indexes::decompress_single_index(bits, first, low);
+        Indexes {
+            uncompressed: Indexes::decompress_single_index(bits, second, high),
+            bits,
+        }
+    }
+
     // A zero put in as the top bit of an index. What stands above is moved up by one, that is, added once more.
     fn decompress_single_index(bits: u64, compressed: u64, index: u64) -> u64
         requires { ⌜ (1 ≤ bits) × (bits ≤ 4) × (index ≤ 15) × (compressed < 2 ^ 63) ⌝ }

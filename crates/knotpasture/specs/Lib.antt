@@ -1,2 +1,3 @@
 pub mod Packed
 pub mod Stores
+pub mod Bc7

@@ -1,6 +1,7 @@
 // The public calls for C and Rust, as include/knotpasture.h declares them. A slice is a pointer and a length.
 pub mod shown;
 pub mod stores;
+pub mod bc7_calls;
 
 use bc6_numbers::Numbers;
 use bc6h_spec::Answer;

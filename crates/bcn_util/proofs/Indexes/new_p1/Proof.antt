@@ -2,13 +2,13 @@
 use borrow.Author.Needs.{needs}
 use mathlib.Core.Path.{_∙_, ap}
 use Rattle.laws.specs.Packed.{opened}
-use Rattle.bcn_util.proofs.Expand.{read-short}
+use Rattle.bcn_util.proofs.Expand.{read-fits, short}
 use Rattle.bcn_util.proofs.Indexes.new_p1.Statement.{statement}
 use Rattle.bcn_util.proofs.Indexes.new_p1.Tie as tie
 
 decompress-single-index-requires : tie.Need-decompress-single-index-requires
 decompress-single-index-requires c κs =
-    (search needs, search needs, search needs, read-short _ _ _ (c .consume-bits .ensures .next) (search needs))
+    (search needs, search needs, search needs, short (read-fits _ _ _ (c .consume-bits .ensures .next)) (search needs))
 
 returns : tie.Need-returns
 returns c =

@@ -2,19 +2,19 @@
 use borrow.Author.Needs.{needs}
 use mathlib.Core.Path.{_∙_, ap}
 use Rattle.laws.specs.Packed.{opened}
-use Rattle.bcn_util.proofs.Expand.{read-short, opened-short}
+use Rattle.bcn_util.proofs.Expand.{read-fits, opened-fits, short}
 use Rattle.bcn_util.proofs.Indexes.new_p2.Statement.{statement}
 use Rattle.bcn_util.proofs.Indexes.new_p2.Tie as tie
 
 first-requires : tie.Need-decompress-single-index-requires
-first-requires c κs = (search needs, search needs, search needs, read-short _ _ _ (c .consume-bits .ensures .next) (search needs))
+first-requires c κs = (search needs, search needs, search needs, short (read-fits _ _ _ (c .consume-bits .ensures .next)) (search needs))
 
 second-requires : tie.Need-decompress-single-index-requires-2
 second-requires c κs = (
   search needs,
   search needs,
   search needs,
-  opened-short _ _ _ _ _ (c .before .consume-bits .ensures .next) (search needs) (c .decompress-single-index .ensures),
+  short (opened-fits _ _ (read-fits _ _ _ (c .before .consume-bits .ensures .next)) (c .decompress-single-index .ensures)) (search needs),
 )
 
 returns : tie.Need-returns

@@ -1,0 +1,102 @@
+-- A tile's bytes, one law for each step of `paint`. Assumes nothing.
+use mathlib.Core.Path.{_≡_, _∙_, refl, sym, ap, ap₂, subst}
+use mathlib.Core.Bool.{Bool, true, false}
+use mathlib.Core.List.{List, _++_}
+use Prim.Native.Nat.{ℕ, zero, suc, _+_, _-_, _*_, _/_, _%_, _<_, _≤_}
+use native.Mathlib.Nat.{mul-le-mul, add-zero}
+use native.Mathlib.Omega.{arith}
+use lib.Dec.{eqb}
+use lib.ListN.{length, getD, set, drop}
+use Rattle.laws.specs.Pick.{pick}
+use Rattle.laws.specs.Bit.{bit}
+use Rattle.laws.specs.Made.{made}
+use Rattle.bc7_spec.specs.Bytes.{turned}
+use Rattle.bc7_paint.specs.Shades.{regionBy, regionAt, shadeAt, channelAt, byteAt, turnedTo}
+
+-- ---- between two bytes
+
+module _ (a b w : ℕ) (ha : a < 256) (hb : b < 256) (hw : w < 65) where
+  pub first-part : a * (64 - w) ≤ 255 * (64 - w)
+  first-part = mul-le-mul (let h : a ≤ 255 = omega arith in h) (let h : 64 - w ≤ 64 - w = omega arith in h)
+
+  pub second-part : b * w ≤ 255 * w
+  second-part = mul-le-mul (let h : b ≤ 255 = omega arith in h) (let h : w ≤ w = omega arith in h)
+
+  pub parts-fit : a * (64 - w) + b * w ≤ 16320
+  parts-fit = omega (arith, first-part, second-part)
+
+-- ---- the endpoints of a region
+
+module _ (ends : List ℕ) (c : ℕ) where
+  pub first-end : (one two : Bool) → pick two (getD ends (c + 16) 0) (pick one (getD ends (c + 8) 0) (getD ends c 0)) ≡ getD ends (c + 8 * regionBy one two) 0
+  first-end one true = refl
+  first-end true false = refl
+  first-end false false = ap (λ (x : ℕ). getD ends x 0) (sym (add-zero c))
+
+  pub second-end : (one two : Bool) → pick two (getD ends (c + 20) 0) (pick one (getD ends (c + 12) 0) (getD ends (c + 4) 0)) ≡ getD ends (c + (8 * regionBy one two + 4)) 0
+  second-end one true = refl
+  second-end true false = refl
+  second-end false false = refl
+
+-- ---- the rotation
+
+too-far : (n : ℕ) → suc (suc (suc (suc n))) < 4 → ⊥
+too-far n h = omega arith
+
+module _ (f : ℕ → ℕ) where
+  pub red-turned : (rotation : ℕ) → rotation < 4 → pick (eqb rotation 1) (f 3) (f 0) ≡ f (turned rotation 0)
+  unfolding turned
+  red-turned zero h = refl
+  red-turned (suc zero) h = refl
+  red-turned (suc (suc zero)) h = refl
+  red-turned (suc (suc (suc zero))) h = refl
+  red-turned (suc (suc (suc (suc n)))) h = absurd (too-far n h)
+
+  pub green-turned : (rotation : ℕ) → rotation < 4 → pick (eqb rotation 2) (f 3) (f 1) ≡ f (turned rotation 1)
+  unfolding turned
+  green-turned zero h = refl
+  green-turned (suc zero) h = refl
+  green-turned (suc (suc zero)) h = refl
+  green-turned (suc (suc (suc zero))) h = refl
+  green-turned (suc (suc (suc (suc n)))) h = absurd (too-far n h)
+
+  pub blue-turned : (rotation : ℕ) → rotation < 4 → pick (eqb rotation 3) (f 3) (f 2) ≡ f (turned rotation 2)
+  unfolding turned
+  blue-turned zero h = refl
+  blue-turned (suc zero) h = refl
+  blue-turned (suc (suc zero)) h = refl
+  blue-turned (suc (suc (suc zero))) h = refl
+  blue-turned (suc (suc (suc (suc n)))) h = absurd (too-far n h)
+
+  pub alpha-turned : (rotation : ℕ) → rotation < 4 → turnedTo rotation (f 0) (f 1) (f 2) (f 3) ≡ f (turned rotation 3)
+  unfolding turned
+  alpha-turned zero h = refl
+  alpha-turned (suc zero) h = refl
+  alpha-turned (suc (suc zero)) h = refl
+  alpha-turned (suc (suc (suc zero))) h = refl
+  alpha-turned (suc (suc (suc (suc n)))) h = absurd (too-far n h)
+
+-- ---- a turn of the loop
+
+-- out has the first n bytes of f, and from there on it is l
+abbrev pub Made : (ℕ → ℕ) → ℕ → List ℕ → List ℕ → Type 0
+Made f n l out = out ≡ made f n ++ drop n l
+
+module _ (ends : List ℕ) (ones twos rotation : ℕ) (colours alphas : List ℕ) (k : ℕ) where
+  -- channel c of pixel k
+  abbrev at : ℕ → ℕ
+  at = channelAt ends ones twos colours alphas k
+
+  -- byte 4 k + c
+  pub byte-of : (c : ℕ) → c < 4 → at (turned rotation c) ≡ byteAt ends ones twos rotation colours alphas (4 * k + c)
+  unfolding byteAt
+  byte-of c h =
+      let d : (4 * k + c) / 4 ≡ k = omega arith in
+      let m : (4 * k + c) % 4 ≡ c = omega arith in
+      sym (ap₂ (λ (p q : ℕ). channelAt ends ones twos colours alphas p (turned rotation q)) d m)
+
+  -- what `shade` answers, with the tests of the two maps
+  pub shaded : (c w s : ℕ) (one two : Bool) → s ≡ shadeAt ends c (regionBy one two) w → one ≡ eqb (bit ones k) 1 → two ≡ eqb (bit twos k) 1
+      → w ≡ pick (eqb c 3) (getD alphas k 0) (getD colours k 0) → s ≡ at c
+  unfolding channelAt
+  shaded c w s one two e eo et ew = e ∙ ap₂ (λ (r v : ℕ). shadeAt ends c r v) (ap₂ regionBy eo et) ew

@@ -1,0 +1,92 @@
+// The 64 bytes of a tile, each worked out from its endpoints and its weight: no palette.
+//
+// The endpoints stand one after the other, red, green, blue, alpha of each: channel c of endpoint e is ends[4 * e + c].
+ghost use mathlib.Core.Path.{_≡_};
+ghost use mathlib.Core.List.{_++_};
+ghost use Prim.Native.Nat.{_≤_, _<_};
+ghost use lib.Dec.{eqb};
+ghost use lib.ListN.{length, drop};
+ghost use Rattle.laws.specs.Pick.{pick};
+ghost use Rattle.laws.specs.Bit.{bit};
+ghost use Rattle.laws.specs.Made.{made};
+ghost use Rattle.laws.specs.Ranges.{AllBelow};
+ghost use Rattle.bc7_spec.specs.Bytes.{turned};
+ghost use Rattle.bc7_spec.specs.Bytes as spec;
+ghost use Rattle.bc7_paint.specs.Shades.{regionBy, shadeAt, byteAt, turnedTo, Paintable};
+
+fn select(second: bool, a: u16, b: u16) -> u16
+    ensures { λ r. ⌜ r ≡ pick second b a ⌝ }
+{
+    if second { b } else { a }
+}
+
+fn select_byte(second: bool, a: u8, b: u8) -> u8
+    ensures { λ r. ⌜ r ≡ pick second b a ⌝ }
+{
+    if second { b } else { a }
+}
+
+// (a (64 − w) + b w + 32) / 64: no step is above 16 bits.
+fn between(a: u16, b: u16, w: u16) -> u8
+    requires { ⌜ (a < 256) × (b < 256) × (w < 65) ⌝ }
+    ensures { λ r. ⌜ r ≡ spec.between a b w ⌝ }
+{
+    ((a * (64 - w) + b * w + 32) / 64) as u8
+}
+
+// Whether pixel k lies in the region of a map.
+fn in_region(map: u16, k: usize) -> bool
+    requires { ⌜ k < 16 ⌝ }
+    ensures { λ r. ⌜ r ≡ eqb (bit map k) 1 ⌝ }
+{
+    (map >> k) % 2 == 1
+}
+
+// A channel of a pixel that lies in region 1, in region 2 or, in neither, in region 0.
+fn shade(ends: [u16; 24], c: usize, one: bool, two: bool, w: u16) -> u8
+    requires { ⌜ (c < 4) × (w < 65) × AllBelow 256 ends ⌝ }
+    ensures { λ r. ⌜ r ≡ shadeAt ends c (regionBy one two) w ⌝ }
+{
+    let a = select(two, select(one, ends[c], ends[c + 8]), ends[c + 16]);
+    let b = select(two, select(one, ends[c + 4], ends[c + 12]), ends[c + 20]);
+    between(a, b, w)
+}
+
+// What alpha shows after the rotation. (All three tests are made: a branch would stop the compiler from vectorising the loop.)
+fn fourth(rotation: u32, r: u8, g: u8, b: u8, a: u8) -> u8
+    ensures { λ s. ⌜ s ≡ turnedTo rotation r g b a ⌝ }
+{
+    select_byte(
+        rotation == 3,
+        select_byte(rotation == 2, select_byte(rotation == 1, a, r), g),
+        b,
+    )
+}
+
+// One pixel a turn. `ones` and `twos` are the maps of regions 1 and 2.
+pub fn paint(
+    ends: [u16; 24],
+    ones: u16,
+    twos: u16,
+    rotation: u32,
+    colours: [u16; 16],
+    alphas: [u16; 16],
+    out: &mut [u8],
+)
+    requires { ⌜ Paintable ends colours alphas rotation (now out) ⌝ }
+    ensures { λ _. ⌜ now (out .exit) ≡ made (byteAt ends ones twos rotation colours alphas) 64 ++ drop 64 (now (out .entry)) ⌝ }
+{
+    for k in 0..16usize {
+        let one = in_region(ones, k);
+        let two = in_region(twos, k);
+        let r = shade(ends, 0, one, two, colours[k]);
+        let g = shade(ends, 1, one, two, colours[k]);
+        let b = shade(ends, 2, one, two, colours[k]);
+        let a = shade(ends, 3, one, two, alphas[k]);
+        let at = 4 * k;
+        out[at] = select_byte(rotation == 1, r, a);
+        out[at + 1] = select_byte(rotation == 2, g, a);
+        out[at + 2] = select_byte(rotation == 3, b, a);
+        out[at + 3] = fourth(rotation, r, g, b, a);
+    }
+}

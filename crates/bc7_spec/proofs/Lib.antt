@@ -1,0 +1,6 @@
+pub mod Runs
+pub mod Partitions
+pub mod Quoted
+pub mod Values
+pub mod Blocks
+pub mod Lengths

@@ -1,3 +1,4 @@
 pub mod Packed
 pub mod Stores
 pub mod Bc7
+pub mod DdsWords

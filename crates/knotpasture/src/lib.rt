@@ -2,6 +2,7 @@
 pub mod shown;
 pub mod stores;
 pub mod bc7_calls;
+pub mod dds_calls;
 
 use bc6_numbers::Numbers;
 use bc6h_spec::Answer;

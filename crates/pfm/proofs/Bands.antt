@@ -19,10 +19,15 @@ use Rattle.bc6.specs.Call.{refusalOf, Painted}
 use Rattle.bc6.proofs.Calls.{done-when, written}
 use Rattle.bc6.proofs.Values.{unsigned-highest, signed-highest}
 use Rattle.bc6_blocks.specs.Run.{blockAt}
+use Rattle.floats.specs.declared.Rgb.{Rgb}
+use Rattle.floats.specs.Half.{IsNumber}
+use Rattle.floats.specs.Bytes.{rgbBytes}
+use Rattle.floats.proofs.Exact.{are-numbers}
 use Rattle.floats.proofs.Stores.{sets-append, length-rgb}
-use Rattle.pfm.specs.File.{pixelBytes}
-use Rattle.pfm.specs.Bands.{AllNumbers, quarterOf, blockSets, cellAt, lineAt, bandAt, bandUp}
+use Rattle.pfm.specs.File.{colourAt, pixelBytes}
+use Rattle.pfm.specs.Bands.{coloursOf, noColour, AllNumbers, quarterOf, blockSets, cellAt, lineAt, bandAt, bandUp}
 use Rattle.laws.proofs.Joined.{run-length, run-room}
+use Rattle.laws.proofs.Rows.{getD-made}
 use Rattle.pfm.proofs.Lines.{upto, upto-start, upto-length, upto-step, upto-end, four-sets}
 
 -- ---- lengths
@@ -31,11 +36,11 @@ pub length-pixel : (values : List ℕ) (k : ℕ) → length (pixelBytes values k
 unfolding pixelBytes
 length-pixel values k = length-rgb _
 
-pub length-quarter : (values : List ℕ) (row : ℕ) → length (quarterOf values row) ≡ 48
+pub length-quarter : (colours : List Rgb) (row : ℕ) → length (quarterOf colours row) ≡ 48
 unfolding quarterOf
-length-quarter values row =
+length-quarter colours row =
     simp length-append
-    (omega (arith, length-pixel values (4 * row), length-pixel values (4 * row + 1), length-pixel values (4 * row + 2), length-pixel values (4 * row + 3)))
+    (omega (arith, length-rgb (getD colours (4 * row) noColour), length-rgb (getD colours (4 * row + 1) noColour), length-rgb (getD colours (4 * row + 2) noColour), length-rgb (getD colours (4 * row + 3) noColour)))
 
 pub length-cell : (blocks : List ℕ) (format first row : ℕ) (column : ℕ) → length (cellAt blocks format first row column) ≡ 48
 unfolding cellAt
@@ -57,24 +62,36 @@ length-up blocks format across down n = length-band blocks format _ across
 
 -- ---- four pixels, one after the other
 
-pub four-pixels : (l l1 l2 l3 l4 values : List ℕ) (n row : ℕ) → l1 ≡ sets l n (pixelBytes values (4 * row)) → l2 ≡ sets l1 (n + 12) (pixelBytes values (4 * row + 1))
-    → l3 ≡ sets l2 (n + 24) (pixelBytes values (4 * row + 2)) → l4 ≡ sets l3 (n + 36) (pixelBytes values (4 * row + 3)) → l4 ≡ sets l n (quarterOf values row)
+pub four-pixels : (colours : List Rgb) (row : ℕ) (l l1 l2 l3 l4 : List ℕ) (n : ℕ) → l1 ≡ sets l n (rgbBytes (getD colours (4 * row) noColour))
+    → l2 ≡ sets l1 (n + 12) (rgbBytes (getD colours (4 * row + 1) noColour)) → l3 ≡ sets l2 (n + 24) (rgbBytes (getD colours (4 * row + 2) noColour))
+    → l4 ≡ sets l3 (n + 36) (rgbBytes (getD colours (4 * row + 3) noColour)) → l4 ≡ sets l n (quarterOf colours row)
 unfolding quarterOf
-four-pixels l l1 l2 l3 l4 values n row a b c d =
-    let p = pixelBytes values (4 * row) in
-    let q = pixelBytes values (4 * row + 1) in
-    let s = pixelBytes values (4 * row + 2) in
-    let t = pixelBytes values (4 * row + 3) in
-    d ∙ ap (λ (x : List ℕ). sets x (n + 36) t) c ∙ sets-append s t l2 (n + 24) (n + 36) (omega (arith, length-pixel values (4 * row + 2)))
-    ∙ ap (λ (x : List ℕ). sets x (n + 24) (s ++ t)) b ∙ sets-append q (s ++ t) l1 (n + 12) (n + 24) (omega (arith, length-pixel values (4 * row + 1)))
-    ∙ ap (λ (x : List ℕ). sets x (n + 12) (q ++ (s ++ t))) a ∙ sets-append p (q ++ (s ++ t)) l n (n + 12) (omega (arith, length-pixel values (4 * row)))
+four-pixels colours row l l1 l2 l3 l4 n a b c d =
+    let at : ℕ → List ℕ = λ k. rgbBytes (getD colours k noColour) in
+    let long : (k : ℕ) → length (at k) ≡ 12 = λ k. length-rgb (getD colours k noColour) in
+    let p = at (4 * row) in
+    let q = at (4 * row + 1) in
+    let s = at (4 * row + 2) in
+    let t = at (4 * row + 3) in
+    d ∙ ap (λ (x : List ℕ). sets x (n + 36) t) c ∙ sets-append s t l2 (n + 24) (n + 36) (omega (arith, long (4 * row + 2)))
+    ∙ ap (λ (x : List ℕ). sets x (n + 24) (s ++ t)) b ∙ sets-append q (s ++ t) l1 (n + 12) (n + 24) (omega (arith, long (4 * row + 1)))
+    ∙ ap (λ (x : List ℕ). sets x (n + 12) (q ++ (s ++ t))) a ∙ sets-append p (q ++ (s ++ t)) l n (n + 12) (omega (arith, long (4 * row)))
+
+-- they are the pixels of a block's values
+pub quarter-pixels : (values : List ℕ) (row : ℕ) → row < 4
+    → quarterOf (coloursOf values) row
+    ≡ pixelBytes values (4 * row) ++ (pixelBytes values (4 * row + 1) ++ (pixelBytes values (4 * row + 2) ++ pixelBytes values (4 * row + 3)))
+unfolding quarterOf coloursOf pixelBytes
+quarter-pixels values row h =
+    let at : (k : ℕ) → k < 16 → getD (made (colourAt values) 16) k noColour ≡ colourAt values k = λ k l. getD-made (colourAt values) 16 k noColour l in
+    rw (at (4 * row) (omega arith), at (4 * row + 1) (omega arith), at (4 * row + 2) (omega arith), at (4 * row + 3) (omega arith))
 
 -- a block's four rows, one after the other
-pub block-stores : (values : List ℕ) (stride : ℕ) (l l1 l2 l3 l4 : List ℕ) (at : ℕ) → l1 ≡ sets l at (quarterOf values 3) → l2 ≡ sets l1 (at + stride) (quarterOf values 2)
-    → l3 ≡ sets l2 (at + 2 * stride) (quarterOf values 1) → l4 ≡ sets l3 (at + 3 * stride) (quarterOf values 0) → l4 ≡ blockSets values stride l at
-block-stores values stride l l1 l2 l3 l4 at a b c d =
-    d ∙ ap (λ (x : List ℕ). sets x (at + 3 * stride) (quarterOf values 0)) (c
-    ∙ ap (λ (x : List ℕ). sets x (at + 2 * stride) (quarterOf values 1)) (b ∙ ap (λ (x : List ℕ). sets x (at + stride) (quarterOf values 2)) a))
+pub block-stores : (colours : List Rgb) (stride : ℕ) (l l1 l2 l3 l4 : List ℕ) (at : ℕ) → l1 ≡ sets l at (quarterOf colours 3) → l2 ≡ sets l1 (at + stride) (quarterOf colours 2)
+    → l3 ≡ sets l2 (at + 2 * stride) (quarterOf colours 1) → l4 ≡ sets l3 (at + 3 * stride) (quarterOf colours 0) → l4 ≡ blockSets colours stride l at
+block-stores colours stride l l1 l2 l3 l4 at a b c d =
+    d ∙ ap (λ (x : List ℕ). sets x (at + 3 * stride) (quarterOf colours 0)) (c
+    ∙ ap (λ (x : List ℕ). sets x (at + 2 * stride) (quarterOf colours 1)) (b ∙ ap (λ (x : List ℕ). sets x (at + stride) (quarterOf colours 2)) a))
 
 -- ---- a block that was decoded, by the statement of the pixels call alone
 
@@ -88,12 +105,19 @@ module _ {block : List ℕ} {format : ℕ} {out : List ℕ} {r : Pixels} {after 
       written p fine ∙ ap (λ (t : List ℕ). pixelsOf (isSigned format) block ++ t) (drop-of-length-le out {i = 48} (omega arith)) ∙ append-nil (pixelsOf (isSigned format) block)
 
   -- "Each format has a highest pattern": none of the 48 values is a NaN
-  pub decoded-numbers : AllNumbers after
-  decoded-numbers = record {
-    each = λ j h.
-        cases (isSigned format)
-        (λ s. ⊎-elim (λ e. rw e (omega arith)) (λ l. omega arith) (signed-highest p fine j h s))
-        (λ s. let l : getD after j 0 ≤ 0x7BFF = unsigned-highest p fine j h s in omega arith);
+  number-at : (j : ℕ) → j < 48 → IsNumber (getD after j 0)
+  number-at j h =
+      cases (isSigned format)
+      (λ s. ⊎-elim (λ e. rw e (omega arith)) (λ l. omega arith) (signed-highest p fine j h s))
+      (λ s. let l : getD after j 0 ≤ 0x7BFF = unsigned-highest p fine j h s in omega arith)
+
+  -- and none of the sixteen pixels has one
+  pub decoded-numbers : {colours : List Rgb} → colours ≡ coloursOf after → AllNumbers colours
+  unfolding coloursOf
+  decoded-numbers e = record {
+    each = λ k h.
+        are-numbers _ _ _ (ap (λ (l : List Rgb). getD l k noColour) e ∙ getD-made (colourAt after) 16 k noColour h)
+        (number-at (3 * k) (omega arith)) (number-at (3 * k + 1) (omega arith)) (number-at (3 * k + 2) (omega arith));
   }
 
 -- ---- the loop over a row of blocks
@@ -157,11 +181,11 @@ module _ (blocks : List ℕ) (format first across : ℕ) (out : List ℕ) where
         omega arith)
 
     -- the next block
-    pub band-step : (values lent after : List ℕ) (n : ℕ) → n < across → lent ≡ bandUpto blocks format first across out n
-        → values ≡ pixelsOf (isSigned format) (blockAt blocks (first + n)) → after ≡ blockSets values (48 * across) lent (48 * n)
-        → after ≡ bandUpto blocks format first across out (n + 1)
+    pub band-step : {values : List ℕ} {colours : List Rgb} {lent after : List ℕ} (n : ℕ) → n < across → lent ≡ bandUpto blocks format first across out n
+        → values ≡ pixelsOf (isSigned format) (blockAt blocks (first + n)) → colours ≡ coloursOf values
+        → after ≡ blockSets colours (48 * across) lent (48 * n) → after ≡ bandUpto blocks format first across out (n + 1)
     unfolding bandUpto cellAt
-    band-step values lent after n h e v s =
+    band-step n h e v p s =
         let l = 48 * across in
         let f : ℕ → ℕ → List ℕ = cellAt blocks format first in
         let each : (row k : ℕ) → length (f row k) ≡ 48 = length-cell blocks format first in
@@ -178,7 +202,7 @@ module _ (blocks : List ℕ) (format first across : ℕ) (out : List ℕ) where
         let e2 = two in
         let e3 = three in
         let e4 = four in
-        s ∙ ap₂ (λ (x y : List ℕ). blockSets x l y (48 * n)) v e
+        s ∙ ap₂ (λ (x : List Rgb) (y : List ℕ). blockSets x l y (48 * n)) (p ∙ ap coloursOf v) e
         ∙ four-sets (upto (f 3) 48 n o1) (upto (f 2) 48 n o2) (upto (f 1) 48 n o3) (upto (f 0) 48 n o4) (drop (192 * across) out) (f 3 n) (f 2 n) (f 1 n) (f 0 n) l (48 * n)
         (upto-length (f 3) 48 (each 3) o1 n (omega arith) ∙ e1)
         (upto-length (f 2) 48 (each 2) o2 n (omega arith) ∙ e2)

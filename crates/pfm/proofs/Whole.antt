@@ -11,9 +11,9 @@ use Rattle.bc6h_spec.specs.Picture.{isSigned}
 use Rattle.bc6h_spec.specs.Block.{pixelsOf}
 use Rattle.bc6_blocks.specs.Run.{blockAt}
 use Rattle.pfm.specs.File.{pixelBytes, pixelAt, rowAt, rowUp, bodyOf}
-use Rattle.pfm.specs.Bands.{quarterOf, cellAt, lineAt, bandAt, bandUp, bandsOf}
+use Rattle.pfm.specs.Bands.{cellAt, lineAt, bandAt, bandUp, bandsOf}
 use Rattle.laws.proofs.Joined.{run-fours, run-length}
-use Rattle.pfm.proofs.Bands.{length-pixel}
+use Rattle.pfm.proofs.Bands.{length-pixel, quarter-pixels}
 
 module _ (blocks : List ℕ) (format across : ℕ) where
   -- pixel i of the four that block b shows in row 4 d + row
@@ -31,13 +31,14 @@ module _ (blocks : List ℕ) (format across : ℕ) where
       → cellAt blocks format (across * d) row k
       ≡ pixelAt blocks format across (4 * d + row) (4 * k)
       ++ (pixelAt blocks format across (4 * d + row) (4 * k + 1) ++ (pixelAt blocks format across (4 * d + row) (4 * k + 2) ++ pixelAt blocks format across (4 * d + row) (4 * k + 3)))
-  unfolding cellAt quarterOf
+  unfolding cellAt
   cell-fours d row k h =
       let zero-more : (n : ℕ) → n + 0 ≡ n = λ n. omega arith in
       let first : pixelAt blocks format across (4 * d + row) (4 * k) ≡ pixelBytes (pixelsOf (isSigned format) (blockAt blocks (across * d + k))) (4 * row) =
       ap (pixelAt blocks format across (4 * d + row)) (sym (zero-more (4 * k))) ∙ pixel-in d row k 0 h (omega arith)
       ∙ ap (pixelBytes (pixelsOf (isSigned format) (blockAt blocks (across * d + k)))) (zero-more (4 * row)) in
       rw (first, pixel-in d row k 1 h (omega arith), pixel-in d row k 2 h (omega arith), pixel-in d row k 3 h (omega arith))
+      (quarter-pixels (pixelsOf (isSigned format) (blockAt blocks (across * d + k))) row h)
 
   -- a row of pixels is a row of a row of blocks
   row-line : (d row : ℕ) → row < 4 → rowAt blocks format (4 * across) (4 * d + row) ≡ lineAt blocks format (across * d) across row

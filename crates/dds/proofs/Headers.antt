@@ -13,7 +13,7 @@ use borrow.Author.Tests.{le-leb, lt-leb, eq-eqb, leb-true, eqb-true}
 use Rattle.laws.specs.Pick.{both, either}
 use Rattle.laws.specs.Bit.{bit}
 use Rattle.laws.proofs.Tests.{both-true}
-use Rattle.dds.specs.Dds.{headerSize, wordAt, magic, code, dxgiOf, HeaderOurs, fieldsOurs, headerOurs, sizeLimit, SizeOurs, sizeOurs, blockBytes}
+use Rattle.dds.specs.Dds.{headerSize, wordAt, magic, code, dxgiOf, HeaderOurs, startOurs, pixelsOurs, textureOurs, fieldsOurs, headerOurs, sizeLimit, SizeOurs, sizeOurs, blockBytes}
 
 -- ---- headers
 
@@ -27,36 +27,36 @@ module _ (file : List ℕ) where
 
   -- "A header is ours exactly if .."
   pub ours-so : HeaderOurs file → headerOurs file ≡ true
-  unfolding headerOurs fieldsOurs
+  unfolding headerOurs fieldsOurs startOurs pixelsOurs textureOurs
   ours-so h =
       rw
       (le-leb _ _ (h .long), h .stands, h .size, le-leb _ _ (h .levels), h .format-size, h .format-flag, h .format-code, known-so (h .dxgi), h .dimension, h .no-cube, h .single)
 
   pub ours-means : headerOurs file ≡ true → HeaderOurs file
-  unfolding headerOurs fieldsOurs
+  unfolding headerOurs fieldsOurs startOurs pixelsOurs textureOurs
   ours-means t =
-      let a = both-true (leb headerSize (length file)) _ t in
-      let b = both-true (eqb (wordAt file 0) magic) _ (a .1) in
-      let c = both-true (eqb (wordAt file 4) 124) _ (b .1) in
-      let d = both-true (leb (wordAt file 28) 1) _ (c .1) in
-      let e = both-true (eqb (wordAt file 76) 32) _ (d .1) in
-      let f = both-true (eqb (bit (wordAt file 80) 2) 1) _ (e .1) in
-      let g = both-true (eqb (wordAt file 84) code) _ (f .1) in
-      let h = both-true (either (eqb (dxgiOf file) 95) (eqb (dxgiOf file) 96)) _ (g .1) in
-      let i = both-true (eqb (wordAt file 132) 3) _ (h .1) in
-      let j = both-true (eqb (bit (wordAt file 136) 2) 0) _ (i .1) in
+      let whole = both-true (leb headerSize (length file)) (fieldsOurs file) t in
+      let fields = both-true (startOurs file) (both (pixelsOurs file) (textureOurs file)) (whole .1) in
+      let others = both-true (pixelsOurs file) (textureOurs file) (fields .1) in
+      let magic = both-true (eqb (wordAt file 0) magic) _ (fields .0) in
+      let size = both-true (eqb (wordAt file 4) 124) (leb (wordAt file 28) 1) (magic .1) in
+      let format-size = both-true (eqb (wordAt file 76) 32) _ (others .0) in
+      let flag = both-true (eqb (bit (wordAt file 80) 2) 1) (eqb (wordAt file 84) code) (format-size .1) in
+      let known = both-true (either (eqb (dxgiOf file) 95) (eqb (dxgiOf file) 96)) _ (others .1) in
+      let dimension = both-true (eqb (wordAt file 132) 3) _ (known .1) in
+      let last = both-true (eqb (bit (wordAt file 136) 2) 0) (eqb (wordAt file 140) 1) (dimension .1) in
       record {
-        long = leb-true _ _ (a .0);
-        stands = eqb-true _ _ (b .0);
-        size = eqb-true _ _ (c .0);
-        levels = leb-true _ _ (d .0);
-        format-size = eqb-true _ _ (e .0);
-        format-flag = eqb-true _ _ (f .0);
-        format-code = eqb-true _ _ (g .0);
-        dxgi = ⊎-elim (λ x. inl (eqb-true _ _ x)) (λ x. inr (eqb-true _ _ x)) (one-of (eqb (dxgiOf file) 95) (eqb (dxgiOf file) 96) (h .0));
-        dimension = eqb-true _ _ (i .0);
-        no-cube = eqb-true _ _ (j .0);
-        single = eqb-true _ _ (j .1);
+        long = leb-true _ _ (whole .0);
+        stands = eqb-true _ _ (magic .0);
+        size = eqb-true _ _ (size .0);
+        levels = leb-true _ _ (size .1);
+        format-size = eqb-true _ _ (format-size .0);
+        format-flag = eqb-true _ _ (flag .0);
+        format-code = eqb-true _ _ (flag .1);
+        dxgi = ⊎-elim (λ x. inl (eqb-true _ _ x)) (λ x. inr (eqb-true _ _ x)) (one-of (eqb (dxgiOf file) 95) (eqb (dxgiOf file) 96) (known .0));
+        dimension = eqb-true _ _ (dimension .0);
+        no-cube = eqb-true _ _ (last .0);
+        single = eqb-true _ _ (last .1);
       }
 
   pub ours-long : headerOurs file ≡ true → headerSize ≤ length file

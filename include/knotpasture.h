@@ -34,7 +34,10 @@ enum knot_answer {
     KNOT_UNEVEN_BLOCKS = 9, /* block bytes not a multiple of KNOT_BLOCK_SIZE */
     KNOT_INVALID_RECORD = 10, /* field record that no block has */
     KNOT_BAD_BUFFER = 11,   /* lent block buffer not KNOT_BLOCK_SIZE bytes */
-    KNOT_RESERVED_BLOCK = 12 /* reserved block in the store, from the strict twin list only */
+    KNOT_RESERVED_BLOCK = 12, /* reserved block in the store, from the strict twin list only */
+    KNOT_FOREIGN_HEADER = 13, /* DDS header that is not ours */
+    KNOT_BAD_SIZE = 14,     /* a DDS file's width or height is not 1 to KNOT_DDS_LIMIT */
+    KNOT_BAD_BLOCKS = 15    /* block bytes short or left over for the size */
 };
 
 enum knot_format { KNOT_UNSIGNED = 0, KNOT_SIGNED = 1 };
@@ -145,6 +148,42 @@ uint64_t knot_strict_twin_list(const uint8_t *store, size_t store_length, uint8_
  * sixteen bytes: deleting one of the two loses nothing. False for any other format or length.
  */
 bool knot_is_trusted(const uint8_t *block, size_t block_length, uint8_t format);
+
+/* DDS files: one two-dimensional texture with one level, under the DX10 header; KNOT_DDS_HEADER bytes and then the blocks, in row order.
+ * Width and height are 1 to KNOT_DDS_LIMIT pixels, and rounded up to whole blocks.
+ */
+enum {
+    KNOT_DDS_HEADER = 148,      /* bytes before the blocks */
+    KNOT_DDS_LIMIT = 4096,      /* pixels of a side, at most */
+    KNOT_DDS_FILE = 16777364    /* bytes of a file, at most */
+};
+
+/* Size and format of a file. knot_dds_head reads the first KNOT_DDS_HEADER bytes alone, so that a caller learns the size before it has
+ * the whole file, and refuses 13, 14; knot_dds_read reads a whole file and refuses 13, 14, 15.
+ *
+ * Answers the number in the low byte; where that is 0, the format in bits 8 to 15, the width in bits 16 to 31, the height in bits
+ * 32 to 47; where it is not, nothing else.
+ */
+uint64_t knot_dds_head(const uint8_t *file, size_t file_length);
+uint64_t knot_dds_read(const uint8_t *file, size_t file_length);
+
+#define KNOT_DDS_FORMAT(word) ((unsigned)((word) >> 8 & 0xFF))
+#define KNOT_DDS_WIDTH(word) ((unsigned)((word) >> 16 & 0xFFFF))
+#define KNOT_DDS_HEIGHT(word) ((unsigned)((word) >> 32 & 0xFFFF))
+
+/* Where in the file the blocks start: KNOT_DDS_HEADER. 0 exactly when knot_dds_read refuses. They go on to the file's end. */
+size_t knot_dds_blocks(const uint8_t *file, size_t file_length);
+
+/* Writes a file: KNOT_DDS_HEADER bytes and the blocks; the rest of out stays. knot_dds_read of exactly those bytes answers the same size
+ * and format, and knot_dds_blocks tells where the same blocks stand.
+ *
+ * Answers the number in the low byte and the file's length in the bits above it, 0 on a refusal. Refusals: 1, 14, 15, 3 (less room than
+ * KNOT_DDS_HEADER bytes and the blocks), in this order.
+ */
+uint64_t knot_dds_write(const uint8_t *blocks, size_t blocks_length, uint8_t format, uint32_t width, uint32_t height, uint8_t *out,
+                        size_t out_length);
+
+#define KNOT_FILE_LENGTH(word) ((size_t)((word) >> 8))
 
 #ifdef __cplusplus
 }

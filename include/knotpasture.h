@@ -38,7 +38,8 @@ enum knot_answer {
     KNOT_RESERVED_BLOCK = 12, /* reserved block in the store, from the strict twin list only */
     KNOT_FOREIGN_HEADER = 13, /* DDS header that is not ours */
     KNOT_BAD_SIZE = 14,     /* a DDS file's width or height is not 1 to KNOT_DDS_LIMIT */
-    KNOT_BAD_BLOCKS = 15    /* block bytes short or left over for the size */
+    KNOT_BAD_BLOCKS = 15,   /* block bytes short or left over for the size */
+    KNOT_UNEVEN_SIZE = 16   /* a Portable Float Map's width or height is 0, no multiple of 4 or above KNOT_PFM_LIMIT */
 };
 
 enum knot_format { KNOT_UNSIGNED = 0, KNOT_SIGNED = 1 };
@@ -273,6 +274,27 @@ uint64_t knot_dds_write(const uint8_t *blocks, size_t blocks_length, uint8_t for
                         size_t out_length);
 
 #define KNOT_FILE_LENGTH(word) ((size_t)((word) >> 8))
+
+/* Portable Float Maps: a picture of blocks in row order as 32-bit floats. The file is the header, `PF`, width, height and `-1.0`, and then the
+ * rows from the bottom up. Pixel (x, y), row 0 on top, stands at the header's length and 12 * ((height - 1 - y) * width + x): red, green and
+ * blue, low byte first, each exactly its half-float pattern, subnormal patterns too; 0xFC00 is minus infinity. Width and height are multiples
+ * of 4, 4 to KNOT_PFM_LIMIT.
+ */
+enum {
+    KNOT_PFM_LIMIT = 4096,      /* pixels of a side, at most */
+    KNOT_PFM_FILE = 201326610   /* bytes of a file, at most */
+};
+
+/* Writes the file; the rest of out stays.
+ *
+ * Answers the number in the low byte and the file's length in the bits above it (KNOT_FILE_LENGTH), 0 on a refusal. Refusals: 1, 16, 15, 3
+ * (less room than the file has bytes), in this order.
+ */
+uint64_t knot_pfm_write(const uint8_t *blocks, size_t blocks_length, uint8_t format, uint32_t width, uint32_t height, uint8_t *out,
+                        size_t out_length);
+
+/* The length of the file of a picture; 0 for a size that is refused. */
+size_t knot_pfm_length(uint32_t width, uint32_t height);
 
 #ifdef __cplusplus
 }

@@ -2,3 +2,4 @@ pub mod Packed
 pub mod Stores
 pub mod Bc7
 pub mod DdsWords
+pub mod PfmWords

@@ -3,6 +3,7 @@ pub mod shown;
 pub mod stores;
 pub mod bc7_calls;
 pub mod dds_calls;
+pub mod pfm_calls;
 
 use bc6_numbers::Numbers;
 use bc6h_spec::Answer;

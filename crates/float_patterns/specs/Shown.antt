@@ -1,0 +1,8 @@
+-- What is written of a float: its bits, and 0x7FC00000 of what is no number. Assumes nothing.
+use Prim.Native.Nat.{ℕ}
+use lib.Ieee.{Float, nan, inf, fin, binary32, toBits}
+
+unfoldable pub bitsOf : Float → ℕ
+bitsOf nan = 0x7FC00000
+bitsOf (inf s) = toBits binary32 (inf s)
+bitsOf (fin s m e) = toBits binary32 (fin s m e)

@@ -1,0 +1,12 @@
+-- `pfm_files::size_small` meets its contract. Assumes nothing.
+use Rattle.laws.proofs.Tests.{and-both}
+use Rattle.pfm_files.specs.Export.{sizeSmall}
+use Rattle.pfm_files.proofs.size_small.Statement.{statement}
+use Rattle.pfm_files.proofs.size_small.Tie as tie
+
+returns : tie.Need-returns
+unfolding sizeSmall
+returns c = simp and-both
+
+pub size-small-spec : {M : Type 1} → statement M
+size-small-spec = tie.close (tie.spec returns)

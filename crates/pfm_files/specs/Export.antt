@@ -1,0 +1,35 @@
+-- A DDS file of at most 64 by 64 pixels as a Portable Float Map: document 02's T-10. Assumes nothing.
+use mathlib.Core.Path.{_≡_}
+use mathlib.Core.Bool.{Bool}
+use mathlib.Core.List.{List}
+use Prim.Native.Nat.{ℕ, _+_}
+use lib.Dec.{eqb, leb, ltb}
+use lib.ListN.{length, drop}
+use Rattle.laws.specs.Pick.{pick, both}
+use Rattle.bc6h_spec.specs.Answers.{done, shortOutput, foreignHeader, badSize, badBlocks, unevenSize}
+use Rattle.dds.specs.Dds.{headerSize, headerOurs, sizeOurs, blockBytes, widthOf, heightOf, formatOf}
+use Rattle.pfm.specs.declared.PfmWritten.{PfmWritten}
+use Rattle.pfm.specs.File.{sizeEven, fileLength, writtenAt, leftAt}
+
+-- "a DDS file of at most 64 by 64 pixels"
+abbrev pub smallLimit : ℕ
+smallLimit = 64
+
+unfoldable pub sizeSmall : ℕ → ℕ → Bool
+sizeSmall width height = both (leb width smallLimit) (leb height smallLimit)
+
+-- "in the order 13, 14 (also for a larger picture, by its header), 15, 16"; and last the room that is lent
+unfoldable pub exportRefusal : List ℕ → ℕ → ℕ
+exportRefusal file room =
+    pick (headerOurs file)
+    (pick (both (sizeOurs (widthOf file) (heightOf file)) (sizeSmall (widthOf file) (heightOf file)))
+    (pick (eqb (length file) (headerSize + blockBytes (widthOf file) (heightOf file)))
+    (pick (sizeEven (widthOf file) (heightOf file)) (pick (ltb room (fileLength (widthOf file) (heightOf file))) shortOutput done) unevenSize)
+    badBlocks)
+    badSize)
+    foreignHeader
+
+-- The statement of `export`: its answer r, and the lent bytes `after`, which are the picture's file where it is done.
+pub record Exported (file out : List ℕ) (r : PfmWritten) (after : List ℕ) : Type 0 where
+  pub answers : r ≡ writtenAt (exportRefusal file (length out)) (widthOf file) (heightOf file)
+  pub holds : after ≡ leftAt (exportRefusal file (length out)) (drop headerSize file) (formatOf file) (widthOf file) (heightOf file) out

@@ -3,3 +3,4 @@ pub mod Stores
 pub mod Bc7
 pub mod DdsWords
 pub mod PfmWords
+pub mod Placed

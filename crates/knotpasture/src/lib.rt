@@ -4,6 +4,7 @@ pub mod stores;
 pub mod bc7_calls;
 pub mod dds_calls;
 pub mod pfm_calls;
+pub mod placed;
 
 use bc6_numbers::Numbers;
 use bc6h_spec::Answer;

@@ -14,11 +14,12 @@ use Rattle.bc6h_spec.specs.Answers.{done, shortOutput, noPixel}
 use Rattle.places.specs.declared.Fault.{Fault}
 use Rattle.places.specs.Faults.{noFault, faultAlone}
 use Rattle.places.specs.Places.{faceCount}
-use Rattle.probe.specs.declared.Probed.{Probed}
-use Rattle.probe.specs.Probe.{IsProbe, probeFault, questionRefusal, tripleFor, Asked}
+use Rattle.probe.specs.declared.ProbePixel.{ProbePixel}
+use Rattle.probe.specs.Probe.{IsProbe, probeFault, questionRefusal, tripleFor, tripleIn, Asked}
 use Rattle.probe.specs.Held.{Checked}
 use Rattle.probe.proofs.Checking.{then-done, then-records, then-alone, in-range}
 use Rattle.probe.proofs.Probes.{passed-probe}
+use Rattle.probe.proofs.Telling.{answer-number, done-triple}
 use Rattle.faces.specs.Face.{rowValue, rowOf, faceOf, faceRefusal, faceFault, faceValues, FacePainted}
 use Rattle.faces.specs.Strip.{fourRows}
 use Rattle.laws.proofs.Joined.{run-length, run-value}
@@ -131,10 +132,10 @@ module _ {store : List ℕ} {edge face : ℕ} {lent after : List ℕ} {r : Fault
     done-probe = passed-probe store edge (dones .0)
 
     -- .. whatever the pixel call answers by its statement
-    pub as-asked : (x y c : ℕ) → x < 4 * edge → y < 4 * edge → c < 3 → {q : Probed} → Asked store edge face x y q
-        → getD after (12 * edge * y + (3 * x + c)) 0 ≡ getD (q .triple) c 0
+    pub as-asked : (x y c : ℕ) → x < 4 * edge → y < 4 * edge → c < 3 → {q : ProbePixel} → Asked store edge face x y q
+        → getD after (12 * edge * y + (3 * x + c)) 0 ≡ getD (tripleIn q) c 0
     as-asked x y c hx hy hc {q} a =
         let r = roomy edge face (length lent) (dones .1) in
         let i : questionRefusal edge face x y ≡ done = in-range edge face x y (r .on-face) (omega arith) (omega arith) in
-        let t : q .triple ≡ tripleFor store face x y = ap (λ (p : Probed). p .triple) (a .answers) ∙ rw (dones .0, i) in
-        pixel-same x y c hx hy hc ∙ ap (λ (l : List ℕ). getD l c 0) (sym t)
+        let w : q .answer ≡ done = answer-number a ∙ rw (dones .0, i) in
+        pixel-same x y c hx hy hc ∙ ap (λ (l : List ℕ). getD l c 0) (sym (done-triple a w))

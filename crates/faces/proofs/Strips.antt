@@ -1,30 +1,20 @@
 -- The values of a strip are those of four rows of the face. Assumes nothing.
 use mathlib.Core.Path.{_≡_, _∙_, refl, sym, ap}
-use mathlib.Core.List.{List, [], _∷_, _++_, append-nil, append-assoc}
+use mathlib.Core.List.{List, _++_, append-nil}
 use Prim.Native.Nat.{ℕ, zero, suc, _+_, _*_, _/_, _%_, _≤_, _<_}
-use native.Mathlib.Numerals.{add-one}
+
 use native.Mathlib.Omega.{arith}
 use lib.ListN.{length, getD, take, drop, length-take, length-drop}
 use Rattle.laws.specs.Made.{made, join}
 use Rattle.laws.proofs.Rows.{length-made, made-same, join-last}
-use Rattle.bc6h_spec.specs.Picture.{isSigned}
-use Rattle.bc6h_spec.specs.Block.{pixelsOf}
-use Rattle.bc6h_spec.proofs.Values.{length-pixels}
-use Rattle.bc6.specs.declared.Pixels.{Pixels}
-use Rattle.bc6.specs.Call.{Painted}
-use Rattle.bc6.proofs.Calls.{written, done-when}
-use Rattle.places.specs.Places.{placesIn, formatIn, blockIn}
-use Rattle.probe.specs.Probe.{placeOf, recordFor, tripleOf, tripleAt, tripleFor}
+use Rattle.probe.specs.Probe.{placeOf, recordFor, shownIn, tripleOf, tripleAt, tripleFor}
 use Rattle.probe.specs.Held.{RecordOf}
+use Rattle.probe.proofs.Asking.{shown-length}
 use Rattle.faces.specs.Face.{rowValue, rowOf}
-use Rattle.faces.specs.Strip.{shownIn, stripBlock, stripOf, stripValue, stripRow, rowIn, fourRows}
-use Rattle.laws.proofs.Joined.{run-value, run-length, run-more}
+use Rattle.faces.specs.Strip.{stripBlock, stripOf, stripValue, stripRow, rowIn, fourRows}
+use Rattle.laws.proofs.Joined.{run-value, run-length, run-fours}
 
 -- ---- lengths
-
-pub shown-length : (store : List ℕ) (n : ℕ) → length (shownIn store n) ≡ 48
-unfolding shownIn
-shown-length store n = length-pixels (isSigned (formatIn store n)) (blockIn store n)
 
 pub block-length : (store : List ℕ) (face row column : ℕ) → length (stripBlock store face row column) ≡ 48
 unfolding stripBlock
@@ -49,14 +39,6 @@ strip-value strip k i = refl
 
 -- ---- a block that is decoded
 
-pub block-shown : (store : List ℕ) (n size : ℕ) {out after : List ℕ} {r : Pixels} → n < placesIn store → formatIn store n ≤ 1 → 48 ≤ length out → size ≡ 16
-    → Painted (take size (drop (n * 32 + 16) store)) (formatIn store n) out r after → after ≡ shownIn store n ++ drop 48 out
-unfolding shownIn blockIn
-block-shown store n size {out} h small room e d =
-    let l : length (take size (drop (n * 32 + 16) store)) ≡ 16 = rw e (simp (length-take, length-drop) (omega arith)) in
-    written d (done-when (formatIn store n) (length (take size (drop (n * 32 + 16) store))) (length out) small l room)
-    ∙ ap (λ (k : ℕ). pixelsOf (isSigned (formatIn store n)) (take k (drop (n * 32 + 16) store)) ++ drop 48 out) e
-
 pub strip-shown : (store : List ℕ) {face row column n : ℕ} (out : List ℕ) {part : List ℕ} → RecordOf store (placeOf face column row) n → part ≡ shownIn store n ++ drop 48 out
     → part ≡ stripBlock store face row column ++ drop 48 out
 unfolding stripBlock
@@ -72,13 +54,13 @@ triple-value values p (suc (suc (suc c))) h = absurd (omega arith)
 
 module _ (store : List ℕ) (edge face row k : ℕ) (h : k < 4) where
   row-value : (i : ℕ) → rowValue store face (4 * row + k) i ≡ getD (stripBlock store face row (i / 12)) (12 * k + i % 12) 0
-  unfolding rowValue tripleFor tripleAt stripBlock shownIn
+  unfolding rowValue tripleFor tripleAt stripBlock
   row-value i =
       let a : i / 3 / 4 ≡ i / 12 = omega arith in
       let b : (4 * row + k) / 4 ≡ row = omega arith in
       let c : (4 * row + k) % 4 ≡ k = omega arith in
       let d : 3 * (4 * k + i / 3 % 4) + i % 3 ≡ 12 * k + i % 12 = omega arith in
-      triple-value (pixelsOf (isSigned (formatIn store (recordFor store (placeOf face (i / 3 / 4) ((4 * row + k) / 4))))) (blockIn store (recordFor store (placeOf face (i / 3 / 4) ((4 * row + k) / 4)))))
+      triple-value (shownIn store (recordFor store (placeOf face (i / 3 / 4) ((4 * row + k) / 4))))
       (4 * ((4 * row + k) % 4) + i / 3 % 4) (i % 3) (omega arith)
       ∙ rw (a, b, c, d)
 
@@ -103,41 +85,11 @@ four-shown store edge face row strip rest out e q = q ∙ ap (λ (t : List ℕ).
 
 -- ---- the rows by fours are the rows
 
-join-append : (xs ys : List (List ℕ)) → join (xs ++ ys) ≡ join xs ++ join ys
-join-append [] ys = refl
-join-append (x ∷ xs) ys = ap (λ (t : List ℕ). x ++ t) (join-append xs ys) ∙ sym (append-assoc x (join xs) (join ys))
-
 module _ (store : List ℕ) (edge face : ℕ) where
-  four-more : (row : ℕ) → join (made (rowOf store edge face) (4 * (row + 1))) ≡ join (made (rowOf store edge face) (4 * row)) ++ fourRows store edge face row
+  fours : (row : ℕ) → fourRows store edge face row
+      ≡ rowOf store edge face (4 * row) ++ (rowOf store edge face (4 * row + 1) ++ (rowOf store edge face (4 * row + 2) ++ rowOf store edge face (4 * row + 3)))
   unfolding fourRows rowIn made
-  four-more row =
-      let e : 4 * (row + 1) ≡ suc (suc (suc (suc (4 * row)))) = omega arith in
-      let g : ℕ → List ℕ = rowOf store edge face in
-      ap (λ (k : ℕ). join (made (rowOf store edge face) k)) e
-      ∙ join-last (made (rowOf store edge face) (suc (suc (suc (4 * row))))) (rowOf store edge face (suc (suc (suc (4 * row)))))
-      ∙ ap (λ (t : List ℕ). t ++ rowOf store edge face (suc (suc (suc (4 * row))))) (join-last (made (rowOf store edge face) (suc (suc (4 * row)))) (rowOf store edge face (suc (suc (4 * row))))
-      ∙ ap (λ (t : List ℕ). t ++ rowOf store edge face (suc (suc (4 * row)))) (join-last (made (rowOf store edge face) (suc (4 * row))) (rowOf store edge face (suc (4 * row)))
-      ∙ ap (λ (t : List ℕ). t ++ rowOf store edge face (suc (4 * row))) (join-last (made (rowOf store edge face) (4 * row)) (rowOf store edge face (4 * row)))))
-      ∙ regroup (join (made (rowOf store edge face) (4 * row))) (rowOf store edge face (4 * row)) (rowOf store edge face (suc (4 * row))) (rowOf store edge face (suc (suc (4 * row)))) (rowOf store edge face (suc (suc (suc (4 * row)))))
-      ∙ ap (λ (t : List ℕ). join (made (rowOf store edge face) (4 * row)) ++ t)
-      (four (rowOf store edge face) (4 * row))
-    where
-      regroup : (a b c d e : List ℕ) → (((a ++ b) ++ c) ++ d) ++ e ≡ a ++ (b ++ (c ++ (d ++ e)))
-      regroup a b c d e = simp append-assoc
-
-      four : (g : ℕ → List ℕ) (n : ℕ) → g n ++ (g (suc n) ++ (g (suc (suc n)) ++ g (suc (suc (suc n))))) ≡ join (made (λ k. g (n + k)) 4)
-      four g n =
-          let a : n + 0 ≡ n = omega arith in
-          let b : n + 1 ≡ suc n = omega arith in
-          let c : n + 2 ≡ suc (suc n) = omega arith in
-          let d : n + 3 ≡ suc (suc (suc n)) = omega arith in
-          rw (a, b, c, d) (simp append-nil)
+  fours row = let z : 4 * row + 0 ≡ 4 * row = omega arith in rw z (simp append-nil)
 
   pub by-fours : (n : ℕ) → join (made (fourRows store edge face) n) ≡ join (made (rowOf store edge face) (4 * n))
-  unfolding made
-  by-fours zero = refl
-  by-fours (suc n) =
-      ap (λ (k : ℕ). join (made (fourRows store edge face) k)) (sym (add-one n))
-      ∙ run-more (fourRows store edge face) n
-      ∙ ap (λ (t : List ℕ). t ++ fourRows store edge face n) (by-fours n)
-      ∙ sym (four-more n) ∙ ap (λ (k : ℕ). join (made (rowOf store edge face) (4 * k))) (add-one n)
+  by-fours n = sym (run-fours (rowOf store edge face) (fourRows store edge face) fours n)

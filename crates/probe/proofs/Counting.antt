@@ -10,7 +10,7 @@ use Rattle.places.specs.Places.{placesIn, placeIn}
 use Rattle.probe.specs.Probe.{placeOf, Filled, IsProbe, recordFor}
 use Rattle.laws.proofs.Pigeons.{pigeons}
 use Rattle.probe.proofs.Spots.{place-same}
-use Rattle.probe.proofs.Probes.{for-inside, for-here}
+use Rattle.probe.proofs.Probes.{for-inside, for-here, place-filled, place-once}
 
 -- ---- a number of two digits, the lower below e
 
@@ -64,13 +64,13 @@ module _ (store : List ℕ) (edge : ℕ) (p : IsProbe store edge) where
         digits-below edge (placeIn store n .face * edge + placeIn store n .row) (placeIn store n .column) (6 * edge)
         (digits-below edge (placeIn store n .face) (placeIn store n .row) 6 (p .on-face n h) (p .row-inside n h)) (p .column-inside n h);
     apart = λ m n hm hn e.
-        p .once m n hm hn
+        place-once p m n hm hn
         (spot-apart edge (placeIn store m) (placeIn store n) (p .column-inside m hm) (p .row-inside m hm) (p .column-inside n hn) (p .row-inside n hn) e);
   })
 
   fill : (s : ℕ) → s < 6 * edge * edge → Filled store (spotPlace edge s)
   fill s h =
-      p .filled (s / edge / edge) (s % edge) (s / edge % edge)
+      place-filled p (s / edge / edge) (s % edge) (s / edge % edge)
       (div-lt-iff-lt-mul {k = edge} {x = s / edge} {y = 6} positive .1 (div-lt-iff-lt-mul {k = edge} {x = s} {y = 6 * edge} positive .1 h))
       (mod-lt s positive) (mod-lt (s / edge) positive)
 
@@ -83,6 +83,6 @@ module _ (store : List ℕ) (edge : ℕ) (p : IsProbe store edge) where
         ∙ spot-place edge t;
   })
 
-  -- "every face, row and column filled exactly once"
+  -- 6 faces of n rows of n columns, "filled exactly once"
   pub probe-count : placesIn store ≡ 6 * edge * edge
   probe-count = let l : placesIn store ≤ 6 * edge * edge = few in let m : 6 * edge * edge ≤ placesIn store = many in omega arith

@@ -3,6 +3,6 @@ pub mod Holding
 pub mod Checking
 pub mod Probes
 pub mod Counting
-pub mod Orders
 pub mod Asking
 pub mod Telling
+pub mod Orders

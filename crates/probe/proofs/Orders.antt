@@ -17,13 +17,14 @@ use Rattle.places.specs.declared.Fault.{Fault}
 use Rattle.places.specs.declared.Place.{Place}
 use Rattle.places.specs.Faults.{noFault}
 use Rattle.places.specs.Places.{faceCount, placesIn, byteAt, pairAt, formatIn, placeIn, blockIn, zeroByte, restZero, placeRefusal, placeRecordRefusal}
-use Rattle.probe.specs.declared.Probed.{Probed}
-use Rattle.probe.specs.Probe.{placeOf, Filled, IsProbe, probeFault, InRange, questionRefusal, recordFor, tripleOf, tripleAt, tripleFor, probedAt, Asked}
+use Rattle.probe.specs.declared.ProbePixel.{ProbePixel}
+use Rattle.probe.specs.Probe.{placeOf, Filled, IsProbe, probeFault, InRange, questionRefusal, recordFor, shownIn, tripleOf, tripleAt, tripleFor, probedAt, tripleIn, Asked}
 use Rattle.probe.specs.Order.{recordBytes, Reordered}
 use Rattle.laws.proofs.Pigeons.{Into, hits, onto}
 use Rattle.probe.proofs.Spots.{place-same}
 use Rattle.probe.proofs.Checking.{inside}
-use Rattle.probe.proofs.Probes.{for-inside, for-here, passed-probe, probe-passes}
+use Rattle.probe.proofs.Telling.{passed-when}
+use Rattle.probe.proofs.Probes.{for-inside, for-here, place-filled, place-once, passed-probe, probe-passes}
 
 bytes-at : (store : List ℕ) (n k : ℕ) → k < 32 → getD (recordBytes store n) k 0 ≡ byteAt store n k
 unfolding recordBytes
@@ -96,24 +97,30 @@ module _ {s t : List ℕ} (o : Reordered s t) where
       on-face = λ n h. subst (λ (q : Place). q .face < faceCount) (sym (place-from n h)) (p .on-face (o .from n) (o .inside n h));
       column-inside = λ n h. subst (λ (q : Place). q .column < edge) (sym (place-from n h)) (p .column-inside (o .from n) (o .inside n h));
       row-inside = λ n h. subst (λ (q : Place). q .row < edge) (sym (place-from n h)) (p .row-inside (o .from n) (o .inside n h));
-      once = λ m n hm hn e.
-          o .apart m n hm hn (p .once (o .from m) (o .from n) (o .inside m hm) (o .inside n hn) (sym (place-from m hm) ∙ e ∙ place-from n hn));
-      filled = λ face column row f c r.
-          let a = p .filled face column row f c r in
+      filled-once = λ face column row f c r.
+          let a = place-filled p face column row f c r in
           let b = come-from (a .at) (a .inside) in
-          record { at = b .place; inside = b .inside; here = place-from (b .place) (b .inside) ∙ ap (placeIn s) (eqb→eq _ _ (b .there)) ∙ a .here };
+          let here : placeIn t (b .place) ≡ placeOf face column row = place-from (b .place) (b .inside) ∙ ap (placeIn s) (eqb→eq _ _ (b .there)) ∙ a .here in
+          record {
+            filled = record { at = b .place; inside = b .inside; here = here };
+            only = λ n h e. one-alone n (b .place) h (b .inside) (e ∙ sym here);
+          };
     }
+      where
+        one-alone : (m n : ℕ) → m < placesIn t → n < placesIn t → placeIn t m ≡ placeIn t n → m ≡ n
+        one-alone m n hm hn e =
+            o .apart m n hm hn (place-once p (o .from m) (o .from n) (o .inside m hm) (o .inside n hn) (sym (place-from m hm) ∙ e ∙ place-from n hn))
 
     -- and shows the same
     module _ (face x y : ℕ) (i : InRange edge face x y) where
       there : Filled s (placeOf face (x / 4) (y / 4))
-      there = p .filled face (x / 4) (y / 4) (i .face-inside) (let h = i .x-inside in omega arith) (let h = i .y-inside in omega arith)
+      there = place-filled p face (x / 4) (y / 4) (i .face-inside) (let h = i .x-inside in omega arith) (let h = i .y-inside in omega arith)
 
       other : Filled t (placeOf face (x / 4) (y / 4))
-      other = probe-ordered .filled face (x / 4) (y / 4) (i .face-inside) (let h = i .x-inside in omega arith) (let h = i .y-inside in omega arith)
+      other = place-filled probe-ordered face (x / 4) (y / 4) (i .face-inside) (let h = i .x-inside in omega arith) (let h = i .y-inside in omega arith)
 
       pub same-triple : tripleFor t face x y ≡ tripleFor s face x y
-      unfolding tripleFor tripleAt
+      unfolding tripleFor tripleAt shownIn
       same-triple =
           let q : Place = placeOf face (x / 4) (y / 4) in
           let m : ℕ = recordFor s (placeOf face (x / 4) (y / 4)) in
@@ -121,7 +128,7 @@ module _ {s t : List ℕ} (o : Reordered s t) where
           let hm = for-inside s (placeOf face (x / 4) (y / 4)) there in
           let hn = for-inside t (placeOf face (x / 4) (y / 4)) other in
           let from : o .from (recordFor t (placeOf face (x / 4) (y / 4))) ≡ recordFor s (placeOf face (x / 4) (y / 4)) =
-          p .once _ _ (o .inside _ hn) hm
+          place-once p _ _ (o .inside _ hn) hm
           (sym (place-from _ hn) ∙ for-here t (placeOf face (x / 4) (y / 4)) other ∙ sym (for-here s (placeOf face (x / 4) (y / 4)) there)) in
           let bytes : recordBytes t (recordFor t (placeOf face (x / 4) (y / 4))) ≡ recordBytes s (recordFor s (placeOf face (x / 4) (y / 4))) =
           o .same-bytes _ hn ∙ ap (recordBytes s) from in
@@ -134,7 +141,7 @@ pub passes-ordered : {s t : List ℕ} → Reordered s t → (edge : ℕ) → pro
 passes-ordered {s} {t} o edge z = ap (λ (x : Fault). x .answer) (probe-passes t edge (probe-ordered o (passed-probe s edge z)))
 
 -- .. and every question has the same answer
-pub any-order : {s t : List ℕ} → Reordered s t → {edge face x y : ℕ} {r q : Probed} → probeFault s edge .answer ≡ done
+pub any-order : {s t : List ℕ} → Reordered s t → {edge face x y : ℕ} {r q : ProbePixel} → probeFault s edge .answer ≡ done
     → Asked s edge face x y r → Asked t edge face x y q → r ≡ q
 any-order {s} {t} o {edge} {face} {x} {y} {r} {q} z a b =
     let p = passed-probe s edge z in
@@ -148,6 +155,15 @@ any-order {s} {t} o {edge} {face} {x} {y} {r} {q} z a b =
         → probedAt 0 0 (questionRefusal edge face x y) (tripleFor s face x y) ≡ probedAt 0 0 (questionRefusal edge face x y) (tripleFor t face x y)
     go zero w = ap (probedAt 0 0 (questionRefusal edge face x y)) (sym (same-triple o (passed-probe s edge z) face x y (inside edge face x y w)))
     go (suc k) w = rw w
+
+-- so where the one is done the other is, with the same triple
+pub done-ordered : {s t : List ℕ} → Reordered s t → {edge face x y : ℕ} {r q : ProbePixel} → Asked s edge face x y r → Asked t edge face x y q
+    → r .answer ≡ done → (q .answer ≡ done) × (tripleIn r ≡ tripleIn q)
+done-ordered o {edge} {face} {x} {y} {r} {q} a b z =
+    let e : r ≡ q = any-order o (passed-when a z) a b in
+    (ap (λ (p : ProbePixel). p .answer) (sym e) ∙ z, ap tripleIn e)
+
+-- ---- an order is one both ways, and orders go on from one another
 
 -- the second store's records in the first one's order
 pub ordered-back : {s t : List ℕ} → Reordered s t → Reordered t s
@@ -168,3 +184,15 @@ ordered-back {s} {t} o = record {
 
     first-hits : (m : ℕ) → m < placesIn s → o .from (firstBelow (hits (o .from) m) (placesIn t)) ≡ m
     first-hits m h = eqb-true _ _ (first-passes (hits (o .from) m) (placesIn t) (first-inside m h))
+
+pub ordered-same : (s : List ℕ) → Reordered s s
+ordered-same s = record { same-size = refl; from = λ n. n; inside = λ n h. h; apart = λ m n hm hn e. e; same-bytes = λ n h. refl }
+
+pub ordered-on : {s t u : List ℕ} → Reordered s t → Reordered t u → Reordered s u
+ordered-on o p = record {
+  same-size = p .same-size ∙ o .same-size;
+  from = λ n. o .from (p .from n);
+  inside = λ n h. o .inside (p .from n) (p .inside n h);
+  apart = λ m n hm hn e. p .apart m n hm hn (o .apart (p .from m) (p .from n) (p .inside m hm) (p .inside n hn) e);
+  same-bytes = λ n h. p .same-bytes n h ∙ o .same-bytes (p .from n) (p .inside n h);
+}

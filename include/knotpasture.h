@@ -34,7 +34,9 @@ enum knot_answer {
     KNOT_UNEVEN_BLOCKS = 9, /* block bytes not a multiple of KNOT_BLOCK_SIZE */
     KNOT_INVALID_RECORD = 10, /* field record that no block has */
     KNOT_BAD_BUFFER = 11,   /* lent block buffer not KNOT_BLOCK_SIZE bytes */
-    KNOT_RESERVED_BLOCK = 12 /* reserved block in the store, from the strict twin list only */
+    KNOT_RESERVED_BLOCK = 12, /* reserved block in the store, from the strict twin list only */
+    KNOT_BAD_PLACE = 17,    /* bad face, or a record that is not placed has a column or a row */
+    KNOT_PLACED_RECORD = 18 /* placed record on the way back, from knot_unplace_store only */
 };
 
 enum knot_format { KNOT_UNSIGNED = 0, KNOT_SIGNED = 1 };
@@ -138,6 +140,51 @@ uint64_t knot_twin_list(const uint8_t *store, size_t store_length, uint8_t *mark
 uint64_t knot_strict_twin_list(const uint8_t *store, size_t store_length, uint8_t *marks, size_t marks_length);
 
 #define KNOT_DAMAGED_RECORD(word) ((unsigned)((word) >> 16 & 0xFFFF))
+
+/* ---- Records with a place ----
+ *
+ * A store of them has 32 bytes a record and no header: tile number (4 bytes), format (1), face (1), column (2), row (2), six zero
+ * bytes, block (16); numbers low byte first. A face is 0 to 5, or 255 for a record that is not placed, whose column and row are 0.
+ * For such stores 5 means more than KNOT_PLACED_STORE_LIMIT bytes and 6 a length that is not a multiple of KNOT_PLACED_SIZE.
+ */
+enum {
+    KNOT_PLACED_SIZE = 32,           /* bytes of a record with a place */
+    KNOT_PLACED_STORE_LIMIT = 64000, /* bytes of a store of them, at most */
+    KNOT_FACES = 6,                  /* faces are 0 to 5 */
+    KNOT_NO_FACE = 255               /* the face of a record that is not placed */
+};
+
+/* Record n of a store of records with a place.
+ *
+ * Answers the number in the low byte; where that is 0, the format in the next byte, the face in bits 16 to 23 and the tile in the
+ * high 32 bits (KNOT_FORMAT, KNOT_FACE, KNOT_TILE); *column and *row become the record's. Refusals: 5, 6, 8, 1, 7, 17; *column and
+ * *row become 0.
+ */
+uint64_t knot_placed_record_at(const uint8_t *store, size_t store_length, size_t n, uint16_t *column, uint16_t *row);
+
+#define KNOT_FACE(word) ((uint8_t)((word) >> 16 & 0xFF))
+
+/* Where in the store the sixteen block bytes of record n start: 32 n + 16. 0 exactly when knot_placed_record_at refuses n. */
+size_t knot_placed_record_block(const uint8_t *store, size_t store_length, size_t n);
+
+/* Moves a store of 24-byte records to one of records with a place, none of them placed: out[32 n] to out[32 n + 31] for record n,
+ * with the same tile, format and block; the rest of out stays.
+ *
+ * Answers the number in the low byte; where that is 0, the number of records in bits 16 to 31. Refusals: 5 and 6 as for
+ * knot_record_at, 3 (fewer than 32 bytes of room a record); then the first record that is refused, with its 1 or 7. Nothing is
+ * written then, not even the records before it.
+ */
+uint64_t knot_place_store(const uint8_t *old, size_t old_length, uint8_t *out, size_t out_length);
+
+/* Moves a store of records with a place back to one of 24-byte records, which is the store that knot_place_store made it of:
+ * out[24 n] to out[24 n + 23] for record n. No record may be placed.
+ *
+ * Answers as knot_place_store. Refusals: 5 and 6 as for knot_placed_record_at, 3 (fewer than 24 bytes of room a record); then the
+ * first record that is refused, with its 1, 7, 17 or 18, a placed record.
+ */
+uint64_t knot_unplace_store(const uint8_t *store, size_t store_length, uint8_t *out, size_t out_length);
+
+#define KNOT_MOVED(word) ((unsigned)((word) >> 16 & 0xFFFF))
 
 /* Whether a block, read in a format, is of mode 1 to 13; each of its regions has a pixel at index 0 and one at the last index, 7
  * in two regions and 15 in one, and a channel whose palette values all differ; and, if signed, no endpoint is after the transform

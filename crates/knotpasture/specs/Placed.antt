@@ -1,0 +1,44 @@
+-- What the exports over records with a place answer: the calls' own answers, packed into one word and two slots. Assumes nothing.
+use mathlib.Core.Path.{_≡_}
+use mathlib.Core.List.{List}
+use Prim.Native.Nat.{ℕ, zero, suc, _+_, _*_}
+use lib.ListN.{length}
+use Rattle.places.specs.Places.{placeSize, placeHead, placesIn, tileIn, formatIn, faceIn, columnIn, rowIn}
+use Rattle.places.specs.Readings.{placedRefusal}
+use Rattle.records.specs.Store.{recordsIn}
+use Rattle.moves.specs.declared.Moved.{Moved}
+use Rattle.moves.specs.Moves.{placedStore, oldStore, placingRefusal, unplacingRefusal, movedAt, bytesAt}
+
+-- a record: 0 in the low byte, the format in the next, the face in bits 16 to 23, the tile in the high half; a refusal: its number alone
+abbrev pub placedWord : ℕ → List ℕ → ℕ → ℕ
+placedWord zero store n = formatIn store n * 0x100 + faceIn store n * 0x10000 + tileIn store n * 0x100000000
+placedWord (suc number) store n = suc number
+
+-- what a slot then is: 0 on a refusal
+abbrev pub slotAt : ℕ → ℕ → ℕ
+slotAt zero value = value
+slotAt (suc number) value = 0
+
+-- The record call: its answer in one word, and the column and the row in the slots.
+pub record PlacedReadingCalled (store : List ℕ) (n r column row : ℕ) : Type 0 where
+  pub answers : r ≡ placedWord (placedRefusal store n) store n
+  pub column-told : column ≡ slotAt (placedRefusal store n) (columnIn store n)
+  pub row-told : row ≡ slotAt (placedRefusal store n) (rowIn store n)
+
+-- where in the store a record's block starts; 0 for a refusal
+abbrev pub placedOffset : ℕ → ℕ → ℕ
+placedOffset zero n = n * placeSize + placeHead
+placedOffset (suc number) n = 0
+
+-- the number in the low byte, the records moved in bits 16 to 31
+abbrev pub movedWord : Moved → ℕ
+movedWord moved = moved .answer + moved .records * 0x10000
+
+-- The moves: the answer in one word, and the lent bytes as the call leaves them.
+pub record PlaceCalled (old lent : List ℕ) (r : ℕ) (after : List ℕ) : Type 0 where
+  pub answers : r ≡ movedWord (movedAt (placingRefusal old (length lent)) (recordsIn old))
+  pub holds : after ≡ bytesAt (placingRefusal old (length lent)) (placedStore old) lent
+
+pub record UnplaceCalled (new lent : List ℕ) (r : ℕ) (after : List ℕ) : Type 0 where
+  pub answers : r ≡ movedWord (movedAt (unplacingRefusal new (length lent)) (placesIn new))
+  pub holds : after ≡ bytesAt (unplacingRefusal new (length lent)) (oldStore new) lent

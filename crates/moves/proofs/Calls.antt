@@ -1,0 +1,279 @@
+-- What the two moves say: one outcome each, nothing on a refusal, and that they undo each other. Assumes nothing.
+use mathlib.Core.Path.{_≡_, refl, sym, _∙_, ap}
+use mathlib.Core.List.{List, _++_}
+use Prim.Native.Nat.{ℕ, zero, suc, _*_, _%_, _≤_, _<_}
+use native.Mathlib.Omega.{arith}
+use lib.Dec.{ltb}
+use lib.ListN.{length, take, drop}
+use lib.Seq.{take-at, drop-at}
+use borrow.Author.Tests.{lt-ltb, ltb-true, ltb-false}
+use Rattle.laws.proofs.Tests.{cases}
+use Rattle.bc6h_spec.specs.Answers.{done, placedRecord}
+use Rattle.records.specs.Store.{recordSize, storeLimit, recordsIn, tileOf, formatOf, blockOf, recordRefusal, Unrefused}
+use Rattle.places.specs.Faults.{orNext, firstFault}
+use Rattle.places.specs.Places.{placeSize, placeLimit, faceCount, placesIn, tileIn, formatIn, faceIn, placeIn, blockIn, IsPlaced, IsUnplaced, placed, placeRecordRefusal}
+use Rattle.places.proofs.Faults.{Told, fault-told, none-faulty, all-pass}
+use Rattle.moves.specs.declared.Moved.{Moved}
+use Rattle.moves.specs.Moves.{placedStore, oldStore, placeSizes, unplaceSizes, backRefusal, placingRefusal, unplacingRefusal, movedAt, MovedTo, PlacedStore, UnplacedStore}
+use Rattle.moves.proofs.Checks.{sized, enough, both-done, next-checked}
+use Rattle.moves.proofs.Moving.{placed-length, old-length}
+use Rattle.moves.proofs.Undone.{Movable, movable, there-and-back, back-and-there, placed-count, old-count, moved-passes, back-passes, moved-tile, moved-format, moved-block, moved-off}
+
+-- ---- of both moves
+
+answer-is : (k count : ℕ) → movedAt k count .answer ≡ k
+answer-is zero count = refl
+answer-is (suc k) count = refl
+
+module _ {refusal count : ℕ} {moved lent after : List ℕ} {r : Moved} (d : MovedTo refusal count moved lent r after) where
+  pub one-outcome : {s : Moved} {other : List ℕ} → MovedTo refusal count moved lent s other → (r ≡ s) × (after ≡ other)
+  one-outcome e = (d .answers ∙ sym (e .answers), d .holds ∙ sym (e .holds))
+
+  pub answer-number : r .answer ≡ refusal
+  answer-number = ap (λ (x : Moved). x .answer) (d .answers) ∙ answer-is refusal count
+
+  -- "all or nothing": every record, with the rest of the lent bytes as it was ..
+  module _ (z : r .answer ≡ done) where
+    unrefused : refusal ≡ done
+    unrefused = sym answer-number ∙ z
+
+    pub all-moved : r ≡ record { answer = done; records = count }
+    all-moved = rw unrefused at (d .answers)
+
+    pub whole-moved : after ≡ moved ++ drop (length moved) lent
+    whole-moved = rw unrefused at (d .holds)
+
+    pub moved-front : (size : ℕ) → length moved ≡ size → take size after ≡ moved
+    moved-front size e = ap (take size) whole-moved ∙ take-at moved (drop (length moved) lent) size e
+
+    pub rest-stays : drop (length moved) after ≡ drop (length moved) lent
+    rest-stays = ap (drop (length moved)) whole-moved ∙ drop-at moved (drop (length moved) lent) (length moved) refl
+
+  -- .. or nothing
+  module _ (n : r .answer ≡ done → ⊥) where
+    pub silent : after ≡ lent
+    silent = go refusal refl
+      where
+        go : (k : ℕ) → refusal ≡ k → after ≡ lent
+        go zero q = absurd (n (answer-number ∙ q))
+        go (suc k) q = rw q at (d .holds)
+
+    pub none-moved : r ≡ record { answer = refusal; records = 0 }
+    none-moved = d .answers ∙ go refusal refl
+      where
+        go : (k : ℕ) → refusal ≡ k → movedAt refusal count ≡ record { answer = refusal; records = 0 }
+        go zero q = absurd (n (answer-number ∙ q))
+        go (suc k) q = rw q
+
+-- ---- which number
+
+-- a check of the whole store comes first; else the lowest refused record decides
+module _ (whole : ℕ) (refusal : ℕ → ℕ) (number : ℕ) {count : ℕ} {moved lent after : List ℕ} {r : Moved}
+    (d : MovedTo (orNext whole (firstFault refusal number .answer)) count moved lent r after) where
+  told-whole : (k : ℕ) → whole ≡ suc k → r ≡ record { answer = suc k; records = 0 }
+  told-whole k e = d .answers ∙ rw e
+
+  told-first : whole ≡ done → (r .answer ≡ done → ⊥) → Told refusal number (r .answer) (firstFault refusal number .faulty)
+  told-first e n = go (firstFault refusal number .answer) refl
+    where
+      is : r .answer ≡ firstFault refusal number .answer
+      is = answer-number d ∙ rw e
+
+      go : (k : ℕ) → firstFault refusal number .answer ≡ k → Told refusal number (r .answer) (firstFault refusal number .faulty)
+      go zero q = absurd (n (is ∙ q))
+      go (suc k) q = let a : r .answer ≡ suc k = is ∙ q in rw a (fault-told refusal number q)
+
+module _ (old : List ℕ) {lent after : List ℕ} {r : Moved} (d : PlacedStore old lent r after) where
+  pub place-whole : (k : ℕ) → placeSizes (length old) (length lent) ≡ suc k → r ≡ record { answer = suc k; records = 0 }
+  unfolding placingRefusal
+  place-whole = told-whole (placeSizes (length old) (length lent)) (recordRefusal old) (recordsIn old) d
+
+  pub place-told : placeSizes (length old) (length lent) ≡ done → (r .answer ≡ done → ⊥)
+      → Told (recordRefusal old) (recordsIn old) (r .answer) (firstFault (recordRefusal old) (recordsIn old) .faulty)
+  unfolding placingRefusal
+  place-told = told-first (placeSizes (length old) (length lent)) (recordRefusal old) (recordsIn old) d
+
+module _ (new : List ℕ) {lent after : List ℕ} {r : Moved} (d : UnplacedStore new lent r after) where
+  pub unplace-whole : (k : ℕ) → unplaceSizes (length new) (length lent) ≡ suc k → r ≡ record { answer = suc k; records = 0 }
+  unfolding unplacingRefusal
+  unplace-whole = told-whole (unplaceSizes (length new) (length lent)) (backRefusal new) (placesIn new) d
+
+  pub unplace-told : unplaceSizes (length new) (length lent) ≡ done → (r .answer ≡ done → ⊥)
+      → Told (backRefusal new) (placesIn new) (r .answer) (firstFault (backRefusal new) (placesIn new) .faulty)
+  unfolding unplacingRefusal
+  unplace-told = told-first (unplaceSizes (length new) (length lent)) (backRefusal new) (placesIn new) d
+
+-- ---- which stores are moved
+
+-- an old store that moves: it fits, and no record is refused
+pub record Placeable (old : List ℕ) (room : ℕ) : Type 0 where
+  pub fits : length old ≤ storeLimit
+  pub even : length old % recordSize ≡ 0
+  pub enough-room : recordsIn old * placeSize ≤ room
+  pub unrefused : (n : ℕ) → n < recordsIn old → Unrefused old n
+
+pub record Unplaceable (new : List ℕ) (room : ℕ) : Type 0 where
+  pub fits : length new ≤ placeLimit
+  pub even : length new % placeSize ≡ 0
+  pub enough-room : placesIn new * recordSize ≤ room
+  pub movable-all : (n : ℕ) → n < placesIn new → backRefusal new n ≡ done
+
+pub placeable : (old : List ℕ) (room : ℕ) → placingRefusal old room ≡ done → Placeable old room
+unfolding placingRefusal
+placeable old room z =
+    let w = both-done (placeSizes (length old) room) _ z in
+    let s = sized storeLimit recordSize placeSize (length old) room (w .0) in
+    record { fits = s .fits; even = s .even; enough-room = s .enough-room; unrefused = none-faulty (recordRefusal old) (recordsIn old) (w .1) }
+
+pub placeable-so : (old : List ℕ) (room : ℕ) → Placeable old room → placingRefusal old room ≡ done
+unfolding placingRefusal
+placeable-so old room p =
+    sym
+    (next-checked (enough storeLimit recordSize placeSize (length old) room (p .fits) (p .even) (p .enough-room))
+    (rw (all-pass (recordRefusal old) (recordsIn old) (p .unrefused))))
+
+pub unplaceable : (new : List ℕ) (room : ℕ) → unplacingRefusal new room ≡ done → Unplaceable new room
+unfolding unplacingRefusal
+unplaceable new room z =
+    let w = both-done (unplaceSizes (length new) room) _ z in
+    let s = sized placeLimit placeSize recordSize (length new) room (w .0) in
+    record { fits = s .fits; even = s .even; enough-room = s .enough-room; movable-all = none-faulty (backRefusal new) (placesIn new) (w .1) }
+
+pub unplaceable-so : (new : List ℕ) (room : ℕ) → Unplaceable new room → unplacingRefusal new room ≡ done
+unfolding unplacingRefusal
+unplaceable-so new room p =
+    sym
+    (next-checked (enough placeLimit placeSize recordSize (length new) room (p .fits) (p .even) (p .enough-room))
+    (rw (all-pass (backRefusal new) (placesIn new) (p .movable-all))))
+
+-- a move that is done, of such a store
+pub place-done : {old lent after : List ℕ} {r : Moved} → PlacedStore old lent r after → r .answer ≡ done → Placeable old (length lent)
+place-done {old} {lent} d z = placeable old (length lent) (sym (answer-number d) ∙ z)
+
+pub unplace-done : {new lent after : List ℕ} {r : Moved} → UnplacedStore new lent r after → r .answer ≡ done → Unplaceable new (length lent)
+unplace-done {new} {lent} d z = unplaceable new (length lent) (sym (answer-number d) ∙ z)
+
+-- no count is above 2,000
+few : (refusal count : ℕ) → (refusal ≡ done → count ≤ 2000) → movedAt refusal count .records ≤ 2000
+few zero count f = f refl
+few (suc refusal) count f = omega arith
+
+pub place-few : (old : List ℕ) {lent after : List ℕ} {r : Moved} → PlacedStore old lent r after → r .records ≤ 2000
+place-few old {lent} {after} {r} d =
+    let e : r .records ≡ movedAt (placingRefusal old (length lent)) (recordsIn old) .records = ap (λ (x : Moved). x .records) (d .answers) in
+    rw e (few (placingRefusal old (length lent)) (recordsIn old) (λ z. let f = placeable old (length lent) z .fits in omega arith))
+
+pub unplace-few : (new : List ℕ) {lent after : List ℕ} {r : Moved} → UnplacedStore new lent r after → r .records ≤ 2000
+unplace-few new {lent} {after} {r} d =
+    let e : r .records ≡ movedAt (unplacingRefusal new (length lent)) (placesIn new) .records = ap (λ (x : Moved). x .records) (d .answers) in
+    rw e (few (unplacingRefusal new (length lent)) (placesIn new) (λ z. let f = unplaceable new (length lent) z .fits in omega arith))
+
+-- the store that a move leaves in the lent bytes
+place-front : (old : List ℕ) {lent after : List ℕ} {r : Moved} → PlacedStore old lent r after → r .answer ≡ done
+    → take (recordsIn old * placeSize) after ≡ placedStore old
+place-front old d z = moved-front d z (recordsIn old * 32) (placed-length old)
+
+unplace-front : (new : List ℕ) {lent after : List ℕ} {r : Moved} → UnplacedStore new lent r after → r .answer ≡ done
+    → take (placesIn new * recordSize) after ≡ oldStore new
+unplace-front new d z = moved-front d z (placesIn new * 24) (old-length new)
+
+all-movable : {new : List ℕ} {room : ℕ} → Unplaceable new room → (n : ℕ) → n < placesIn new → Movable new n
+all-movable {new} p n h = movable new n (p .movable-all n h)
+
+-- ---- "and back to the same bytes"
+
+-- whatever the move and then the move back may answer by their statements: what was moved comes back, byte for byte
+pub old-again : (old : List ℕ) {lent after room back : List ℕ} {r q : Moved} → PlacedStore old lent r after → r .answer ≡ done
+    → length old ≤ length room → UnplacedStore (take (recordsIn old * placeSize) after) room q back
+    → (q .answer ≡ done) × (take (length old) back ≡ old)
+old-again old {lent} {after} {room} {back} {r} {q} d z l b =
+    let p = place-done d z in
+    let e : UnplacedStore (placedStore old) room q back = rw (place-front old d z) at b in
+    let size : length (placedStore old) ≡ recordsIn old * 32 = placed-length old in
+    let count : placesIn (placedStore old) ≡ recordsIn old = placed-count old in
+    let f = p .fits in let v = p .even in
+    let fine : unplacingRefusal (placedStore old) (length room) ≡ done =
+    unplaceable-so (placedStore old) (length room) (record {
+      fits = omega arith;
+      even = omega arith;
+      enough-room = omega arith;
+      movable-all = λ n h. moved-passes old n (p .unrefused n (omega arith));
+    }) in
+    let y : q .answer ≡ done = answer-number e ∙ fine in
+    let same : oldStore (placedStore old) ≡ old = there-and-back old (p .unrefused) (p .even) in
+    (y, moved-front e y (length old) (ap length same) ∙ same)
+
+-- and the other way round
+pub new-again : (new : List ℕ) {lent after room back : List ℕ} {r q : Moved} → UnplacedStore new lent r after → r .answer ≡ done
+    → length new ≤ length room → PlacedStore (take (placesIn new * recordSize) after) room q back
+    → (q .answer ≡ done) × (take (length new) back ≡ new)
+new-again new {lent} {after} {room} {back} {r} {q} d z l b =
+    let p = unplace-done d z in
+    let e : PlacedStore (oldStore new) room q back = rw (unplace-front new d z) at b in
+    let size : length (oldStore new) ≡ placesIn new * 24 = old-length new in
+    let count : recordsIn (oldStore new) ≡ placesIn new = old-count new in
+    let f = p .fits in let v = p .even in
+    let fine : placingRefusal (oldStore new) (length room) ≡ done =
+    placeable-so (oldStore new) (length room) (record {
+      fits = omega arith;
+      even = omega arith;
+      enough-room = omega arith;
+      unrefused = λ n h. let g : n < placesIn new = omega arith in back-passes new n (p .fits) g (all-movable p n g);
+    }) in
+    let y : q .answer ≡ done = answer-number e ∙ fine in
+    let same : placedStore (oldStore new) ≡ new = back-and-there new (all-movable p) (p .even) in
+    (y, moved-front e y (length new) (ap length same) ∙ same)
+
+-- ---- the records before and after
+
+-- record n of an old store and of a new one: the same tile, format and block, and no place
+pub record SameRecord (old new : List ℕ) (n : ℕ) : Type 0 where
+  pub tile : tileIn new n ≡ tileOf old n
+  pub format : formatIn new n ≡ formatOf old n
+  pub block : blockIn new n ≡ blockOf old n
+  pub off : IsUnplaced new n
+
+same-there : (old : List ℕ) (n : ℕ) → Unrefused old n → SameRecord old (placedStore old) n
+same-there old n u = record { tile = moved-tile old n u; format = moved-format old n u; block = moved-block old n u; off = moved-off old n u }
+
+pub place-same : (old : List ℕ) {lent after : List ℕ} {r : Moved} → PlacedStore old lent r after → r .answer ≡ done
+    → (n : ℕ) → n < recordsIn old → SameRecord old (take (recordsIn old * placeSize) after) n
+place-same old d z n h = rw (place-front old d z) (same-there old n (place-done d z .unrefused n h))
+
+pub unplace-same : (new : List ℕ) {lent after : List ℕ} {r : Moved} → UnplacedStore new lent r after → r .answer ≡ done
+    → (n : ℕ) → n < placesIn new → SameRecord (take (placesIn new * recordSize) after) new n
+unplace-same new d z n h =
+    let p = unplace-done d z in
+    let same : placedStore (oldStore new) ≡ new = back-and-there new (all-movable p) (p .even) in
+    rw (unplace-front new d z) (rw same at (same-there (oldStore new) n (back-passes new n (p .fits) h (all-movable p n h))))
+
+-- ---- "A placed record doesn't move back"
+
+pub placed-refused : (new : List ℕ) (n : ℕ) → IsPlaced new n → backRefusal new n ≡ done → ⊥
+placed-refused new n h z = let f = movable new n z .off .no-face in omega arith
+
+-- one placed record holds the whole store back: nothing is written
+pub held-back : (new : List ℕ) {lent after : List ℕ} {r : Moved} → UnplacedStore new lent r after → (n : ℕ) → n < placesIn new → IsPlaced new n
+    → (r .answer ≡ done → ⊥) × (after ≡ lent)
+held-back new {r = r} d n h p =
+    let no : r .answer ≡ done → ⊥ = λ z. placed-refused new n p (unplace-done d z .movable-all n h) in
+    (no, silent d no)
+
+-- a record that nothing else is wrong with moves back, or is told with 18
+back-18 : (new : List ℕ) (n : ℕ) → placeRecordRefusal new n ≡ done → (backRefusal new n ≡ done → ⊥) → backRefusal new n ≡ placedRecord
+unfolding backRefusal
+back-18 new n z r = cases (placed (placeIn new n)) (λ t. rw (z, t)) (λ f. absurd (r (rw (z, f))))
+
+-- the answer is 18 where no other fault comes first: the store's size and the room are right, and the record call refuses no record up to
+-- the placed one
+pub held-18 : (new : List ℕ) {lent after : List ℕ} {r : Moved} → UnplacedStore new lent r after
+    → length new ≤ placeLimit → length new % placeSize ≡ 0 → placesIn new * recordSize ≤ length lent
+    → (n : ℕ) → n < placesIn new → IsPlaced new n → ((k : ℕ) → k ≤ n → placeRecordRefusal new k ≡ done)
+    → (r ≡ record { answer = placedRecord; records = 0 }) × (after ≡ lent)
+held-18 new {lent} {after} {r} d fits even room n h p fine =
+    let held = held-back new d n h p in
+    let t = unplace-told new d (enough placeLimit placeSize recordSize (length new) (length lent) fits even room) (held .0) in
+    let m : ℕ = firstFault (backRefusal new) (placesIn new) .faulty in
+    let low : m ≤ n = cases (ltb n m) (λ l. absurd (placed-refused new n p (t .first n (ltb-true _ _ l)))) (λ f. ltb-false _ _ f) in
+    let is : r .answer ≡ placedRecord = sym (t .refused) ∙ back-18 new m (fine m low) (λ z. held .0 (sym (t .refused) ∙ z)) in
+    (none-moved d (held .0) ∙ ap (λ (x : ℕ). record { answer = x; records = 0 }) (sym (answer-number d) ∙ is), held .1)

@@ -1,0 +1,4 @@
+pub mod Checks
+pub mod Moving
+pub mod Undone
+pub mod Calls

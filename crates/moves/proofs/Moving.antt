@@ -1,0 +1,80 @@
+-- The bytes of a moved store, and each call's statement at its returns. Assumes nothing.
+use mathlib.Core.Path.{_≡_, refl, sym, _∙_, ap}
+use mathlib.Core.List.{List, _++_}
+use Prim.Native.Nat.{ℕ, zero, suc, _+_, _-_, _*_, _≤_, _<_}
+use native.Mathlib.Omega.{arith}
+use lib.ListN.{length, drop}
+use borrow.Author.Tests.{lt-ltb, le-ltb, ne-eqb}
+use Rattle.laws.proofs.Rows.{length-made}
+use Rattle.bc6h_spec.specs.Answers.{done}
+use Rattle.records.specs.Store.{recordSize, storeLimit, recordsIn, byteOf}
+use Rattle.places.specs.Places.{placeSize, placeHead, placeLimit, noFace, placesIn, byteAt}
+use Rattle.moves.specs.declared.Moved.{Moved}
+use Rattle.moves.specs.Moves.{placedByte, placedAt, placedStore, oldByte, oldAt, oldStore, placingRefusal, unplacingRefusal, movedAt, MovedTo}
+use Rattle.moves.proofs.Checks.{sized, both-done}
+
+-- ---- one byte
+
+module _ (old : List ℕ) (n k : ℕ) where
+  pub byte-kept : k < 5 → byteOf old n k ≡ placedByte old n k
+  unfolding placedByte
+  byte-kept h = rw (lt-ltb _ _ h)
+
+  pub byte-face : k ≡ 5 → noFace ≡ placedByte old n k
+  unfolding placedByte
+  byte-face e = rw e
+
+  pub byte-zero : 5 ≤ k → (k ≡ 5 → ⊥) → k < placeHead → 0 ≡ placedByte old n k
+  unfolding placedByte
+  byte-zero l e h = rw (le-ltb k 5 l, ne-eqb k 5 e, lt-ltb k placeHead h)
+
+  pub byte-block : placeHead ≤ k → byteOf old n (k - 8) ≡ placedByte old n k
+  unfolding placedByte
+  byte-block h = rw (le-ltb k 5 (omega arith), ne-eqb k 5 (λ e. omega arith), le-ltb k placeHead h)
+
+module _ (new : List ℕ) (n k : ℕ) where
+  pub back-kept : k < 5 → byteAt new n k ≡ oldByte new n k
+  unfolding oldByte
+  back-kept h = rw (lt-ltb _ _ h)
+
+  pub back-zero : 5 ≤ k → k < 8 → 0 ≡ oldByte new n k
+  unfolding oldByte
+  back-zero l h = rw (le-ltb k 5 l, lt-ltb k 8 h)
+
+  pub back-block : 8 ≤ k → byteAt new n (k + 8) ≡ oldByte new n k
+  unfolding oldByte
+  back-block h = rw (le-ltb k 5 (omega arith), le-ltb k 8 h)
+
+-- ---- all bytes
+
+pub placed-length : (old : List ℕ) → length (placedStore old) ≡ recordsIn old * placeSize
+unfolding placedStore
+placed-length old = length-made (placedAt old) (recordsIn old * placeSize)
+
+pub old-length : (new : List ℕ) → length (oldStore new) ≡ placesIn new * recordSize
+unfolding oldStore
+old-length new = length-made (oldAt new) (placesIn new * recordSize)
+
+-- ---- the room, where nothing is refused
+
+pub place-room : (old : List ℕ) (room : ℕ) {a : ℕ} → a ≡ placingRefusal old room → a ≡ done → recordsIn old * placeSize ≤ room
+unfolding placingRefusal
+place-room old room e z = sized storeLimit recordSize placeSize (length old) room (both-done _ _ (sym e ∙ z) .0) .enough-room
+
+pub unplace-room : (new : List ℕ) (room : ℕ) {a : ℕ} → a ≡ unplacingRefusal new room → a ≡ done → placesIn new * recordSize ≤ room
+unfolding unplacingRefusal
+unplace-room new room e z = sized placeLimit placeSize recordSize (length new) room (both-done _ _ (sym e ∙ z) .0) .enough-room
+
+-- ---- the statement, at each return
+
+module _ (count : ℕ) (moved lent : List ℕ) {refusal a : ℕ} (e : a ≡ refusal) where
+  pub moved-refused : {r : Moved} → (a ≡ done → ⊥) → r ≡ record { answer = a; records = 0 } → MovedTo refusal count moved lent r lent
+  moved-refused {r} z q = go refusal e
+    where
+      go : (k : ℕ) → a ≡ k → MovedTo k count moved lent r lent
+      go zero w = absurd (z w)
+      go (suc k) w = record { answers = q ∙ rw w; holds = refl }
+
+  pub moved-done : (size : ℕ) {r : Moved} {after : List ℕ} → a ≡ done → r ≡ movedAt 0 count → length moved ≡ size
+      → after ≡ moved ++ drop size lent → MovedTo refusal count moved lent r after
+  moved-done size z q l h = let n : refusal ≡ 0 = sym e ∙ z in record { answers = q ∙ rw n; holds = rw (n, l) h }

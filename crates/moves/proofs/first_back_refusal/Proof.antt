@@ -1,0 +1,52 @@
+use Prim.Native.Nat.{_≤_, _-_}
+use mathlib.Core.Path.{_≡_, _∙_}
+use Rattle.laws.specs.First.{firstBelow}
+use Rattle.laws.proofs.Firsts.{first-none, first-more}
+use Rattle.places.specs.Faults.{isFaulty}
+use Rattle.moves.specs.Moves.{backRefusal}
+use Rattle.places.proofs.Faults.{passes}
+use Rattle.moves.proofs.Checks.{refusal-here, refusal-none}
+use borrow.Author.Needs.{needs}
+use Rattle.moves.proofs.first_back_refusal.Statement.{statement}
+use Rattle.moves.proofs.first_back_refusal.Tie as tie
+
+abbrev Inv-loop : tie.InvT-loop
+Inv-loop store count n₀ n = (n ≤ count) × (firstBelow (isFaulty (backRefusal store)) n ≡ n)
+
+abbrev μ-loop : tie.MeasureT-loop
+μ-loop store count n₀ n = count - n
+
+loop-holds : tie.Need-loop-holds Inv-loop μ-loop
+loop-holds c = (search needs, first-none _)
+
+back-refusal-requires : tie.Need-back-refusal-requires Inv-loop μ-loop
+back-refusal-requires c κs = search needs
+
+returns : tie.Need-returns Inv-loop μ-loop
+returns c = refusal-here _ _ (c .before .before .before .loop .inv .1) (search needs) (c .before .back-refusal .ensures) (c .if1 .taken)
+
+add-n : tie.Need-add-n Inv-loop μ-loop
+add-n c = search needs
+
+loop-less : tie.Need-loop-less Inv-loop μ-loop
+loop-less c = search needs
+
+loop-again : tie.Need-loop-again Inv-loop μ-loop
+loop-again c = (search needs, first-more _ _ (c .before .before .before .loop .inv .1) (passes _ (c .before .back-refusal .ensures) (c .if1 .left)))
+
+returns-2 : tie.Need-returns-2 Inv-loop μ-loop
+returns-2 c = refusal-none _ _ (c .before .loop .inv .1) (search needs) (search needs)
+
+pub first-back-refusal-spec : {M : Type 1} → statement M
+first-back-refusal-spec =
+    tie.close
+    (tie.spec
+    Inv-loop
+    μ-loop
+    loop-holds
+    back-refusal-requires
+    returns
+    add-n
+    loop-less
+    loop-again
+    returns-2)

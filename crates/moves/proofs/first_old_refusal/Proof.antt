@@ -1,0 +1,56 @@
+use Prim.Native.Nat.{_≤_, _-_}
+use mathlib.Core.Path.{_≡_, _∙_}
+use Rattle.laws.specs.First.{firstBelow}
+use Rattle.laws.proofs.Firsts.{first-none, first-more}
+use Rattle.records.specs.Store.{recordRefusal}
+use Rattle.places.specs.Faults.{isFaulty}
+use Rattle.places.proofs.Faults.{passes}
+use Rattle.moves.proofs.Checks.{refusal-here, refusal-none}
+use borrow.Author.Needs.{needs}
+use Rattle.moves.proofs.first_old_refusal.Statement.{statement}
+use Rattle.moves.proofs.first_old_refusal.Tie as tie
+
+abbrev Inv-loop : tie.InvT-loop
+Inv-loop old count n₀ n = (n ≤ count) × (firstBelow (isFaulty (recordRefusal old)) n ≡ n)
+
+abbrev μ-loop : tie.MeasureT-loop
+μ-loop old count n₀ n = count - n
+
+loop-holds : tie.Need-loop-holds Inv-loop μ-loop
+loop-holds c = (search needs, first-none _)
+
+record-at-requires : tie.Need-record-at-requires Inv-loop μ-loop
+record-at-requires c κs = search needs
+
+number-requires : tie.Need-number-requires Inv-loop μ-loop
+number-requires c κs = search needs
+
+returns : tie.Need-returns Inv-loop μ-loop
+returns c = refusal-here _ _ (c .before .before .before .before .loop .inv .1) (search needs) (c .before .number .ensures ∙ c .before .before .record-at .ensures .answers) (c .if1 .taken)
+
+add-n : tie.Need-add-n Inv-loop μ-loop
+add-n c = search needs
+
+loop-less : tie.Need-loop-less Inv-loop μ-loop
+loop-less c = search needs
+
+loop-again : tie.Need-loop-again Inv-loop μ-loop
+loop-again c = (search needs, first-more _ _ (c .before .before .before .before .loop .inv .1) (passes _ (c .before .number .ensures ∙ c .before .before .record-at .ensures .answers) (c .if1 .left)))
+
+returns-2 : tie.Need-returns-2 Inv-loop μ-loop
+returns-2 c = refusal-none _ _ (c .before .loop .inv .1) (search needs) (search needs)
+
+pub first-old-refusal-spec : {M : Type 1} → statement M
+first-old-refusal-spec =
+    tie.close
+    (tie.spec
+    Inv-loop
+    μ-loop
+    loop-holds
+    record-at-requires
+    number-requires
+    returns
+    add-n
+    loop-less
+    loop-again
+    returns-2)

@@ -1,0 +1,60 @@
+use Prim.Native.Nat.{_≤_, _-_}
+use mathlib.Core.Path.{_≡_, refl}
+use mathlib.Core.List.{_++_}
+use lib.ListN.{length, drop, length-set}
+use Rattle.laws.specs.Made.{made}
+use Rattle.laws.proofs.Rows.{made-none, made-store, made-upto}
+use Rattle.moves.specs.Moves.{placedAt, placedStore}
+use borrow.Author.Needs.{needs}
+use Rattle.moves.proofs.place_records.Statement.{statement}
+use Rattle.moves.proofs.place_records.Tie as tie
+
+abbrev Inv-loop : tie.InvT-loop
+Inv-loop old out₀ size j₀ out j = (j ≤ size) × (out ≡ made (placedAt old) j ++ drop j out₀) × (length out ≡ length out₀)
+
+abbrev μ-loop : tie.MeasureT-loop
+μ-loop old out₀ size j₀ out j = size - j
+
+mul-size : tie.Need-mul-size Inv-loop μ-loop
+mul-size c = search needs
+
+loop-holds : tie.Need-loop-holds Inv-loop μ-loop
+loop-holds c = (search needs, made-none _ _, refl)
+
+placed-byte-requires : tie.Need-placed-byte-requires Inv-loop μ-loop
+placed-byte-requires c κs = search needs
+
+slice-write-out : tie.Need-slice-write-out Inv-loop μ-loop
+slice-write-out c = search needs
+
+add-j : tie.Need-add-j Inv-loop μ-loop
+add-j c = search needs
+
+loop-less : tie.Need-loop-less Inv-loop μ-loop
+loop-less c = search needs
+
+loop-again : tie.Need-loop-again Inv-loop μ-loop
+loop-again c = let i = c .before .before .loop .inv in (search needs, made-store _ _ _ _ _ _ (i .1) refl (c .placed-byte .ensures) (search needs), simp length-set (i .2))
+
+same-length : tie.Need-same-length Inv-loop μ-loop
+same-length c = search needs
+
+returns : tie.Need-returns Inv-loop μ-loop
+unfolding placedStore
+returns c = made-upto _ _ _ _ _ (c .before .loop .inv .1) (search needs) (search needs)
+
+pub place-records-spec : {M : Type 1} → statement M
+place-records-spec =
+    tie.close
+    (tie.spec
+    Inv-loop
+    μ-loop
+    mul-size
+    loop-holds
+    placed-byte-requires
+    slice-write-out
+    add-j
+    loop-less
+    loop-again
+    same-length
+    returns)

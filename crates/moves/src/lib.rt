@@ -1,0 +1,197 @@
+// The moves between the store of 24-byte records and the store of records with a place.
+
+ghost use mathlib.Core.Path.{_≡_};
+ghost use mathlib.Core.List.{_++_};
+ghost use Prim.Native.Nat.{_*_, _≤_, _<_};
+ghost use lib.ListN.{length, drop};
+ghost use Rattle.records.specs.Store.{recordSize, recordsIn, recordRefusal};
+ghost use Rattle.places.specs.Faults.{firstFault};
+ghost use Rattle.places.specs.Places.{placeSize, placesIn};
+ghost use Rattle.moves.specs.Moves.{placedAt, placedStore, oldAt, oldStore, backRefusal, placingRefusal, unplacingRefusal, movedAt, PlacedStore, UnplacedStore};
+use bc6h_spec::Answer;
+use places::Place;
+use places::place_at;
+use places::place_record_refusal;
+use records::Record;
+use records::record_at;
+
+// What a move answers: its number, and how many records were moved.
+pub struct Moved {
+    pub answer: u8,
+    pub records: usize,
+}
+
+impl Moved {
+    fn refused(answer: u8) -> Moved
+        ensures { λ r. ⌜ r ≡ record { answer = answer; records = 0 } ⌝ }
+    {
+        Moved { answer, records: 0 }
+    }
+
+    fn done(records: usize) -> Moved
+        ensures { λ r. ⌜ r ≡ movedAt 0 records ⌝ }
+    {
+        Moved {
+            answer: Answer::DONE,
+            records,
+        }
+    }
+}
+
+// ---- old to new
+
+// The number of the first record of an old store that is refused.
+fn first_old_refusal(old: &[u8]) -> u8
+    ensures { λ r. ⌜ r ≡ firstFault (recordRefusal (now (old .entry))) (recordsIn (now (old .entry))) .answer ⌝ }
+{
+    let count = old.len() / Record::SIZE;
+    for n in 0..count {
+        let refusal = record_at(old, n).number();
+        if refusal != Answer::DONE {
+            return refusal;
+        }
+    }
+    Answer::DONE
+}
+
+// Why an old store does not move into so much room.
+fn placing_refusal(old: &[u8], room: usize) -> u8
+    ensures { λ r. ⌜ r ≡ placingRefusal (now (old .entry)) room ⌝ }
+{
+    if old.len() > Record::STORE {
+        return Answer::LONG_STORE;
+    }
+    if old.len() % Record::SIZE != 0 {
+        return Answer::UNEVEN_STORE;
+    }
+    if room < old.len() / Record::SIZE * Place::SIZE {
+        return Answer::SHORT_OUTPUT;
+    }
+    first_old_refusal(old)
+}
+
+// Byte j of the store that an old one becomes.
+fn placed_byte(old: &[u8], j: usize) -> u8
+    requires { ⌜ j < recordsIn (now old) * placeSize ⌝ }
+    ensures { λ r. ⌜ r ≡ placedAt (now (old .entry)) j ⌝ }
+{
+    let at = j / Place::SIZE * Record::SIZE;
+    let k = j % Place::SIZE;
+    if k < 5 {
+        return old[at + k];
+    }
+    if k == 5 {
+        return Place::NONE;
+    }
+    if k < Place::HEAD {
+        return 0;
+    }
+    old[at + (k - 8)]
+}
+
+fn place_records(old: &[u8], out: &mut [u8])
+    requires { ⌜ recordsIn (now old) * placeSize ≤ length (now out) ⌝ }
+    ensures { λ _. ⌜ now (out .exit) ≡ placedStore (now (old .entry)) ++ drop (recordsIn (now (old .entry)) * placeSize) (now (out .entry)) ⌝ }
+{
+    let size = old.len() / Record::SIZE * Place::SIZE;
+    for j in 0..size {
+        out[j] = placed_byte(old, j);
+    }
+}
+
+// Moves an old store: each of its records, not placed, or none.
+pub fn place_store(old: &[u8], out: &mut [u8]) -> Moved
+    ensures { λ r. ⌜ PlacedStore (now (old .entry)) (now (out .entry)) r (now (out .exit)) ⌝ }
+{
+    let refusal = placing_refusal(old, out.len());
+    if refusal != Answer::DONE {
+        return Moved::refused(refusal);
+    }
+    place_records(old, out);
+    Moved::done(old.len() / Record::SIZE)
+}
+
+// ---- new to old
+
+// Why record n does not move back.
+fn back_refusal(store: &[u8], n: usize) -> u8
+    requires { ⌜ n < placesIn (now store) ⌝ }
+    ensures { λ r. ⌜ r ≡ backRefusal (now (store .entry)) n ⌝ }
+{
+    let refusal = place_record_refusal(store, n);
+    if refusal != Answer::DONE {
+        return refusal;
+    }
+    if place_at(store, n).face < Place::FACES {
+        return Answer::PLACED_RECORD;
+    }
+    Answer::DONE
+}
+
+// The number of the first record that does not move back.
+fn first_back_refusal(store: &[u8]) -> u8
+    ensures { λ r. ⌜ r ≡ firstFault (backRefusal (now (store .entry))) (placesIn (now (store .entry))) .answer ⌝ }
+{
+    let count = store.len() / Place::SIZE;
+    for n in 0..count {
+        let refusal = back_refusal(store, n);
+        if refusal != Answer::DONE {
+            return refusal;
+        }
+    }
+    Answer::DONE
+}
+
+// Why a store does not move back into so much room.
+fn unplacing_refusal(store: &[u8], room: usize) -> u8
+    ensures { λ r. ⌜ r ≡ unplacingRefusal (now (store .entry)) room ⌝ }
+{
+    if store.len() > Place::STORE {
+        return Answer::LONG_STORE;
+    }
+    if store.len() % Place::SIZE != 0 {
+        return Answer::UNEVEN_STORE;
+    }
+    if room < store.len() / Place::SIZE * Record::SIZE {
+        return Answer::SHORT_OUTPUT;
+    }
+    first_back_refusal(store)
+}
+
+// Byte j of the old store that a new one becomes.
+fn old_byte(store: &[u8], j: usize) -> u8
+    requires { ⌜ j < placesIn (now store) * recordSize ⌝ }
+    ensures { λ r. ⌜ r ≡ oldAt (now (store .entry)) j ⌝ }
+{
+    let at = j / Record::SIZE * Place::SIZE;
+    let k = j % Record::SIZE;
+    if k < 5 {
+        return store[at + k];
+    }
+    if k < Record::HEAD {
+        return 0;
+    }
+    store[at + (k + 8)]
+}
+
+fn unplace_records(store: &[u8], out: &mut [u8])
+    requires { ⌜ placesIn (now store) * recordSize ≤ length (now out) ⌝ }
+    ensures { λ _. ⌜ now (out .exit) ≡ oldStore (now (store .entry)) ++ drop (placesIn (now (store .entry)) * recordSize) (now (out .entry)) ⌝ }
+{
+    let size = store.len() / Place::SIZE * Record::SIZE;
+    for j in 0..size {
+        out[j] = old_byte(store, j);
+    }
+}
+
+// Moves a store back: all of its records, none of them placed, or nothing.
+pub fn unplace_store(store: &[u8], out: &mut [u8]) -> Moved
+    ensures { λ r. ⌜ UnplacedStore (now (store .entry)) (now (out .entry)) r (now (out .exit)) ⌝ }
+{
+    let refusal = unplacing_refusal(store, out.len());
+    if refusal != Answer::DONE {
+        return Moved::refused(refusal);
+    }
+    unplace_records(store, out);
+    Moved::done(store.len() / Place::SIZE)
+}

@@ -1,2 +1,3 @@
 pub mod Packed
 pub mod Placed
+pub mod ProbeWords

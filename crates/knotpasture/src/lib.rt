@@ -1,5 +1,6 @@
 // The public calls for C and Rust, as include/knotpasture.h declares them. A slice is a pointer and a length.
 pub mod placed;
+pub mod probes;
 
 use bc6_numbers::Numbers;
 use bc6h_spec::Answer;

@@ -1,3 +1,4 @@
 pub mod Packed
 pub mod Placed
 pub mod ProbeWords
+pub mod DdsWords

@@ -1,4 +1,5 @@
 // The public calls for C and Rust, as include/knotpasture.h declares them. A slice is a pointer and a length.
+pub mod dds_calls;
 pub mod placed;
 pub mod probes;
 

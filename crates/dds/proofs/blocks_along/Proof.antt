@@ -1,0 +1,14 @@
+-- `dds::blocks_along` meets its contract. Assumes nothing.
+use mathlib.Core.Path.{refl}
+use borrow.Author.Needs.{needs}
+use Rattle.dds.proofs.blocks_along.Statement.{statement}
+use Rattle.dds.proofs.blocks_along.Tie as tie
+
+add-result : tie.Need-add-result
+add-result c = search needs
+
+returns : tie.Need-returns
+returns c = refl
+
+pub blocks-along-spec : {M : Type 1} → statement M
+blocks-along-spec = tie.close (tie.spec add-result returns)

@@ -1,0 +1,44 @@
+-- The exports over DDS files: each says of its word what the call says of its answer; one outcome for each. Assumes nothing.
+use mathlib.Core.Path.{_≡_, refl, sym, ap, _∙_}
+use mathlib.Core.List.{List}
+use Prim.Native.Nat.{ℕ, zero, suc}
+use lib.ListN.{length}
+use Rattle.bc6h_spec.specs.Answers.{done}
+use Rattle.dds.specs.declared.DdsRead.{DdsRead}
+use Rattle.dds.specs.declared.DdsWritten.{DdsWritten}
+use Rattle.dds.specs.Dds.{headerSize, readRefusal, HeadRead, FileRead, FileWritten}
+use Rattle.dds.proofs.Reading.{read-number}
+use Rattle.knotpasture.specs.DdsWords.{readWord, HeadCalled, ReadCalled, startAt, BlocksCalled, writtenWord, DdsWriteCalled}
+
+pub head-called : {file : List ℕ} {r : DdsRead} {word : ℕ} → HeadRead file r → word ≡ readWord r → HeadCalled file word
+head-called d e = record { answers = e ∙ ap readWord (d .answers) }
+
+pub read-called : {file : List ℕ} {r : DdsRead} {word : ℕ} → FileRead file r → word ≡ readWord r → ReadCalled file word
+read-called d e = record { answers = e ∙ ap readWord (d .answers) }
+
+pub blocks-refused : {file : List ℕ} {r : DdsRead} → FileRead file r → (r .answer ≡ done → ⊥) → BlocksCalled file 0
+blocks-refused {file} {r} d n = record { answers = go (readRefusal file) (read-number d) }
+  where
+    go : (k : ℕ) → r .answer ≡ k → 0 ≡ startAt k
+    go zero q = absurd (n q)
+    go (suc k) q = refl
+
+pub blocks-start : {file : List ℕ} {r : DdsRead} → FileRead file r → r .answer ≡ done → BlocksCalled file headerSize
+blocks-start d z = record { answers = sym (ap startAt (sym (read-number d) ∙ z)) }
+
+pub write-called : {blocks : List ℕ} {format width height : ℕ} {out after : List ℕ} {r : DdsWritten} {word : ℕ} → FileWritten blocks format width height out r after
+    → word ≡ writtenWord r → DdsWriteCalled blocks format width height out word after
+write-called d e = record { answers = e ∙ ap writtenWord (d .answers); holds = d .holds }
+
+pub one-head : {file : List ℕ} {r s : ℕ} → HeadCalled file r → HeadCalled file s → r ≡ s
+one-head d e = d .answers ∙ sym (e .answers)
+
+pub one-reading : {file : List ℕ} {r s : ℕ} → ReadCalled file r → ReadCalled file s → r ≡ s
+one-reading d e = d .answers ∙ sym (e .answers)
+
+pub one-start : {file : List ℕ} {r s : ℕ} → BlocksCalled file r → BlocksCalled file s → r ≡ s
+one-start d e = d .answers ∙ sym (e .answers)
+
+pub one-writing : {blocks : List ℕ} {format width height : ℕ} {out a b : List ℕ} {r s : ℕ} → DdsWriteCalled blocks format width height out r a
+    → DdsWriteCalled blocks format width height out s b → (r ≡ s) × (a ≡ b)
+one-writing d e = (d .answers ∙ sym (e .answers), d .holds ∙ sym (e .holds))

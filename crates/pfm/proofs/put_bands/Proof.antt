@@ -1,0 +1,107 @@
+-- `pfm::put_bands` meets its contract. Assumes nothing.
+use mathlib.Core.Path.{_≡_, refl, _∙_}
+use mathlib.Core.List.{_++_}
+use Prim.Native.Nat.{ℕ, _-_, _*_, _≤_}
+use native.Mathlib.Omega.{arith}
+use lib.ListN.{length, drop, length-take, length-drop}
+use borrow.Rule.Slice.PartMut.{same-len-mid}
+use borrow.Author.Needs.{needs}
+use Rattle.laws.specs.Made.{made, join}
+use Rattle.pfm.specs.Bands.{bandUp, bandsOf}
+use Rattle.laws.proofs.Joined.{run-start, run-step, run-end}
+use Rattle.pfm.proofs.Bands.{length-up, Placed, placed}
+use Rattle.pfm.proofs.put_bands.Statement.{statement}
+use Rattle.pfm.proofs.put_bands.Tie as tie
+
+abbrev Inv-loop : tie.InvT-loop
+Inv-loop blocks format across down out₀ n₀ out n =
+    (n ≤ down) × (out ≡ join (made (bandUp blocks format across down) n) ++ drop (192 * across * n) out₀) × (length out ≡ length out₀)
+
+abbrev μ-loop : tie.MeasureT-loop
+μ-loop blocks format across down out₀ n₀ out n = down - n
+
+-- where the turn's blocks and pixels stand
+here : (c : tie.In-loop Inv-loop μ-loop) → Placed (c .before .before .before .before .args .across) (c .before .before .before .before .args .down) (c .before .loop .n) (length (c .before .before .before .before .args .blocks .now)) (length (c .before .before .before .before .args .out .now))
+here c = placed _ _ _ _ _ (search needs) (search needs) (search needs) (search needs) (search needs)
+
+loop-holds : tie.Need-loop-holds Inv-loop μ-loop
+loop-holds c = (search needs, run-start _ _ (length-up _ _ _ _) _, refl)
+
+sub-first : tie.Need-sub-first Inv-loop μ-loop
+sub-first c = search needs
+
+sub-first-2 : tie.Need-sub-first-2 Inv-loop μ-loop
+sub-first-2 c = search needs
+
+mul-first : tie.Need-mul-first Inv-loop μ-loop
+mul-first c = let p = here c in record { fits = omega arith }
+
+mul-at : tie.Need-mul-at Inv-loop μ-loop
+mul-at c = search needs
+
+mul-at-2 : tie.Need-mul-at-2 Inv-loop μ-loop
+mul-at-2 c = let p = here c in record { fits = omega arith }
+
+sub-put-band : tie.Need-sub-put-band Inv-loop μ-loop
+sub-put-band c = let p = here c in omega arith
+
+part-put-band-start : tie.Need-part-put-band-start Inv-loop μ-loop
+part-put-band-start c = let p = here c in omega arith
+
+part-put-band-end : tie.Need-part-put-band-end Inv-loop μ-loop
+part-put-band-end c = search needs
+
+put-band-requires : tie.Need-put-band-requires Inv-loop μ-loop
+put-band-requires c κs =
+    let p = here (c .before) in
+    ((search needs, search needs), (omega arith, simp (length-take, length-drop) (omega arith)))
+
+add-n : tie.Need-add-n Inv-loop μ-loop
+add-n c = search needs
+
+loop-less : tie.Need-loop-less Inv-loop μ-loop
+loop-less c = search needs
+
+loop-again : tie.Need-loop-again Inv-loop μ-loop
+unfolding bandUp
+loop-again c =
+    let w = c .before .before .put-band in
+    let l = c .before .before .before .before .before .loop in
+    let s = c .before .before .before .before .before .before .before .before .args in
+    let p = here (c .before .before .before .before) in
+    let size = 192 * s .across in (
+      search needs,
+      run-step (bandUp _ _ _ _) size (length-up _ _ _ _) _ _ _ (l .n) (l .inv .1) (l .inv .2) (omega arith) (w .ensures),
+      same-len-mid {X = ℕ} (size * l .n) (length (l .out) - size * l .n) (l .out) (w .last .1 .1 .1 .1 .0) (w .kept .1 .1 .1 .1 .0) ∙ l .inv .2,
+    )
+
+same-length : tie.Need-same-length Inv-loop μ-loop
+same-length c = search needs
+
+returns : tie.Need-returns Inv-loop μ-loop
+unfolding bandsOf
+returns c =
+    let l = c .before .loop in
+    run-end (bandUp _ _ _ _) (192 * c .before .before .before .before .args .across) (length-up _ _ _ _) _ _ _ (l .n) (l .inv .1) (search needs) (search needs)
+
+pub put-bands-spec : {M : Type 1} → statement M
+put-bands-spec =
+    tie.close
+    (tie.spec
+    Inv-loop
+    μ-loop
+    loop-holds
+    sub-first
+    sub-first-2
+    mul-first
+    mul-at
+    mul-at-2
+    sub-put-band
+    part-put-band-start
+    part-put-band-end
+    put-band-requires
+    add-n
+    loop-less
+    loop-again
+    same-length
+    returns)

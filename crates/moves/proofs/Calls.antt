@@ -6,18 +6,22 @@ use native.Mathlib.Omega.{arith}
 use lib.Dec.{ltb}
 use lib.ListN.{length, take, drop}
 use lib.Seq.{take-at, drop-at}
-use borrow.Author.Tests.{lt-ltb, ltb-true, ltb-false}
+use borrow.Author.Tests.{ltb-true, ltb-false}
 use Rattle.laws.proofs.Tests.{cases}
 use Rattle.bc6h_spec.specs.Answers.{done, placedRecord}
 use Rattle.records.specs.Store.{recordSize, storeLimit, recordsIn, tileOf, formatOf, blockOf, recordRefusal, Unrefused}
+use Rattle.records.proofs.Refusals.{known}
 use Rattle.places.specs.Faults.{orNext, firstFault}
-use Rattle.places.specs.Places.{placeSize, placeLimit, faceCount, placesIn, tileIn, formatIn, faceIn, placeIn, blockIn, IsPlaced, IsUnplaced, placed, placeRecordRefusal}
+use Rattle.places.specs.Places.{placeSize, placeLimit, placesIn, tileIn, formatIn, placeIn, blockIn, IsPlaced, IsUnplaced, placed, placeRecordRefusal}
+use Rattle.places.specs.Readings.{Readable}
+use Rattle.places.proofs.Checks.{fine-so}
+use Rattle.places.proofs.Readings.{of-record}
 use Rattle.places.proofs.Faults.{Told, fault-told, none-faulty, all-pass}
 use Rattle.moves.specs.declared.Moved.{Moved}
 use Rattle.moves.specs.Moves.{placedStore, oldStore, placeSizes, unplaceSizes, backRefusal, placingRefusal, unplacingRefusal, movedAt, MovedTo, PlacedStore, UnplacedStore}
 use Rattle.moves.proofs.Checks.{sized, enough, both-done, next-checked}
 use Rattle.moves.proofs.Moving.{placed-length, old-length}
-use Rattle.moves.proofs.Undone.{Movable, movable, there-and-back, back-and-there, placed-count, old-count, moved-passes, back-passes, moved-tile, moved-format, moved-block, moved-off}
+use Rattle.moves.proofs.Undone.{Movable, movable, there-and-back, back-and-there, placed-count, old-count, moved-fine, moved-passes, back-passes, moved-tile, moved-format, moved-block, moved-off}
 
 -- ---- of both moves
 
@@ -226,15 +230,27 @@ new-again new {lent} {after} {room} {back} {r} {q} d z l b =
 
 -- ---- the records before and after
 
--- record n of an old store and of a new one: the same tile, format and block, and no place
+-- record n of an old store and of a new one: neither record call refuses it, tile, format and block are the same, and it is not placed
 pub record SameRecord (old new : List ℕ) (n : ℕ) : Type 0 where
+  pub unrefused : Unrefused old n
+  pub readable : Readable new n
   pub tile : tileIn new n ≡ tileOf old n
   pub format : formatIn new n ≡ formatOf old n
   pub block : blockIn new n ≡ blockOf old n
   pub off : IsUnplaced new n
 
 same-there : (old : List ℕ) (n : ℕ) → Unrefused old n → SameRecord old (placedStore old) n
-same-there old n u = record { tile = moved-tile old n u; format = moved-format old n u; block = moved-block old n u; off = moved-off old n u }
+same-there old n u =
+    let k = known old n u in
+    let size : length (placedStore old) ≡ recordsIn old * 32 = placed-length old in
+    record {
+      unrefused = u;
+      readable = sym (of-record (placedStore old) n (omega arith) (omega arith) (omega arith) (sym (fine-so (placedStore old) n (moved-fine old n u))));
+      tile = moved-tile old n u;
+      format = moved-format old n u;
+      block = moved-block old n u;
+      off = moved-off old n u;
+    }
 
 pub place-same : (old : List ℕ) {lent after : List ℕ} {r : Moved} → PlacedStore old lent r after → r .answer ≡ done
     → (n : ℕ) → n < recordsIn old → SameRecord old (take (recordsIn old * placeSize) after) n

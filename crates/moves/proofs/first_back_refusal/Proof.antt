@@ -1,5 +1,5 @@
 use Prim.Native.Nat.{_≤_, _-_}
-use mathlib.Core.Path.{_≡_, _∙_}
+use mathlib.Core.Path.{_≡_}
 use Rattle.laws.specs.First.{firstBelow}
 use Rattle.laws.proofs.Firsts.{first-none, first-more}
 use Rattle.places.specs.Faults.{isFaulty}

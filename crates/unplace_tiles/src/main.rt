@@ -1,0 +1,18 @@
+// Moves a store of records with a place back to one of 24-byte records: reads it from standard input and writes the answer, a byte, and
+// then the moved store. Of a refused store the answer is all.
+use libc::STDIN_FILENO;
+use libc::STDOUT_FILENO;
+use moves::unplace_store;
+use places::Place;
+use records::Record;
+
+fn main() {
+    let mut input = [0u8; Place::STORE + 1];
+    let size = io::read_full(STDIN_FILENO, &mut input);
+    let mut out = [0u8; Record::STORE];
+    let moved = unplace_store(&input[..size], &mut out);
+    let answer = [moved.answer];
+    if io::write_all(STDOUT_FILENO, &answer) {
+        io::write_all(STDOUT_FILENO, &out[..moved.records * Record::SIZE]);
+    }
+}

@@ -1,0 +1,77 @@
+"""Records with a place, and the moves between them and 24-byte records, from document 02's T-11 alone."""
+import struct
+
+OLD, OLD_LIMIT = 24, 48_000
+NEW, NEW_LIMIT = 32, 64_000
+DONE, BAD_FORMAT, SHORT, LONG, UNEVEN, SPARE, NO_RECORD, BAD_PLACE, PLACED = 0, 1, 3, 5, 6, 7, 8, 17, 18
+
+
+def old_record(tile, form, block, spare=bytes(3)):
+    return struct.pack("<IB", tile, form) + spare + block
+
+
+def new_record(tile, form, face, column, row, block, spare=bytes(6)):
+    return struct.pack("<IBBHH", tile, form, face, column, row) + spare + block
+
+
+def split(store, size):
+    return [store[at:at + size] for at in range(0, len(store), size)]
+
+
+def old_refusal(record):
+    if record[4] not in (0, 1):
+        return BAD_FORMAT
+    return SPARE if any(record[5:8]) else DONE
+
+
+def new_refusal(record):
+    tile, form, face, column, row = struct.unpack("<IBBHH", record[:10])
+    if form not in (0, 1):
+        return BAD_FORMAT
+    if any(record[10:16]):
+        return SPARE
+    if face == 255:
+        return DONE if (column, row) == (0, 0) else BAD_PLACE
+    return DONE if face in range(6) else BAD_PLACE
+
+
+def back_refusal(record):
+    return new_refusal(record) or (DONE if record[5] == 255 else PLACED)
+
+
+def moved(store, room, limit, size, to, refusal, change):
+    """The number, and the moved store, none on a refusal."""
+    if len(store) > limit:
+        return LONG, b""
+    if len(store) % size:
+        return UNEVEN, b""
+    records = split(store, size)
+    if room < len(records) * to:
+        return SHORT, b""
+    for record in records:
+        if refusal(record):
+            return refusal(record), b""
+    return DONE, b"".join(map(change, records))
+
+
+def place(store, room):
+    return moved(store, room, OLD_LIMIT, OLD, NEW, old_refusal, lambda record: record[:5] + bytes([255]) + bytes(10) + record[8:])
+
+
+def unplace(store, room):
+    return moved(store, room, NEW_LIMIT, NEW, OLD, back_refusal, lambda record: record[:5] + bytes(3) + record[16:])
+
+
+def read(store, n):
+    """The number; tile, format, face, column and row; and where the block starts: zeros on a refusal."""
+    if len(store) > NEW_LIMIT:
+        number = LONG
+    elif len(store) % NEW:
+        number = UNEVEN
+    elif n >= len(store) // NEW:
+        number = NO_RECORD
+    else:
+        number = new_refusal(store[NEW * n:NEW * n + NEW])
+    if number:
+        return number, (0, 0, 0, 0, 0), 0
+    return DONE, struct.unpack_from("<IBBHH", store, NEW * n), NEW * n + 16

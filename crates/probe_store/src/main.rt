@@ -34,9 +34,9 @@ impl Canvas {
     const SIZE: usize = 49152;
 
     // A block as a file of its own, and the header of that file.
-    const TILE: usize = 205;
+    const TILE: usize = 204;
 
-    const HEAD: usize = 13;
+    const HEAD: usize = 12;
 }
 
 struct Input {}

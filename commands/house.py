@@ -13,7 +13,7 @@ import tempfile
 ROOT = pathlib.Path(__file__).resolve().parent.parent
 
 # The commands, in the order of `knot help`.
-COMMANDS = ["list", "clean", "dds", "pfm", "place", "unplace"]
+COMMANDS = ["list", "clean", "dds", "pfm", "place", "unplace", "probe"]
 
 DONE, REFUSED, USAGE, TROUBLE = 0, 1, 2, 3
 

@@ -42,7 +42,13 @@ enum knot_answer {
     KNOT_UNEVEN_SIZE = 16   /* a Portable Float Map's width or height is 0, no multiple of 4 or above KNOT_PFM_LIMIT */
 
     KNOT_BAD_PLACE = 17,    /* bad face, or a record that is not placed has a column or a row */
-    KNOT_PLACED_RECORD = 18 /* placed record on the way back, from knot_unplace_store only */
+    KNOT_PLACED_RECORD = 18, /* placed record on the way back, from knot_unplace_store only */
+    KNOT_BAD_EDGE = 19,     /* edge of a probe not 1 to KNOT_EDGE_LIMIT */
+    KNOT_UNPLACED_RECORD = 20, /* record of a probe that is not placed */
+    KNOT_PAST_EDGE = 21,    /* column or row of a record at or past the edge */
+    KNOT_TAKEN_PLACE = 22,  /* an earlier record has the same face, column and row */
+    KNOT_EMPTY_PLACE = 23,  /* no record has some face, column and row of the probe */
+    KNOT_NO_PIXEL = 24      /* face, x or y out of range */
 };
 
 enum knot_format { KNOT_UNSIGNED = 0, KNOT_SIGNED = 1 };
@@ -259,6 +265,45 @@ uint64_t knot_place_store(const uint8_t *old, size_t old_length, uint8_t *out, s
 uint64_t knot_unplace_store(const uint8_t *store, size_t store_length, uint8_t *out, size_t out_length);
 
 #define KNOT_MOVED(word) ((unsigned)((word) >> 16 & 0xFFFF))
+
+/* ---- The probe ----
+ *
+ * A probe is a store of records with a place and an edge of n blocks, 1 to KNOT_EDGE_LIMIT, in which each of the 6 faces has each of the
+ * n columns in each of the n rows exactly once; so it has 6 n n records. Their order makes no difference to any answer. A face has
+ * 4 n by 4 n pixels: pixel (x, y) is pixel (x mod 4, y mod 4) of the block at column x div 4, row y div 4, in the format of that block's
+ * own record; row 0 is on top.
+ *
+ * The store is checked in this order: 19, 5, 6; then each record, the lowest first, 1, 7, 17, 20, 21, 22; then 23.
+ */
+enum { KNOT_EDGE_LIMIT = 16 /* blocks on an edge, at most */ };
+
+/* The three half-float patterns of a pixel of a probe.
+ *
+ * Answers the number in the low byte; where that is 0, red in bits 16 to 31, green in bits 32 to 47, blue in bits 48 to 63. A
+ * refusal is the number alone. Refusals: those of knot_probe_check, then 24. The store is checked at each call: for many pixels
+ * knot_probe_face is the call.
+ */
+uint64_t knot_probe_pixel(const uint8_t *store, size_t store_length, uint32_t edge, uint32_t face, uint32_t x, uint32_t y);
+
+#define KNOT_RED(word) ((uint16_t)((word) >> 16 & 0xFFFF))
+#define KNOT_GREEN(word) ((uint16_t)((word) >> 32 & 0xFFFF))
+#define KNOT_BLUE(word) ((uint16_t)((word) >> 48))
+
+/* Whether a store is a probe of the edge.
+ *
+ * Answers the number in the low byte; for 1, 7, 17, 20, 21 and 22 the first faulty record's number in bits 16 to 31, which are 0 for
+ * every other answer.
+ */
+uint64_t knot_probe_check(const uint8_t *store, size_t store_length, uint32_t edge);
+
+#define KNOT_FAULTY_RECORD(word) ((unsigned)((word) >> 16 & 0xFFFF))
+
+/* A whole face of a probe: 16 n n pixels of three values, row by row from the top. What knot_probe_pixel answers for (x, y) stands from
+ * out[3 (4 n y + x)] on; the rest of out stays. Each block is decoded once.
+ *
+ * Answers the number alone. Refusals: those of knot_probe_check, then 24 (face), then 3 (fewer than 48 n n values of room).
+ */
+uint32_t knot_probe_face(const uint8_t *store, size_t store_length, uint32_t edge, uint32_t face, uint16_t *out, size_t out_length);
 
 /* Whether a block, read in a format, is of mode 1 to 13; each of its regions has a pixel at index 0 and one at the last index, 7
  * in two regions and 15 in one, and a channel whose palette values all differ; and, if signed, no endpoint is after the transform

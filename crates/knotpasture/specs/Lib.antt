@@ -4,3 +4,5 @@ pub mod Bc7
 pub mod DdsWords
 pub mod PfmWords
 pub mod Placed
+pub mod ProbeWords
+pub mod DdsWords

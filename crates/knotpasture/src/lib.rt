@@ -5,6 +5,9 @@ pub mod bc7_calls;
 pub mod dds_calls;
 pub mod pfm_calls;
 pub mod placed;
+pub mod dds_calls;
+pub mod placed;
+pub mod probes;
 
 use bc6_numbers::Numbers;
 use bc6h_spec::Answer;

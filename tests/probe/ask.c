@@ -1,0 +1,59 @@
+/* Asks the exports of the probe what tests/probe/run writes to standard input, and writes the answers to standard output.
+ *
+ * A question is a letter and six 32-bit numbers, low byte first: edge, face, x, y, room, length. `s` keeps the `length` bytes behind it as
+ * the store; `p` asks for a pixel and `c` for the check, and has an answer of 8 bytes; `f` asks for a face into `room` values, and has an
+ * answer of 4 bytes and the values, with 8 more behind them. */
+#include "knotpasture.h"
+
+long read(int from, void *to, size_t size);
+long write(int to, const void *from, size_t size);
+
+enum { STORE = 70000, ROOM = 13000, GUARD = 8, UNTOUCHED = 0xA55A };
+
+static uint8_t store[STORE];
+static uint16_t values[ROOM + GUARD];
+
+static int take(void *to, size_t size)
+{
+    for (size_t at = 0; at < size;) {
+        long got = read(0, (uint8_t *)to + at, size - at);
+        if (got <= 0) return 0;
+        at += (size_t)got;
+    }
+    return 1;
+}
+
+static int give(const void *from, size_t size)
+{
+    for (size_t at = 0; at < size;) {
+        long put = write(1, (const uint8_t *)from + at, size - at);
+        if (put <= 0) return 0;
+        at += (size_t)put;
+    }
+    return 1;
+}
+
+int main(void)
+{
+    uint8_t letter;
+    uint32_t n[6];
+    size_t length = 0;
+    while (take(&letter, 1)) {
+        if (!take(n, sizeof n) || n[4] > ROOM || n[5] > STORE) return 1;
+        if (letter == 's') {
+            length = n[5];
+            if (!take(store, length)) return 1;
+        } else if (letter == 'p') {
+            uint64_t answer = knot_probe_pixel(store, length, n[0], n[1], n[2], n[3]);
+            if (!give(&answer, sizeof answer)) return 1;
+        } else if (letter == 'c') {
+            uint64_t answer = knot_probe_check(store, length, n[0]);
+            if (!give(&answer, sizeof answer)) return 1;
+        } else {
+            for (size_t k = 0; k < n[4] + GUARD; k++) values[k] = UNTOUCHED;
+            uint32_t answer = knot_probe_face(store, length, n[0], n[1], values, n[4]);
+            if (!give(&answer, sizeof answer) || !give(values, 2 * (n[4] + GUARD))) return 1;
+        }
+    }
+    return 0;
+}

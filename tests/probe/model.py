@@ -1,0 +1,151 @@
+"""The probe, from document 02 alone: what each call answers, and stores to ask about. Pictures are blocks of mode 11, of which document
+01 gives the few steps from ten stored bits to a half-float."""
+import random
+import struct
+
+SIZE, LIMIT, FACES, NOWHERE = 32, 64000, 6, 255
+WEIGHTS = [0, 4, 9, 13, 17, 21, 26, 30, 34, 38, 43, 47, 51, 55, 60, 64]
+
+
+# ---- a block of mode 11: both ends of ten bits a channel, then the indices, pixel 0's without its top bit
+
+
+def block(ends, indices):
+    bits, at = 0b00011, 5
+    for end in ends:
+        for value in end:
+            bits |= value << at
+            at += 10
+    for pixel, index in enumerate(indices):
+        bits |= index << at
+        at += 4 if pixel else 3
+    return bits.to_bytes(16, "little")
+
+
+def widened(stored, signed):
+    if not signed:
+        return 0 if stored == 0 else 0xFFFF if stored == 1023 else (stored * 65536 + 32768) >> 10
+    value = stored - 1024 if stored >= 512 else stored
+    size = abs(value)
+    wide = 0 if size == 0 else 0x7FFF if size >= 511 else (size * 32768 + 16384) >> 9
+    return -wide if value < 0 else wide
+
+
+def scaled(number, signed):
+    if not signed:
+        return number * 31 >> 6
+    size = abs(number) * 31 >> 5
+    return 0x8000 | size if number < 0 and size else size
+
+
+def picture(data, signed):
+    """Sixteen triples."""
+    bits = int.from_bytes(data, "little")
+    assert bits & 31 == 0b00011
+    low, high = ([widened(bits >> at + 10 * c & 1023, signed) for c in range(3)] for at in (5, 35))
+    indices = [bits >> 65 & 7] + [bits >> 64 + 4 * k & 15 for k in range(1, 16)]
+    return [tuple(scaled(a * (64 - WEIGHTS[i]) + b * WEIGHTS[i] + 32 >> 6, signed) for a, b in zip(low, high)) for i in indices]
+
+
+# ---- records
+
+
+def record(face, column, row, data, form=0, tile=0, zeros=bytes(6)):
+    return struct.pack("<IBBHH", tile, form, face, column, row) + zeros + data
+
+
+def some_block(chance):
+    ends = [[chance.randrange(1024) for _ in range(3)] for _ in range(2)]
+    return block(ends, [chance.randrange(8)] + [chance.randrange(16) for _ in range(15)])
+
+
+def probe(edge, chance):
+    """The records of a probe, face by face, row by row, with pictures and formats by chance."""
+    return [
+        record(face, column, row, some_block(chance), chance.randrange(2), chance.randrange(1 << 32))
+        for face in range(FACES)
+        for row in range(edge)
+        for column in range(edge)
+    ]
+
+
+# ---- what the calls answer
+
+
+def place(data):
+    return struct.unpack("<BHH", data[5:10])
+
+
+def fault(data, edge, before):
+    """Why a record is at fault: 1, 7, 17, 20, 21, 22, first met first."""
+    face, column, row = place(data)
+    if data[4] > 1:
+        return 1
+    if any(data[10:16]):
+        return 7
+    if face >= FACES and (face, column, row) != (NOWHERE, 0, 0):
+        return 17
+    if face == NOWHERE:
+        return 20
+    if column >= edge or row >= edge:
+        return 21
+    return 22 if place(data) in before else 0
+
+
+def check(store, edge):
+    """The number, and the first faulty record or 0."""
+    if not 1 <= edge <= 16:
+        return 19, 0
+    if len(store) > LIMIT:
+        return 5, 0
+    if len(store) % SIZE:
+        return 6, 0
+    filled = {}
+    for n in range(len(store) // SIZE):
+        data = store[SIZE * n : SIZE * n + SIZE]
+        number = fault(data, edge, filled)
+        if number:
+            return number, n
+        filled[place(data)] = n
+    places = [(face, column, row) for face in range(FACES) for column in range(edge) for row in range(edge)]
+    return (0, 0) if all(p in filled for p in places) else (23, 0)
+
+
+class Shown:
+    """A store that passes: the pictures of its blocks by place."""
+
+    def __init__(self, store):
+        pieces = [store[at : at + SIZE] for at in range(0, len(store), SIZE)]
+        self.pictures = {place(data): picture(data[16:], data[4] == 1) for data in pieces}
+
+    def triple(self, face, x, y):
+        return self.pictures[face, x // 4, y // 4][4 * (y % 4) + x % 4]
+
+
+def in_range(edge, face, x, y):
+    return face < FACES and x < 4 * edge and y < 4 * edge
+
+
+def pixel(answer, shown, edge, face, x, y):
+    """The number and the triple, where `answer` is the check's."""
+    if answer[0]:
+        return (answer[0], 0, 0, 0)
+    return (0, *shown.triple(face, x, y)) if in_range(edge, face, x, y) else (24, 0, 0, 0)
+
+
+def face_values(answer, shown, edge, face, room):
+    """The number, and the values of the face, row by row; none on a refusal."""
+    if answer[0]:
+        return answer[0], []
+    if face >= FACES:
+        return 24, []
+    if room < 48 * edge * edge:
+        return 3, []
+    return 0, [value for y in range(4 * edge) for x in range(4 * edge) for value in shown.triple(face, x, y)]
+
+
+def orders(records):
+    """The records in order, turned round, and shuffled."""
+    shuffled = list(records)
+    random.Random(len(records)).shuffle(shuffled)
+    return {"in order": records, "turned round": records[::-1], "shuffled": shuffled}

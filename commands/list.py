@@ -14,8 +14,4 @@ def run(words):
     rest = words[1:] if strict else words
     if len(rest) > 1 or rest[:1] and rest[0].startswith("--"):
         raise house.Usage("it takes --strict and one STORE")
-    store = house.read(rest[0] if rest else None, house.STORE)
-    listing, told = house.program("listing", store, ["--strict"] if strict else [])
-    if listing.startswith(b"store refused "):
-        raise house.Refused(int(listing.split()[2]), listing)
-    house.put(listing)
+    house.put(house.listed(house.read(rest[0] if rest else None, house.STORE), strict))

@@ -136,9 +136,9 @@ def write_whole(path, data, over=True):
     """Writes a file whole or not at all: beside it first, then in its place. Without `over` a file that is there stays, and is trouble.
 
     A device or a pipe has no beside: it is written as it stands."""
-    target = pathlib.Path(path)
     beside = None
     try:
+        target = pathlib.Path(os.path.realpath(path))
         if over and target.exists() and not target.is_file() and not target.is_dir():
             with open(target, "wb", buffering=0) as there:
                 rest = memoryview(data)
@@ -222,17 +222,30 @@ LISTING_ENDS = "kept [0-9]+ twins [0-9]+ bad [0-9]+"
 
 
 def listed(store, strict=False):
-    """The lines of the listing of a store, as words; the last one has the counts."""
+    """The listing of a store, whole."""
     return over_store("listing", store, LISTING_ENDS, ["--strict"] if strict else [])
+
+
+def record_answers(store):
+    """What the record call answers for each record of a store: the third word of each line of the listing but the last."""
+    return [int(line.split()[2]) for line in listed(store).splitlines()[:-1]]
+
+
+def record_refused(number_of, why=None):
+    return Refused(number_of, f"record refused {number_of}\n", why)
+
+
+def no_record(n, count):
+    return record_refused(8, f"there is no record {n}: it has {count}, from 0 on")
 
 
 def record_in(store, n):
     """Record n of a store, which the record call does not refuse."""
-    answers = [int(line.split()[2]) for line in listed(store).splitlines()[:-1]]
-    answer = answers[n] if n < len(answers) else 8
-    if answer != 0:
-        reasons = {8: f"there is no record {n}: it has {len(answers)}, from 0 on", 1: f"record {n}: {MEANINGS[1]}", 7: f"record {n}: {MEANINGS[7]}"}
-        raise Refused(answer, f"record refused {answer}\n", reasons[answer])
+    answers = record_answers(store)
+    if n >= len(answers):
+        raise no_record(n, len(answers))
+    if answers[n] != 0:
+        raise record_refused(answers[n], f"record {n}: {MEANINGS[answers[n]]}")
     return store[n * RECORD:(n + 1) * RECORD]
 
 

@@ -11,36 +11,26 @@ OUT is written whole or not at all, and is none of the files that are read.
 from . import fieldtext, house
 
 
-def answers(store):
-    """What the record call answers for each record of a store."""
-    return [int(line.split()[2]) for line in house.listed(store).splitlines()[:-1]]
-
-
-def refused(number, reason=None):
-    return house.Refused(number, f"record refused {number}\n", reason)
-
-
-def checked(n, count):
+def checked(store, n):
+    """There is a record n, whatever the record call answers for it."""
+    count = len(house.record_answers(store))
     if n >= count:
-        raise refused(8, f"there is no record {n}: it has {count}, from 0 on")
+        raise house.no_record(n, count)
 
 
 def whole_record(path):
     """A record by itself, which the record call does not refuse."""
     record = house.read(path, house.RECORD)
     if len(record) != house.RECORD:
-        raise refused(6, f"a record has 24 bytes, and this {'more' if len(record) > house.RECORD else len(record)}")
-    answer, = answers(record)
-    if answer != 0:
-        raise refused(answer)
-    return record
+        raise house.record_refused(6, f"a record has 24 bytes, and this {'more' if len(record) > house.RECORD else len(record)}")
+    return house.record_in(record, 0)
 
 
 def take(store_path, n_word, out):
     n = house.number(n_word, "N")
     house.keep_apart(out, store_path)
     store = house.read(store_path, house.STORE)
-    checked(n, len(answers(store)))
+    checked(store, n)
     house.write_whole(out, store[n * house.RECORD:(n + 1) * house.RECORD])
 
 
@@ -48,15 +38,15 @@ def put(store_path, n_word, record_path, out):
     n = house.number(n_word, "N")
     house.keep_apart(out, store_path, record_path)
     store = house.read(store_path, house.STORE)
-    checked(n, len(answers(store)))
+    checked(store, n)
     house.write_whole(out, store[:n * house.RECORD] + whole_record(record_path) + store[(n + 1) * house.RECORD:])
 
 
 def append(store_path, record_path, out):
     house.keep_apart(out, store_path, record_path)
     store = house.read(store_path, house.STORE)
-    if len(answers(store)) == house.STORE // house.RECORD:
-        raise refused(5, "it has 2,000 records, the most that a store has")
+    if len(house.record_answers(store)) == house.STORE // house.RECORD:
+        raise house.record_refused(5, "it has 2,000 records, the most that a store has")
     house.write_whole(out, store + whole_record(record_path))
 
 

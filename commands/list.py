@@ -6,8 +6,6 @@ Without a STORE it is read from standard input. A line a record: number, tile, a
 15's three values in hex; then the counts. With --strict a store in which a record that is not refused has a reserved mode is refused
 whole, and standard error has the number of the first such record. Of a refused store the line 'store refused' and the number are all.
 """
-import sys
-
 from . import house
 
 
@@ -16,9 +14,4 @@ def run(words):
     rest = words[1:] if strict else words
     if len(rest) > 1 or rest[:1] and rest[0].startswith("--"):
         raise house.Usage("it takes --strict and one STORE")
-    store = house.read(rest[0] if rest else None, house.STORE)
-    listing, told = house.program("listing", store, ["--strict"] if strict else [])
-    sys.stderr.write(told.decode("ascii", "replace"))
-    if listing.startswith(b"store refused "):
-        raise house.Refused(int(listing.split()[2]), listing)
-    house.put(listing)
+    house.put(house.listed(house.read(rest[0] if rest else None, house.STORE), strict))

@@ -8,16 +8,19 @@ use bc6h_spec::Answer;
 use clean::Cleaned;
 use clean::clean_store;
 use clean::first_of;
-use libc::STDIN_FILENO;
 use records::Record;
 use records::tile_at;
-use text::print;
+use store_program::Input;
+use store_program::StoreInput;
+use store_program::first_bytes;
+use store_program::read_input;
+use store_program::tell_text;
+use store_program::write_text;
 use text::put;
 use text::put_count;
 use text::put_decimal;
 use text::put_field;
 use text::put_refusal;
-use text::tell;
 
 struct Line {
     end: usize,
@@ -54,14 +57,14 @@ fn tell_removed(text: &mut [u8], store: &[u8]) -> bool
             continue;
         }
         if text.len() - end < Line::SIZE {
-            if !tell(text, end) {
+            if !tell_text(text, end) {
                 return false;
             }
             end = 0;
         }
         end = put_removed(text, end, store, n, first);
     }
-    tell(text, end)
+    tell_text(text, end)
 }
 
 fn tell_counts(text: &mut [u8], cleaned: Cleaned)
@@ -70,14 +73,14 @@ fn tell_counts(text: &mut [u8], cleaned: Cleaned)
     let mut end = put_count(text, 0, b"kept ", cleaned.kept as u64);
     end = put_count(text, end, b" removed ", cleaned.removed as u64);
     end = put(text, end, b"\n");
-    tell(text, end);
+    tell_text(text, end);
 }
 
 fn tell_refusal(text: &mut [u8], answer: u8)
     requires { ⌜ 128 ≤ length (now text) ⌝ }
 {
     let end = put_refusal(text, 0, answer);
-    tell(text, end);
+    tell_text(text, end);
 }
 
 fn print_cleaned(store: &[u8], out: &mut [u8], text: &mut [u8])
@@ -88,7 +91,7 @@ fn print_cleaned(store: &[u8], out: &mut [u8], text: &mut [u8])
         tell_refusal(text, cleaned.answer);
         return;
     }
-    if !print(out, cleaned.kept * Record::SIZE) {
+    if !write_text(out, cleaned.kept * Record::SIZE) {
         return;
     }
     if tell_removed(text, store) {
@@ -97,9 +100,11 @@ fn print_cleaned(store: &[u8], out: &mut [u8], text: &mut [u8])
 }
 
 fn main() {
-    let mut input = [0u8; Record::STORE + 1];
-    let size = io::read_full(STDIN_FILENO, &mut input);
+    let mut input = [0u8; StoreInput::ROOM];
+    let Input::Whole(size) = read_input(&mut input) else {
+        return;
+    };
     let mut out = [0u8; Record::STORE];
     let mut text = [0u8; Line::TEXT];
-    print_cleaned(&input[..size], &mut out, &mut text);
+    print_cleaned(first_bytes(&input, size), &mut out, &mut text);
 }

@@ -5,4 +5,3 @@ pub mod DdsWords
 pub mod PfmWords
 pub mod Placed
 pub mod ProbeWords
-pub mod DdsWords

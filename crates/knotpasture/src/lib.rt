@@ -1,13 +1,11 @@
 // The public calls for C and Rust, as include/knotpasture.h declares them. A slice is a pointer and a length.
-pub mod shown;
-pub mod stores;
 pub mod bc7_calls;
 pub mod dds_calls;
 pub mod pfm_calls;
 pub mod placed;
-pub mod dds_calls;
-pub mod placed;
 pub mod probes;
+pub mod shown;
+pub mod stores;
 
 use bc6_numbers::Numbers;
 use bc6h_spec::Answer;

@@ -10,7 +10,6 @@ ghost use Rattle.places.specs.Places.{placesIn};
 ghost use Rattle.probe.specs.Probe.{IsProbe};
 use bc6h_spec::Answer;
 use bc6h_spec::Block;
-use libc::STDIN_FILENO;
 use libc::STDOUT_FILENO;
 use pfm::pfm_write;
 use pfm_header::put_header;
@@ -19,7 +18,10 @@ use places::Place;
 use places::place_at;
 use probe::ProbePixel;
 use probe::probe_check;
-use text::print;
+use store_program::Input;
+use store_program::first_bytes;
+use store_program::read_input;
+use store_program::write_text;
 use text::put;
 use text::put_count;
 
@@ -39,9 +41,9 @@ impl Canvas {
     const HEAD: usize = 12;
 }
 
-struct Input {}
+struct Question {}
 
-impl Input {
+impl Question {
     // The bytes before the store.
     const HEAD: usize = 9;
 
@@ -97,7 +99,7 @@ fn print_fault(fault: Fault) {
     let mut end = put_count(&mut text, 0, b"store refused ", fault.answer as u64);
     end = put_faulty(&mut text, end, fault);
     end = put(&mut text, end, b"\n");
-    print(&text, end);
+    write_text(&text, end);
 }
 
 fn print_probe(edge: usize, records: usize) {
@@ -105,7 +107,7 @@ fn print_probe(edge: usize, records: usize) {
     let mut end = put_count(&mut text, 0, b"probe edge ", edge as u64);
     end = put_count(&mut text, end, b" records ", records as u64);
     end = put(&mut text, end, b"\n");
-    print(&text, end);
+    write_text(&text, end);
 }
 
 // The block of record n at a place of the canvas.
@@ -145,7 +147,7 @@ fn print_header(edge: usize) -> bool
     let mut text = [0u8; 32];
     let side = (4 * edge) as u32;
     let end = put_header(side, side, &mut text);
-    print(&text, end)
+    write_text(&text, end)
 }
 
 // The rows of a face of the edge, from the lowest up.
@@ -177,7 +179,7 @@ fn print_answer(input: &[u8])
 {
     let edge = word_at(input, 1);
     let face = word_at(input, 5);
-    let store = &input[Input::HEAD..];
+    let store = &input[Question::HEAD..];
     let fault = probe_check(store, edge);
     if fault.answer != Answer::DONE {
         print_fault(fault);
@@ -195,9 +197,12 @@ fn print_answer(input: &[u8])
 }
 
 fn main() {
-    let mut input = [0u8; Input::SIZE];
-    let size = io::read_full(STDIN_FILENO, &mut input);
-    if size >= Input::HEAD {
-        print_answer(&input[..size]);
+    let mut input = [0u8; Question::SIZE];
+    let Input::Whole(size) = read_input(&mut input) else {
+        return;
+    };
+    let question = first_bytes(&input, size);
+    if question.len() >= Question::HEAD {
+        print_answer(question);
     }
 }

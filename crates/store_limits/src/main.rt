@@ -2,11 +2,13 @@
 
 ghost use Prim.Native.Nat.{_+_, _≤_, _<_};
 ghost use lib.ListN.{length};
-use libc::STDIN_FILENO;
 use records::Record;
 use records::record_at;
 use records::record_block;
-use text::print;
+use store_program::Input;
+use store_program::first_bytes;
+use store_program::read_input;
+use store_program::write_text;
 use text::put;
 use text::put_count;
 use twins::TwinList;
@@ -34,7 +36,7 @@ fn print_record(text: &mut [u8], store: &[u8], n: usize)
     end = put_count(text, end, b" answer ", record_at(store, n).number() as u64);
     end = put_count(text, end, b" block ", record_block(store, n).len() as u64);
     end = put(text, end, b"\n");
-    print(text, end);
+    write_text(text, end);
 }
 
 fn put_list(text: &mut [u8], at: usize, list: TwinList) -> usize
@@ -79,7 +81,7 @@ fn print_list(text: &mut [u8], store: &[u8], marks: &mut [u8], lent: usize)
     let mut end = put_count(text, 0, b"marks ", lent as u64);
     end = put_list(text, end, list);
     end = put_marks(text, end, marks, lent);
-    print(text, end);
+    write_text(text, end);
 }
 
 fn print_limits(text: &mut [u8], store: &[u8], marks: &mut [u8])
@@ -103,8 +105,10 @@ fn print_at(text: &mut [u8], store: &[u8], marks: &mut [u8], n: usize)
 
 fn main() {
     let mut input = [0u8; Limits::INPUT];
-    let size = io::read_full(STDIN_FILENO, &mut input);
+    let Input::Whole(size) = read_input(&mut input) else {
+        return;
+    };
     let mut marks = [Limits::UNTOUCHED; Limits::RECORDS];
     let mut text = [0u8; 256];
-    print_limits(&mut text, &input[..size], &mut marks);
+    print_limits(&mut text, first_bytes(&input, size), &mut marks);
 }

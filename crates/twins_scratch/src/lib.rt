@@ -12,7 +12,7 @@ ghost use Rattle.records.specs.Store.{recordsIn, formatOf, blockOf, Unrefused};
 ghost use Rattle.twins_scratch.specs.Shown.{pictureAt};
 ghost use Rattle.twins_scratch.specs.Scratch.{entrySize, kindAt, mixedUpto, printOf, printAt, picturesOf, scratchOf, pictureIn, Pictured};
 use bc6::block_pixels;
-use bc6_fields::extract_mode;
+use bc6_mode::extract_mode;
 use bc6h_spec::Block;
 use bcn_util::BitStream;
 use records::Record;

@@ -1,18 +1,20 @@
 use borrow.Author.Needs.{needs}
-use mathlib.Core.Path.{_≡_}
+use mathlib.Core.Path.{_≡_, refl}
+use lib.Seq.{sets}
+use Rattle.text.proofs.Texts.{one-more, all-put}
 use Prim.Native.Nat.{_≤_, _-_}
-use lib.ListN.{length, length-set}
+use lib.ListN.{length, take, length-set}
 use Rattle.text.proofs.put.Statement.{statement}
 use Rattle.text.proofs.put.Tie as tie
 
 abbrev Inv-loop : tie.InvT-loop
-Inv-loop text₀ at word k₀ k-end text k = (k ≤ length word) × (length text ≡ length text₀)
+Inv-loop text₀ at word k₀ k-end text k = (k ≤ length word) × (length text ≡ length text₀) × (text ≡ sets text₀ at (take k word))
 
 abbrev μ-loop : tie.MeasureT-loop
 μ-loop text₀ at word k₀ k-end text k = length word - k
 
 loop-holds : tie.Need-loop-holds Inv-loop μ-loop
-loop-holds c = search needs
+loop-holds c = (search needs, search needs, refl)
 
 shared-slice-read-text : tie.Need-shared-slice-read-text Inv-loop μ-loop
 shared-slice-read-text c = search needs
@@ -30,7 +32,9 @@ loop-less : tie.Need-loop-less Inv-loop μ-loop
 loop-less c = search needs
 
 loop-again : tie.Need-loop-again Inv-loop μ-loop
-loop-again c = (search needs, simp length-set (c .before .before .loop .inv .1))
+loop-again c =
+    let l = c .before .before .loop in
+    (search needs, simp length-set (l .inv .1), one-more _ (l .text) _ _ (l .k) (l .inv .2) (search needs))
 
 add-result : tie.Need-add-result Inv-loop μ-loop
 add-result c = search needs
@@ -39,7 +43,7 @@ same-length : tie.Need-same-length Inv-loop μ-loop
 same-length c = search needs
 
 returns : tie.Need-returns Inv-loop μ-loop
-returns c = search needs
+returns c = (search needs, all-put _ _ _ _ (c .before .loop .k) (c .before .loop .inv .2) (search needs))
 
 pub put-spec : {M : Type 1} → statement M
 put-spec =

@@ -1,0 +1,169 @@
+// The audit of a store as text: a line for each twin and a last line with the counts, or the line of a refused store.
+
+ghost use mathlib.Core.Path.{_≡_};
+ghost use mathlib.Core.List.{_++_};
+ghost use Prim.Native.Nat.{_+_, _*_, _≤_};
+ghost use lib.ListN.{length};
+ghost use Rattle.laws.specs.Pick.{pick};
+ghost use Rattle.records.specs.Store.{recordsIn};
+ghost use Rattle.text.specs.Text.{Written};
+ghost use Rattle.listing_text.specs.Listing.{mostRecords, Marks};
+ghost use Rattle.audit_text.specs.Audit.{findingOf, pairOf, bytesWord, coverWord, twinLine, auditLines, tallyLine, tallyOf, auditOf};
+use bc6h_spec::Answer;
+use cleanup::is_by_demand_3;
+use cleanup::is_covered;
+use records::Record;
+use records::record_block;
+use records::tile_at;
+use text::put;
+use text::put_count;
+use text::put_field;
+use text::put_refusal;
+use text::same_bytes;
+use twins::Mark;
+use twins::TwinList;
+use twins::first_twin;
+use twins::twin_list;
+
+pub struct Audit {
+    pub end: usize,
+}
+
+impl Audit {
+    // The most bytes of a line, and the room for a line a record and one more.
+    const LINE: usize = 128;
+
+    pub const ROOM: usize = (TwinList::RECORDS + 1) * Audit::LINE;
+}
+
+// What a twin and the first record that it equals have in common.
+pub struct Finding {
+    pub first: usize,
+    pub same: bool,
+    pub covered: bool,
+    pub by_demand_3: bool,
+}
+
+fn examine(store: &[u8], n: usize) -> Finding
+    ensures { λ r. ⌜ r ≡ findingOf (now (store .entry)) n ⌝ }
+{
+    let first = first_twin(store, n);
+    Finding {
+        first,
+        same: same_bytes(record_block(store, n), record_block(store, first)),
+        covered: is_covered(store, n, first),
+        by_demand_3: is_by_demand_3(store, n, first),
+    }
+}
+
+fn one_if(test: bool) -> usize
+    ensures { λ r. ⌜ r ≤ 1 ⌝ }
+    ensures { λ r. ⌜ r ≡ pick test 1 0 ⌝ }
+{
+    if test { 1 } else { 0 }
+}
+
+fn put_bytes(text: &mut [u8], at: usize, same: bool) -> usize
+    requires { ⌜ at + 12 ≤ length (now text) ⌝ }
+    ensures { λ r. ⌜ r ≤ at + 12 ⌝ }
+    ensures { λ r. ⌜ Written (now (text .entry)) at (bytesWord same) r (now (text .exit)) ⌝ }
+{
+    if same {
+        return put(text, at, b"same bytes ");
+    }
+    put(text, at, b"other bytes ")
+}
+
+fn put_cover(text: &mut [u8], at: usize, covered: bool) -> usize
+    requires { ⌜ at + 12 ≤ length (now text) ⌝ }
+    ensures { λ r. ⌜ r ≤ at + 12 ⌝ }
+    ensures { λ r. ⌜ Written (now (text .entry)) at (coverWord covered) r (now (text .exit)) ⌝ }
+{
+    if covered {
+        return put(text, at, b"covered\n");
+    }
+    put(text, at, b"not covered\n")
+}
+
+// The numbers and tiles of record n and of an earlier one.
+fn put_pair(text: &mut [u8], at: usize, store: &[u8], n: usize, earlier: usize) -> usize
+    requires { ⌜ at + 84 ≤ length (now text) ⌝ }
+    ensures { λ r. ⌜ r ≤ at + 84 ⌝ }
+    ensures { λ r. ⌜ Written (now (text .entry)) at (pairOf (now (store .entry)) n earlier) r (now (text .exit)) ⌝ }
+{
+    let mut end = put_field(text, at, n as u64);
+    end = put_field(text, end, tile_at(store, n) as u64);
+    end = put_field(text, end, earlier as u64);
+    put_field(text, end, tile_at(store, earlier) as u64)
+}
+
+fn put_twin(text: &mut [u8], at: usize, store: &[u8], n: usize, finding: Finding) -> usize
+    requires { ⌜ at + 128 ≤ length (now text) ⌝ }
+    ensures { λ r. ⌜ r ≤ at + 128 ⌝ }
+    ensures { λ r. ⌜ Written (now (text .entry)) at (twinLine (now (store .entry)) n finding) r (now (text .exit)) ⌝ }
+{
+    let mut end = put_pair(text, at, store, n, finding.first);
+    end = put_bytes(text, end, finding.same);
+    put_cover(text, end, finding.covered)
+}
+
+fn put_tally(
+    text: &mut [u8],
+    at: usize,
+    same: usize,
+    other: usize,
+    covered: usize,
+    before: usize,
+) -> usize
+    requires { ⌜ at + 128 ≤ length (now text) ⌝ }
+    ensures { λ r. ⌜ r ≤ at + 128 ⌝ }
+    ensures { λ r. ⌜ Written (now (text .entry)) at (tallyLine same other covered before) r (now (text .exit)) ⌝ }
+{
+    let mut end = put_count(text, at, b"same ", same as u64);
+    end = put_count(text, end, b" other ", other as u64);
+    end = put_count(text, end, b" covered ", covered as u64);
+    end = put_count(text, end, b" before ", before as u64);
+    put(text, end, b"\n")
+}
+
+// A line for each twin, and the counts.
+fn put_twins(text: &mut [u8], store: &[u8], marks: &[u8]) -> usize
+    requires { ⌜ (recordsIn (now store) + 1) * 128 ≤ length (now text) ⌝ }
+    requires { ⌜ recordsIn (now store) ≤ length (now marks) ⌝ }
+    requires { ⌜ Marks (now store) (now marks) ⌝ }
+    ensures { λ r. ⌜ r ≤ (recordsIn (now (store .entry)) + 1) * 128 ⌝ }
+    ensures { λ r. ⌜ Written (now (text .entry)) 0 (auditLines (now (store .entry)) (recordsIn (now (store .entry))) ++ tallyOf (now (store .entry)) (recordsIn (now (store .entry)))) r (now (text .exit)) ⌝ }
+{
+    let count = store.len() / Record::SIZE;
+    let mut same: usize = 0;
+    let mut other: usize = 0;
+    let mut covered: usize = 0;
+    let mut before: usize = 0;
+    let mut end: usize = 0;
+    for n in 0..count {
+        if marks[n] != Mark::TWIN {
+            continue;
+        }
+        let finding = examine(store, n);
+        end = put_twin(text, end, store, n, finding);
+        same += one_if(finding.same);
+        other += one_if(!finding.same);
+        covered += one_if(finding.covered);
+        before += one_if(finding.by_demand_3);
+    }
+    put_tally(text, end, same, other, covered, before)
+}
+
+// The audit of a store at the start of `text`; answers how many bytes it has.
+pub fn put_audit(text: &mut [u8], store: &[u8]) -> usize
+    requires { ⌜ (mostRecords + 1) * 128 ≤ length (now text) ⌝ }
+    ensures { λ r. ⌜ r ≤ length (now (text .exit)) ⌝ }
+    ensures { λ r. ⌜ Written (now (text .entry)) 0 (auditOf (now (store .entry))) r (now (text .exit)) ⌝ }
+{
+    let mut marks = [0u8; TwinList::RECORDS];
+    let list = twin_list(store, &mut marks);
+    if list.answer != Answer::DONE {
+        return put_refusal(text, 0, list.answer);
+    }
+    put_twins(text, store, &marks)
+}

@@ -1,6 +1,6 @@
 /* Times the export of a picture of 1,024 by 1,024 pixels against decoding the same blocks, in one run.
  *
- * A ratio is of the fastest of many rounds, taken in turn, in the thread's processor time. A second table has the same for 64 by 64.
+ * A ratio is of the fastest of many rounds, taken in turn, in the thread's processor time.
  */
 #include <stdio.h>
 #include <stdlib.h>
@@ -51,6 +51,5 @@ static void compare(unsigned side, int rounds)
 int main(void)
 {
     compare(1024, ROUNDS);
-    compare(64, 100 * ROUNDS);
     return 0;
 }

@@ -1,6 +1,6 @@
 -- What is written of a float: its own bits where it is a number. Assumes nothing.
 use mathlib.Core.Path.{_≡_, refl, sym, ap, subst}
-use mathlib.Core.Bool.{Bool, true, false, not}
+use mathlib.Core.Bool.{true, false, not}
 use lib.Dec.{T}
 use lib.Ieee.{Float, nan, inf, fin, binary32, toBits, isNan, ne}
 use lib.Ieee.Compare.{differs-from-itself}

@@ -13,7 +13,7 @@ use lib.Ieee.Exact.{HasValue, odd-sign}
 use lib.Ieee.Back.{round-whole}
 use lib.Ieee.Fits.{down-pos}
 use lib.Ieee.Scale.{round-same}
-use borrow.Author.Tests.{lt-ltb, le-ltb, le-leb, lt-leb, eq-eqb, ne-eqb}
+use borrow.Author.Tests.{lt-ltb, le-ltb, le-leb, lt-leb, ne-eqb}
 use Rattle.laws.specs.Pick.{pick}
 use Rattle.floats.specs.Half.{isNegative, exponentOf, digitsOf, sizeAt, sizeOf, floatOf}
 use Rattle.floats.proofs.Exact.{exact-part}

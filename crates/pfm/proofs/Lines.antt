@@ -1,11 +1,10 @@
 -- Stores in a list that is made of parts: a line that is filled from the left, and four lines one behind the other, filled at once. Assumes nothing.
-use mathlib.Core.Path.{_≡_, _∙_, refl, sym, ap, ap₂}
+use mathlib.Core.Path.{_≡_, _∙_, refl, sym, ap}
 use mathlib.Core.List.{List, [], _∷_, _++_, append-nil, append-assoc}
 use Prim.Native.Nat.{ℕ, zero, suc, _+_, _-_, _*_, _≤_, _<_}
 use native.Mathlib.Nat.{zero-add, mul-add}
-use native.Mathlib.Numerals.{add-one}
 use native.Mathlib.Omega.{arith}
-use lib.ListN.{length, set, take, drop, length-append, length-drop, length-set, drop-of-length-le}
+use lib.ListN.{length, set, drop, length-append, length-drop, length-set, drop-of-length-le}
 use lib.Seq.{sets, sets-eq, length-sets, set-append-left, drop-drop}
 use Rattle.laws.specs.Made.{made, join}
 use Rattle.laws.proofs.Joined.{run-more, run-length, run-start}

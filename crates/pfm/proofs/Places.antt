@@ -1,11 +1,11 @@
 -- Where a pixel stands: pixel (x, y), row 0 on top, at the header's length and 12 · ((height − 1 − y) · width + x). Assumes nothing.
-use mathlib.Core.Path.{_≡_, refl, sym, ap, ap₂, _∙_}
+use mathlib.Core.Path.{_≡_, refl, sym, ap, _∙_}
 use mathlib.Core.List.{List, [], _∷_, _++_, append-nil}
 use Prim.Native.Nat.{ℕ, zero, suc, _+_, _-_, _*_, _/_, _%_, _≤_, _<_}
-use native.Mathlib.Nat.{mul-assoc, mul-comm, mul-add, mul-left-comm}
+use native.Mathlib.Nat.{mul-assoc, mul-comm, mul-add}
 use native.Mathlib.Omega.{arith}
-use lib.ListN.{length, take, drop, length-append}
-use lib.Seq.{drop-drop, drop-at, take-take, take-append-le}
+use lib.ListN.{length, take, drop}
+use lib.Seq.{drop-drop, drop-at, take-take}
 use Rattle.laws.specs.Made.{made, join}
 use Rattle.bc6h_spec.specs.Answers.{done}
 use Rattle.bc6h_spec.specs.Picture.{isSigned}

@@ -1,23 +1,23 @@
 -- The refusals of the program in their order, and what each return of `export` shows. Assumes nothing.
 use mathlib.Core.Path.{_≡_, refl, sym, ap, ap₂, _∙_}
-use mathlib.Core.Bool.{Bool, true, false}
+use mathlib.Core.Bool.{true, false}
 use mathlib.Core.Logic.{⊎-elim}
 use mathlib.Core.List.{List}
 use Prim.Native.Nat.{ℕ, zero, suc, _+_, _-_, _*_, _/_, _≤_}
 use native.Mathlib.Omega.{arith}
-use lib.Dec.{eqb, leb, ltb}
+use lib.Dec.{eqb, ltb}
 use lib.ListN.{length, drop}
-use borrow.Author.Tests.{le-leb, eq-eqb, ne-eqb, le-ltb, ltb-false}
-use Rattle.laws.specs.Pick.{pick, both}
+use borrow.Author.Tests.{eq-eqb, ne-eqb, le-ltb, ltb-false}
+use Rattle.laws.specs.Pick.{both}
 use Rattle.laws.proofs.Tests.{cases}
-use Rattle.bc6h_spec.specs.Answers.{done, shortOutput, foreignHeader, badSize, badBlocks, unevenSize}
+use Rattle.bc6h_spec.specs.Answers.{done, badSize, badBlocks}
 use Rattle.dds.specs.declared.DdsRead.{DdsRead}
-use Rattle.dds.specs.Dds.{headerSize, headerOurs, HeaderOurs, sizeOurs, blocksAlong, widthOf, heightOf, dxgiOf, formatOf, headRefusal, readRefusal, HeadRead, FileRead, BlocksRead}
+use Rattle.dds.specs.Dds.{headerSize, headerOurs, sizeOurs, blocksAlong, widthOf, heightOf, formatOf, headRefusal, HeadRead, FileRead, BlocksRead}
 use Rattle.dds.specs.Dds as dds
 use Rattle.dds.proofs.Headers.{ours-so, size-so}
 use Rattle.dds.proofs.Reading.{head-foreign, head-size, head-done, head-known, head-number, head-is, sized-blocks, sized-done, read-number, read-is, read-known, part-is, part-length}
 use Rattle.pfm.specs.declared.PfmWritten.{PfmWritten}
-use Rattle.pfm.specs.File.{SideEven, sizeEven, blockBytes, fileLength, writeRefusal, writtenAt, leftAt, PictureWritten}
+use Rattle.pfm.specs.File.{SideEven, sizeEven, blockBytes, fileLength, writeRefusal, PictureWritten}
 use Rattle.pfm.proofs.Calls.{size-means}
 use Rattle.pfm_files.specs.Export.{sizeSmall, exportRefusal, Exported}
 

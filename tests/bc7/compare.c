@@ -1,26 +1,18 @@
-/* The calls for BC7 beside the plain decoder: compare COUNT SEED
+/* The calls for BC7 beside the plain decoder: compare COUNT SEED; with other words it is the plain decoder of stream.h.
  *
  * Each block through knot_bc7_pixels, into a byte more than it needs; then runs of blocks of every length from 0 to 64 through
  * knot_bc7_blocks_pixels. Prints the first blocks that differ, and how many were compared in each mode.
  */
 #include "knotpasture.h"
 
-#include "blocks.h"
-#include "plain.h"
+#include "stream.h"
 
 int printf(const char *format, ...);
 
 enum { RUN = 64, UNTOUCHED = 0xA5 };
 
-static uint8_t run[16 * RUN], shown[64 * RUN + 1], expected[64 * RUN];
+static uint8_t run[16 * RUN], pixels[64 * RUN + 1], expected[64 * RUN];
 static unsigned long compared[9], runs, different;
-
-static uint64_t number(const char *text)
-{
-    uint64_t value = 0;
-    for (; *text; text++) value = 10 * value + (uint64_t)(*text - '0');
-    return value;
-}
 
 static int same(const uint8_t *a, const uint8_t *b, size_t size)
 {
@@ -37,29 +29,29 @@ static void tell(const uint8_t *block, const char *what)
     printf("\n");
 }
 
-static void one(const uint8_t *block, uint8_t *pixels)
+static void one(const uint8_t *block, uint8_t *right)
 {
-    int mode = plain_block(block, pixels);
-    for (int j = 0; j < 65; j++) shown[j] = UNTOUCHED;
-    uint32_t word = knot_bc7_pixels(block, 16, shown, 65);
+    int mode = plain_block(block, right);
+    for (int j = 0; j < 65; j++) pixels[j] = UNTOUCHED;
+    uint32_t word = knot_bc7_pixels(block, 16, pixels, 65);
     if (word != (uint32_t)mode << 8) tell(block, "another word");
-    else if (!same(shown, pixels, 64)) tell(block, "another picture");
-    else if (shown[64] != UNTOUCHED) tell(block, "a byte too many");
+    else if (!same(pixels, right, 64)) tell(block, "another picture");
+    else if (pixels[64] != UNTOUCHED) tell(block, "a byte too many");
     compared[mode]++;
 }
 
 static void several(size_t count)
 {
     size_t done = 99;
-    for (size_t j = 0; j < 64 * count + 1; j++) shown[j] = UNTOUCHED;
-    uint64_t word = knot_bc7_blocks_pixels(run, 16 * count, shown, 64 * count, &done);
-    if (word != KNOT_DONE || done != count || !same(shown, expected, 64 * count) || shown[64 * count] != UNTOUCHED) tell(run, "a run that differs");
+    for (size_t j = 0; j < 64 * count + 1; j++) pixels[j] = UNTOUCHED;
+    uint64_t word = knot_bc7_blocks_pixels(run, 16 * count, pixels, 64 * count, &done);
+    if (word != KNOT_DONE || done != count || !same(pixels, expected, 64 * count) || pixels[64 * count] != UNTOUCHED) tell(run, "a run that differs");
     runs++;
 }
 
 int main(int argc, char **argv)
 {
-    if (argc != 3) return 2;
+    if (argc != 3) return stream(argc, argv);
     uint64_t count = number(argv[1]), seed = number(argv[2]);
     for (uint64_t n = 0; n < count; n++) {
         size_t at = n % RUN;

@@ -18,7 +18,7 @@ same-length c = search needs
 
 -- src/lib.rt:143:9
 returns : tie.Need-returns
-returns c = let d = c .before .before .before .strict-twin-list .ensures in (lines.strict-number (c .before .before .before .before .before .before .before .before .pre) (c .before .before .before .before .before .if1 .taken) d, strictly.list-is d)
+returns c = let d = c .before .before .strict-twin-list .ensures in (lines.strict-number (c .before .before .before .before .before .before .before .pre) (c .before .before .before .before .if1 .taken) d, strictly.list-is d)
 
 -- src/lib.rt:145:5
 twin-list-requires : tie.Need-twin-list-requires

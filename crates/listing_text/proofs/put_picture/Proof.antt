@@ -7,7 +7,7 @@ use Rattle.listing_text.proofs.put_picture.Lts as lts
 use Rattle.listing_text.proofs.picture_of.Reads as picture-of-reads
 use Rattle.listing_text.proofs.put_triple.Reads as put-triple-reads
 use Rattle.text.proofs.put_field.Reads as put-field-reads
-use Rattle.twins.proofs.mode_at.Reads as mode-at-reads
+use Rattle.twins_scratch.proofs.mode_at.Reads as mode-at-reads
 
 -- src/lib.rt:74:18
 picture-of-requires : tie.Need-picture-of-requires

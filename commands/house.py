@@ -18,6 +18,7 @@ ROOT = pathlib.Path(__file__).resolve().parent.parent
 COMMANDS = [
     "list",
     "audit",
+    "clean",
     "infinities",
     "fields",
     "block",
@@ -211,7 +212,7 @@ def over_store(name, store, closing, words=()):
     text, told = program(name, store, words)
     refused = re.fullmatch(rb"store refused ([0-9]+)\n", text)
     if refused:
-        raise Refused(int(refused[1]), text)
+        raise Refused(int(refused[1]), text, MEANINGS[int(refused[1])] + told_last(told))
     last = text[text.rfind(b"\n", 0, -1) + 1:]
     if not re.fullmatch(closing.encode() + rb"\n", last):
         raise Trouble(f"the program {name} did not end its text{told_last(told)}")

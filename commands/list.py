@@ -4,7 +4,7 @@ usage: knot list [--strict] [STORE]
 
 Without a STORE it is read from standard input. A line a record: number, tile, answer, mode, mark (0 kept, 1 twin, 2 refused) and pixel
 15's three values in hex; then the counts. With --strict a store in which a record that is not refused has a reserved mode is refused
-whole. Of a refused store the line 'store refused' and the number are all.
+whole, and standard error has the number of the first such record. Of a refused store the line 'store refused' and the number are all.
 """
 from . import house
 

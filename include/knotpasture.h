@@ -4,7 +4,8 @@
  *
  * No function keeps a pointer, allocates memory, has state of its own or fails: each answers for every input. A pointer is
  * followed by its length, in elements; it may be null where the length is 0. Lent input and lent output must not overlap.
- * The calls may run on any number of threads at once.
+ * The calls may run on any number of threads at once. "Stack" is what a call needs at most below its caller's frame, its return
+ * address with it, in the archive for x86-64; what the C library's memset takes for itself is not in it.
  *
  * An answer is one word. Its low byte is a number of this table, and 0 means done. Where several refusals apply, the order
  * that each call names decides, first met first. A refusal changes no lent byte or value. What a word has no room for, a call
@@ -50,7 +51,8 @@ enum {
     KNOT_VALUES = 48,         /* values that a block shows */
     KNOT_FIELDS = 32,         /* numbers of a field record */
     KNOT_RECORD_SIZE = 24,    /* bytes of a record */
-    KNOT_STORE_LIMIT = 48000  /* bytes of a store, at most */
+    KNOT_STORE_LIMIT = 48000, /* bytes of a store, at most */
+    KNOT_SCRATCH_VALUES = 49  /* values of scratch space for each record of a store */
 };
 
 /* The number of an answer. */
@@ -62,6 +64,8 @@ enum {
  * Answers the number in the low byte, the mode, 1 to 14, in the next, and in bits 16 to 23 how many of the 48 values are minus
  * infinity, 0xFC00. A reserved mode is done, with mode 0 and 48 zeros. Refusals: 1, 2, 3 (fewer than 48 values of room), in
  * this order, with mode and count 0.
+ *
+ * Stack: 300 bytes.
  */
 uint32_t knot_block_pixels(const uint8_t *block, size_t block_length, uint8_t format, uint16_t *out, size_t out_length);
 
@@ -74,6 +78,8 @@ uint32_t knot_block_pixels(const uint8_t *block, size_t block_length, uint8_t fo
  * Answers the number; *done becomes the number of blocks, which may be 0, and *infinite how many of the values are minus
  * infinity, 0xFC00. Refusals: 1, 9, 3 (fewer than 48 values of room a block), in this order; nothing is written, not even the
  * first block's values, and *done and *infinite become 0.
+ *
+ * Stack: 300 bytes.
  */
 uint32_t knot_blocks_pixels(const uint8_t *blocks, size_t blocks_length, uint8_t format, uint16_t *out, size_t out_length,
                             size_t *done, size_t *infinite);
@@ -89,6 +95,8 @@ uint32_t knot_blocks_pixels(const uint8_t *blocks, size_t blocks_length, uint8_t
  *
  * Modes 11 to 14 have one region: their last two endpoints, partition and region count are 0.
  * Answers the number in the low byte and the mode in the next. Refusals: 1, 2, 4, 3 (fewer than 32 numbers of room).
+ *
+ * Stack: 350 bytes.
  */
 uint32_t knot_block_fields(const uint8_t *block, size_t block_length, uint8_t format, uint16_t *numbers, size_t numbers_length);
 
@@ -100,6 +108,8 @@ uint32_t knot_block_fields(const uint8_t *block, size_t block_length, uint8_t fo
  * knot_block_fields gives the same numbers back; and of the fields of a block this gives the same bytes back.
  *
  * Answers the number alone. Refusals: 1, 10 (also for another count of numbers than 32), 11, in this order.
+ *
+ * Stack: 1,350 bytes.
  */
 uint32_t knot_write_block(const uint16_t *numbers, size_t numbers_length, uint8_t *out, size_t out_length);
 
@@ -107,22 +117,32 @@ uint32_t knot_write_block(const uint16_t *numbers, size_t numbers_length, uint8_
  *
  * Answers the number in the low byte; where that is 0, the format in the next byte and the tile in the high 32 bits.
  * Refusals: 5, 6, 8, 1, 7.
+ *
+ * Stack: 50 bytes.
  */
 uint64_t knot_record_at(const uint8_t *store, size_t store_length, size_t n);
 
 #define KNOT_FORMAT(word) ((uint8_t)((word) >> 8 & 0xFF))
 #define KNOT_TILE(word) ((uint32_t)((word) >> 32))
 
-/* Where in the store the sixteen block bytes of record n start: 24 n + 8. 0 exactly when knot_record_at refuses n. */
+/* Where in the store the sixteen block bytes of record n start: 24 n + 8. 0 exactly when knot_record_at refuses n.
+ *
+ * Stack: 50 bytes.
+ */
 size_t knot_record_block(const uint8_t *store, size_t store_length, size_t n);
 
-/* The tile number of record n, whatever else the record holds, and 0 where there is no such record. */
+/* The tile number of record n, whatever else the record holds, and 0 where there is no such record.
+ *
+ * Stack: 50 bytes.
+ */
 uint32_t knot_tile_at(const uint8_t *store, size_t store_length, size_t n);
 
 /* Marks each record of a store as kept, twin or bad (enum knot_mark): marks[n] for record n; the rest of marks stays.
  *
  * Answers the number in the low byte; where that is 0, the number of kept records in bits 16 to 31, of twins in bits 32 to
  * 47, of bad ones in bits 48 to 63. Together they are the number of records. Refusals: 5, 6, 3 (fewer marks than records).
+ *
+ * Stack: 200,000 bytes.
  */
 uint64_t knot_twin_list(const uint8_t *store, size_t store_length, uint8_t *marks, size_t marks_length);
 
@@ -130,19 +150,63 @@ uint64_t knot_twin_list(const uint8_t *store, size_t store_length, uint8_t *mark
 #define KNOT_TWIN_COUNT(word) ((unsigned)((word) >> 32 & 0xFFFF))
 #define KNOT_BAD_COUNT(word) ((unsigned)((word) >> 48))
 
+/* The same over lent scratch space, KNOT_SCRATCH_VALUES values for each record of the store, for a caller that has not the stack of
+ * knot_twin_list; both run the same code. Where the number is 0, answer and marks are those of knot_twin_list.
+ *
+ * A refusal changes no value of scratch. Where the number is 0 and the store has c records: scratch[n] is a fingerprint of record n, the
+ * 48 values from scratch[c + 48 n] on are those that knot_block_pixels writes for its block, and the rest of scratch stays, as does what
+ * stands there for a record that is refused. Neither answer nor marks depend on what it held before.
+ *
+ * Refusals: 5, 6, 3 (fewer marks than records, or scratch space for fewer).
+ *
+ * Stack: 400 bytes.
+ */
+uint64_t knot_twin_list_in(const uint8_t *store, size_t store_length, uint8_t *marks, size_t marks_length, uint16_t *scratch,
+                           size_t scratch_length);
+
 /* The twin list of a store in which no record is damaged. A damaged record is one that is not refused and has a reserved mode;
  * a store with one is refused whole. Where the number is 0, answer and marks are those of knot_twin_list.
  *
- * Refusals: 5, 6, 3, 12. With 12 the number of the first damaged record is in bits 16 to 31.
+ * Refusals: 5, 6, 3, 12. A refusal's word is its number: every count in it is 0. A caller that has not its stack asks knot_first_damaged,
+ * and calls knot_twin_list_in where that answers the number of records.
+ *
+ * Stack: 200,000 bytes.
  */
 uint64_t knot_strict_twin_list(const uint8_t *store, size_t store_length, uint8_t *marks, size_t marks_length);
 
-#define KNOT_DAMAGED_RECORD(word) ((unsigned)((word) >> 16 & 0xFFFF))
+/* The number of the first damaged record; the number of records, store_length / 24, where none is. In a store that is too long (5)
+ * or uneven (6) every record is refused, so none is damaged.
+ *
+ * Stack: 50 bytes.
+ */
+size_t knot_first_damaged(const uint8_t *store, size_t store_length);
+
+/* Writes the records of a store that stay, in order and byte for byte, to out; the rest of out stays. A record is removed exactly when
+ * an earlier record that stays has the same format and the same sixteen block bytes, and neither is refused or reserved. Twins that only
+ * look alike stay. What a removed record loses all the same is its tile number.
+ *
+ * Answers the number in the low byte; where that is 0, how many records stay in bits 16 to 31 (the first 24 bytes of out for each) and how
+ * many are removed in bits 32 to 47. Refusals: 5, 6, 3 (room for fewer records than the store has); a refusal's word is its number.
+ *
+ * Stack: 8,500 bytes.
+ */
+uint64_t knot_clean_store(const uint8_t *store, size_t store_length, uint8_t *out, size_t out_length);
+
+#define KNOT_STAY_COUNT(word) ((unsigned)((word) >> 16 & 0xFFFF))
+#define KNOT_REMOVED_COUNT(word) ((unsigned)((word) >> 32 & 0xFFFF))
+
+/* The record that stays for record n where knot_clean_store removes that; n where it stays, and where there is no such record.
+ *
+ * Stack: 100 bytes.
+ */
+size_t knot_first_of(const uint8_t *store, size_t store_length, size_t n);
 
 /* Whether a block, read in a format, is of mode 1 to 13; each of its regions has a pixel at index 0 and one at the last index, 7
  * in two regions and 15 in one, and a channel whose palette values all differ; and, if signed, no endpoint is after the transform
  * the lowest number of its precision. Two such blocks of one format, mode and partition that show the same 48 values are the same
  * sixteen bytes: deleting one of the two loses nothing. False for any other format or length.
+ *
+ * Stack: 650 bytes.
  */
 bool knot_is_trusted(const uint8_t *block, size_t block_length, uint8_t format);
 

@@ -347,10 +347,10 @@ static void strict(void)
     CHECK(KNOT_ANSWER(knot_strict_twin_list(store, 96, marks + 4, 4)) == KNOT_DONE && marks[7] == KNOT_BAD);
 
     put_record(3, 10, 1, B2);
-    uint64_t answer = knot_strict_twin_list(store, 96, marks, 4);
-    CHECK(KNOT_ANSWER(answer) == KNOT_RESERVED_BLOCK && KNOT_DAMAGED_RECORD(answer) == 3);
+    CHECK(knot_strict_twin_list(store, 96, marks, 4) == KNOT_RESERVED_BLOCK && knot_first_damaged(store, 96) == 3);
+    CHECK(knot_first_damaged(store, 72) == 3 && knot_first_damaged(store, 97) == 4 && knot_first_damaged(NULL, 0) == 0);
     put_record(1, 8, 0, B2);
-    CHECK(knot_strict_twin_list(store, 96, marks, 4) == (KNOT_RESERVED_BLOCK | 1 << 16));
+    CHECK(knot_strict_twin_list(store, 96, marks, 4) == KNOT_RESERVED_BLOCK && knot_first_damaged(store, 96) == 1);
     CHECK(knot_strict_twin_list(store, 96, marks, 3) == KNOT_SHORT_OUTPUT);
     CHECK(knot_strict_twin_list(store, 97, marks, 4) == KNOT_UNEVEN_STORE);
     CHECK(knot_strict_twin_list(store, 48001, marks, 4) == KNOT_LONG_STORE);
@@ -361,8 +361,80 @@ static void strict(void)
 
     for (size_t n = 0; n < 2000; n++) put_record(n, 1, 0, B1);
     put_record(1999, 1, 0, B2);
-    answer = knot_strict_twin_list(store, 48000, marks, 2000);
-    CHECK(KNOT_ANSWER(answer) == KNOT_RESERVED_BLOCK && KNOT_DAMAGED_RECORD(answer) == 1999 && marks[0] == 9);
+    CHECK(knot_strict_twin_list(store, 48000, marks, 2000) == KNOT_RESERVED_BLOCK && marks[0] == 9);
+    CHECK(knot_first_damaged(store, 48000) == 1999 && knot_first_damaged(store, 48001) == 2000);
+}
+
+/* The twin list over lent scratch space: what knot_twin_list answers and marks, whatever the scratch space held before. */
+static void scratched(void)
+{
+    enum { ROOM = 2000 * KNOT_SCRATCH_VALUES };
+    static uint16_t scratch[ROOM + 1], values[KNOT_VALUES];
+    for (size_t n = 0; n < ROOM + 1; n++) scratch[n] = (uint16_t)(n * 40503);
+    for (size_t n = 0; n < 4; n++) marks[n] = 9;
+    CHECK(knot_twin_list_in(NULL, 0, NULL, 0, NULL, 0) == KNOT_DONE);
+    put_four();
+    /* 5, 6, 3 in this order; one value too few of scratch space is 3, and so is one mark too few */
+    CHECK(knot_twin_list_in(store, 48001, NULL, 0, NULL, 0) == KNOT_LONG_STORE);
+    CHECK(knot_twin_list_in(store, 97, NULL, 0, NULL, 0) == KNOT_UNEVEN_STORE);
+    CHECK(knot_twin_list_in(store, 96, marks, 3, scratch, ROOM) == KNOT_SHORT_OUTPUT);
+    CHECK(knot_twin_list_in(store, 96, marks, 4, scratch, 4 * KNOT_SCRATCH_VALUES - 1) == KNOT_SHORT_OUTPUT);
+    CHECK(knot_twin_list_in(store, 96, marks, 4, NULL, 0) == KNOT_SHORT_OUTPUT);
+    for (size_t n = 0; n < ROOM + 1; n++) CHECK(scratch[n] == (uint16_t)(n * 40503));
+    for (size_t n = 0; n < 4; n++) CHECK(marks[n] == 9);
+
+    uint64_t answer = knot_twin_list(store, 96, marks, 4);
+    CHECK(KNOT_ANSWER(answer) == KNOT_DONE && KNOT_KEPT_COUNT(answer) == 2);
+    for (size_t n = 0; n < 4; n++) marks[4 + n] = 9;
+    CHECK(knot_twin_list_in(store, 96, marks + 4, 4, scratch, 4 * KNOT_SCRATCH_VALUES) == answer);
+    for (size_t n = 0; n < 4; n++) CHECK(marks[n] == marks[4 + n]);
+    /* the pictures stand behind the fingerprints; record 3 is refused and its places stay, as all behind does */
+    for (size_t n = 0; n < 3; n++) {
+        knot_block_pixels(store + 24 * n + 8, 16, store[24 * n + 4], values, KNOT_VALUES);
+        for (size_t v = 0; v < KNOT_VALUES; v++) CHECK(scratch[4 + KNOT_VALUES * n + v] == values[v]);
+    }
+    CHECK(scratch[0] == scratch[1] && scratch[0] != scratch[2] && scratch[3] == (uint16_t)(3 * 40503));
+    for (size_t n = 4 + 3 * KNOT_VALUES; n < ROOM + 1; n++) CHECK(scratch[n] == (uint16_t)(n * 40503));
+
+    for (size_t n = 0; n < 2000; n++) put_record(n, n, n % 2, n % 3 ? B3 : B4);
+    answer = knot_twin_list(store, 48000, marks, 2000);
+    CHECK(KNOT_ANSWER(answer) == KNOT_DONE && KNOT_KEPT_COUNT(answer) + KNOT_TWIN_COUNT(answer) == 2000);
+    static uint8_t again[2000];
+    CHECK(knot_twin_list_in(store, 48000, again, 2000, scratch, ROOM) == answer && scratch[ROOM] == (uint16_t)(ROOM * 40503u));
+    for (size_t n = 0; n < 2000; n++) CHECK(marks[n] == again[n]);
+    CHECK(knot_twin_list_in(store, 48000, again, 2000, scratch, ROOM - 1) == KNOT_SHORT_OUTPUT);
+}
+
+static void cleaning(void)
+{
+    static uint8_t out[48001];
+    for (size_t n = 0; n < sizeof out; n++) out[n] = 9;
+    CHECK(knot_clean_store(NULL, 0, NULL, 0) == KNOT_DONE);
+    put_four();
+    CHECK(knot_clean_store(store, 48001, out, 48001) == KNOT_LONG_STORE);
+    CHECK(knot_clean_store(store, 97, out, 48001) == KNOT_UNEVEN_STORE);
+    CHECK(knot_clean_store(store, 96, out, 95) == KNOT_SHORT_OUTPUT);
+    for (size_t n = 0; n < sizeof out; n++) CHECK(out[n] == 9);
+    /* record 1 looks like record 0 and has other bytes */
+    uint64_t answer = knot_clean_store(store, 96, out, 96);
+    CHECK(KNOT_ANSWER(answer) == KNOT_DONE && KNOT_STAY_COUNT(answer) == 4 && KNOT_REMOVED_COUNT(answer) == 0);
+    for (size_t n = 0; n < 96; n++) CHECK(out[n] == store[n]);
+    /* 0 and 4 are copies, 1 has the other format, 2 and 3 are reserved, 5 is refused, 6 is 0 again */
+    for (size_t n = 0; n < 7; n++) put_record(n, 70 + n, n == 1, n == 2 || n == 3 ? B2 : B3);
+    store[24 * 5 + 7] = 1;
+    for (size_t n = 0; n < sizeof out; n++) out[n] = 9;
+    answer = knot_clean_store(store, 168, out, 168);
+    CHECK(KNOT_ANSWER(answer) == KNOT_DONE && KNOT_STAY_COUNT(answer) == 5 && KNOT_REMOVED_COUNT(answer) == 2);
+    for (size_t n = 0; n < 96; n++) CHECK(out[n] == store[n]);
+    for (size_t n = 0; n < 24; n++) CHECK(out[96 + n] == store[120 + n]);
+    for (size_t n = 120; n < sizeof out; n++) CHECK(out[n] == 9);
+    for (size_t n = 0; n < 8; n++) CHECK(knot_first_of(store, 168, n) == (n == 4 || n == 6 ? 0 : n));
+    CHECK(knot_clean_store(out, 120, store, 120) == (5 << 16));
+    for (size_t n = 0; n < 120; n++) CHECK(out[n] == store[n]);
+
+    for (size_t n = 0; n < 2000; n++) put_record(n, n, 0, B3);
+    answer = knot_clean_store(store, 48000, out, 48000);
+    CHECK(KNOT_ANSWER(answer) == KNOT_DONE && KNOT_STAY_COUNT(answer) == 1 && KNOT_REMOVED_COUNT(answer) == 1999 && out[120] == 9);
 }
 
 static void trusted(void)
@@ -389,6 +461,8 @@ int main(void)
     records();
     twins();
     strict();
+    scratched();
+    cleaning();
     trusted();
     printf("C: %u checks, %u failed\n", checks, failures);
     return failures != 0;

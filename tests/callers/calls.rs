@@ -13,6 +13,17 @@ mod knot {
             pub fn knot_tile_at(store: *const u8, store_length: usize, n: usize) -> u32;
             pub fn knot_twin_list(store: *const u8, store_length: usize, marks: *mut u8, marks_length: usize) -> u64;
             pub fn knot_strict_twin_list(store: *const u8, store_length: usize, marks: *mut u8, marks_length: usize) -> u64;
+            pub fn knot_twin_list_in(
+                store: *const u8,
+                store_length: usize,
+                marks: *mut u8,
+                marks_length: usize,
+                scratch: *mut u16,
+                scratch_length: usize,
+            ) -> u64;
+            pub fn knot_first_damaged(store: *const u8, store_length: usize) -> usize;
+            pub fn knot_clean_store(store: *const u8, store_length: usize, out: *mut u8, out_length: usize) -> u64;
+            pub fn knot_first_of(store: *const u8, store_length: usize, n: usize) -> usize;
             pub fn knot_is_trusted(block: *const u8, block_length: usize, format: u8) -> bool;
         }
     }
@@ -77,10 +88,32 @@ mod knot {
         if word as u8 == 0 { Ok([16, 32, 48].map(|shift| (word >> shift) as u16)) } else { Err(word as u8) }
     }
 
-    /// The same of a store without damaged records; or a refusal's number, with the first damaged record where that is why.
-    pub fn strict_twin_list(store: &[u8], marks: &mut [u8]) -> Result<[u16; 3], (u8, u16)> {
+    /// The same of a store without damaged records; or a refusal's number.
+    pub fn strict_twin_list(store: &[u8], marks: &mut [u8]) -> Result<[u16; 3], u8> {
         let word = unsafe { c::knot_strict_twin_list(store.as_ptr(), store.len(), marks.as_mut_ptr(), marks.len()) };
-        if word as u8 == 0 { Ok([16, 32, 48].map(|shift| (word >> shift) as u16)) } else { Err((word as u8, (word >> 16) as u16)) }
+        if word as u8 == 0 { Ok([16, 32, 48].map(|shift| (word >> shift) as u16)) } else { Err(word as u8) }
+    }
+
+    /// The twin list over lent scratch space, 49 values for each record.
+    pub fn twin_list_in(store: &[u8], marks: &mut [u8], scratch: &mut [u16]) -> Result<[u16; 3], u8> {
+        let word = unsafe {
+            c::knot_twin_list_in(store.as_ptr(), store.len(), marks.as_mut_ptr(), marks.len(), scratch.as_mut_ptr(), scratch.len())
+        };
+        if word as u8 == 0 { Ok([16, 32, 48].map(|shift| (word >> shift) as u16)) } else { Err(word as u8) }
+    }
+
+    pub fn first_damaged(store: &[u8]) -> usize {
+        unsafe { c::knot_first_damaged(store.as_ptr(), store.len()) }
+    }
+
+    /// How many records stay and how many are removed; or a refusal's number.
+    pub fn clean_store(store: &[u8], out: &mut [u8]) -> Result<[u16; 2], u8> {
+        let word = unsafe { c::knot_clean_store(store.as_ptr(), store.len(), out.as_mut_ptr(), out.len()) };
+        if word as u8 == 0 { Ok([16, 32].map(|shift| (word >> shift) as u16)) } else { Err(word as u8) }
+    }
+
+    pub fn first_of(store: &[u8], n: usize) -> usize {
+        unsafe { c::knot_first_of(store.as_ptr(), store.len(), n) }
     }
 
     pub fn is_trusted(block: &[u8], format: u8) -> bool {
@@ -184,13 +217,43 @@ fn strict() {
     let whole = [record(7, 0, B3), record(8, 0, B4), record(10, 2, B2)].concat();
     let damaged = [record(7, 0, B3), record(8, 0, B3), record(9, 1, B2)].concat();
     let mut marks = [9; 4];
-    assert_eq!(knot::strict_twin_list(&damaged, &mut marks), Err((12, 2)));
-    assert_eq!(knot::strict_twin_list(&damaged, &mut marks[..2]), Err((3, 0)));
-    assert_eq!(knot::strict_twin_list(&damaged[1..], &mut marks), Err((6, 0)));
-    assert_eq!(knot::strict_twin_list(&[0x13; 48001], &mut marks), Err((5, 0)));
+    assert_eq!(knot::strict_twin_list(&damaged, &mut marks), Err(12));
+    assert_eq!(knot::strict_twin_list(&damaged, &mut marks[..2]), Err(3));
+    assert_eq!(knot::strict_twin_list(&damaged[1..], &mut marks), Err(6));
+    assert_eq!(knot::strict_twin_list(&[0x13; 48001], &mut marks), Err(5));
+    assert_eq!([knot::first_damaged(&damaged), knot::first_damaged(&whole), knot::first_damaged(&damaged[1..])], [2, 3, 2]);
     assert_eq!(marks, [9; 4]);
     assert_eq!(knot::strict_twin_list(&whole, &mut marks), Ok([1, 1, 1]));
     assert_eq!(marks, [0, 1, 2, 9]);
+}
+
+fn scratched() {
+    let store = [record(7, 0, B3), record(8, 0, B4), record(10, 2, B3), record(11, 0, B2)].concat();
+    let (mut marks, mut scratch) = ([9; 5], [7; 197]);
+    assert_eq!(knot::twin_list_in(&store, &mut marks, &mut scratch[..195]), Err(3));
+    assert_eq!(knot::twin_list_in(&store, &mut marks[..3], &mut scratch), Err(3));
+    assert_eq!(knot::twin_list_in(&store[1..], &mut marks, &mut scratch), Err(6));
+    assert_eq!(knot::twin_list_in(&[0; 48001], &mut marks, &mut scratch), Err(5));
+    assert_eq!((marks, scratch), ([9; 5], [7; 197]));
+    assert_eq!(knot::twin_list_in(&store, &mut marks, &mut scratch), Ok([2, 1, 1]));
+    assert_eq!(marks, [0, 1, 2, 0, 9]);
+    assert_eq!(scratch[4..52], scratch[52..100]);
+    assert_eq!((scratch[2], &scratch[100..148], &scratch[148..196], scratch[196]), (7, &[7; 48][..], &[0; 48][..], 7));
+    assert_eq!(knot::twin_list(&store, &mut marks), Ok([2, 1, 1]));
+}
+
+fn cleaning() {
+    let store = [record(7, 0, B3), record(8, 1, B3), record(9, 0, B3), record(10, 2, B3), record(11, 0, B4)].concat();
+    let mut out = [9; 121];
+    assert_eq!(knot::clean_store(&store, &mut out[..119]), Err(3));
+    assert_eq!(knot::clean_store(&store[1..], &mut out), Err(6));
+    assert_eq!(knot::clean_store(&[0; 48001], &mut out), Err(5));
+    assert_eq!(out, [9; 121]);
+    assert_eq!(knot::clean_store(&store, &mut out), Ok([4, 1]));
+    assert_eq!(out[..48], store[..48]);
+    assert_eq!(out[48..96], store[72..]);
+    assert_eq!(out[96..], [9; 25]);
+    assert_eq!([1, 2, 5].map(|n| knot::first_of(&store, n)), [1, 0, 5]);
 }
 
 fn trusted() {
@@ -205,6 +268,8 @@ fn main() {
     writing();
     store();
     strict();
+    scratched();
+    cleaning();
     trusted();
     println!("Rust: every check holds");
 }

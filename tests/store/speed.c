@@ -1,4 +1,5 @@
-/* Times the twin list over the worst stores against decoding their blocks once, in one run, and measures its stack.
+/* Times the twin list over the worst stores against decoding their blocks once, and the clean-up against the twin list, in one run, and
+ * measures the list's stack.
  *
  * A ratio is of the fastest of many rounds, taken in turn. The stack is that of a thread whose stack was filled with a pattern:
  * what of the pattern is gone was used.
@@ -14,6 +15,7 @@
 enum { RECORDS = KNOT_STORE_LIMIT / KNOT_RECORD_SIZE, ROUNDS = 200, STACK = 1 << 20 };
 
 static uint8_t different[KNOT_STORE_LIMIT], equal[KNOT_STORE_LIMIT], hard[KNOT_STORE_LIMIT], marks[RECORDS];
+static uint8_t out[KNOT_STORE_LIMIT];
 static uint16_t values[KNOT_VALUES];
 
 static double now(void) {
@@ -38,6 +40,14 @@ static void mixed(uint8_t *block, uint64_t *seed) {
     block[0] &= 0xFC;
 }
 
+/* A mode 11 block whose ends are equal: every block of these shows the same picture, and no two are the same bytes. */
+static void alike(uint8_t *block, unsigned n) {
+    flat(block, 5);
+    block[4] |= 0x28;
+    block[5] = 0;
+    for (int k = 0; k < 4; k++) block[12 + k] = n >> 4 * k & 15;
+}
+
 static double decode(const uint8_t *store) {
     double start = now();
     for (int n = 0; n < RECORDS; n++) knot_block_pixels(store + KNOT_RECORD_SIZE * n + 8, KNOT_BLOCK_SIZE, KNOT_UNSIGNED, values, KNOT_VALUES);
@@ -50,15 +60,23 @@ static double list(const uint8_t *store) {
     return now() - start;
 }
 
+static double clean(const uint8_t *store) {
+    double start = now();
+    knot_clean_store(store, KNOT_STORE_LIMIT, out, KNOT_STORE_LIMIT);
+    return now() - start;
+}
+
 static void ratio(const char *name, const uint8_t *store) {
-    double one = 1e9, all = 1e9;
+    double one = 1e9, all = 1e9, cleaned = 1e9;
     for (int k = 0; k < ROUNDS; k++) {
-        double d = decode(store), l = list(store);
+        double d = decode(store), l = list(store), c = clean(store);
         one = d < one ? d : one;
         all = l < all ? l : all;
+        cleaned = c < cleaned ? c : cleaned;
     }
     uint64_t answer = knot_twin_list(store, KNOT_STORE_LIMIT, marks, RECORDS);
-    printf("%s: decoding once %.1f us, the twin list %.1f us, ratio %.2f (answer %llx)\n", name, one * 1e6, all * 1e6, all / one, (unsigned long long)answer);
+    printf("%s: decoding once %.1f us, the twin list %.1f us, ratio %.2f (answer %llx); the clean-up %.1f us, %.2f of the list\n", name, one * 1e6,
+           all * 1e6, all / one, (unsigned long long)answer, cleaned * 1e6, cleaned / all);
 }
 
 static void *listed(void *store) {
@@ -106,5 +124,12 @@ int main(void) {
     ratio("1,000 reserved records, 1,000 black ones in two formats", equal);
     for (int n = 1; n < RECORDS; n++) memcpy(hard + KNOT_RECORD_SIZE * n, hard, KNOT_RECORD_SIZE);
     ratio("2,000 equal records, two regions", hard);
+    for (int n = 0; n < RECORDS; n++) alike(different + KNOT_RECORD_SIZE * n + 8, n);
+    ratio("2,000 records that look alike, no copies", different);
+    for (int n = 0; n < RECORDS; n++) alike(different + KNOT_RECORD_SIZE * n + 8, n % (RECORDS / 2));
+    ratio("1,000 records that look alike, each twice", different);
+    for (int n = 0; n < RECORDS; n++) mixed(hard + KNOT_RECORD_SIZE * n + 8, &seed);
+    for (int n = RECORDS / 2; n < RECORDS; n++) memcpy(hard + KNOT_RECORD_SIZE * n, hard + KNOT_RECORD_SIZE * (n - RECORDS / 2), KNOT_RECORD_SIZE);
+    ratio("1,000 different records, each twice", hard);
     printf("stack of the twin list: %zu bytes\n", used(listed, different) - used(nothing, different));
 }

@@ -20,8 +20,10 @@ use Rattle.copies.proofs.Trust.{sound, none-lost, one-region-eligible, one-regi
 use Rattle.records.specs.Store.{recordsIn, formatOf, blockOf, recordRefusal, Unrefused, partAt}
 use Rattle.records.proofs.Readings.{part-of}
 use Rattle.twins.specs.declared.TwinList.{TwinList}
-use Rattle.twins.specs.Twins.{twinMark, isRecord, Alike, firstTwin, Listed}
-use Rattle.twins.proofs.Marking.{is-record, is-refused, first-alike}
+use Rattle.twins_scratch.specs.Shown.{isRecord}
+use Rattle.twins.specs.Twins.{twinMark, Alike, firstTwin, Listed}
+use Rattle.twins_scratch.proofs.Shown.{is-record, is-refused}
+use Rattle.twins.proofs.Marking.{first-alike}
 use Rattle.cleanup.specs.CleanUp.{Covered, Copy, ByDemand3, coveredPair, covered, byDemand3}
 use Rattle.cleanup.proofs.Theorem.{one-picture, marked-first, clean-up}
 

@@ -19,8 +19,9 @@ use Rattle.bc6.proofs.Calls.{done-when, infinities-told}
 use Rattle.records.specs.Store.{recordsIn, formatOf, tileAt, blockOf, recordRefusal, Unrefused, partAt}
 use Rattle.records.proofs.Refusals.{known, block-length}
 use Rattle.records.proofs.Readings.{part-of}
-use Rattle.twins.specs.Twins.{pictureAt, listRefusal}
-use Rattle.twins.proofs.Keeping.{record-painted, whole-picture}
+use Rattle.twins_scratch.specs.Shown.{pictureAt}
+use Rattle.twins.specs.Twins.{listRefusal}
+use Rattle.twins_scratch.proofs.Shown.{record-painted, whole-picture}
 use Rattle.text.specs.Text.{field, refusalLine, Written}
 use Rattle.text.proofs.Texts.{then, said}
 use Rattle.listing_text.specs.Listing.{mostRecords}

@@ -4,10 +4,9 @@ use mathlib.Core.List.{List, [], _∷_}
 use Prim.Native.Nat.{ℕ, zero, suc, _+_, _*_, _<_, _≤_}
 use native.Mathlib.Omega.{arith}
 use lib.Dec.{eqb}
-use lib.ListN.{length}
 use borrow.Author.Tests.{eqb-true, eqb-false}
 use Rattle.laws.proofs.Tests.{cases}
-use Rattle.bc6h_spec.specs.Answers.{done, reservedBlock}
+use Rattle.bc6h_spec.specs.Answers.{done}
 use Rattle.bc6.specs.declared.Pixels.{Pixels}
 use Rattle.bc6.specs.Call.{Painted}
 use Rattle.bc6_blocks.specs.declared.BlocksPixels.{BlocksPixels}
@@ -21,10 +20,9 @@ use Rattle.records.proofs.Readings.{unrefused, refused}
 use Rattle.twins.specs.declared.TwinList.{TwinList}
 use Rattle.twins.specs.Twins.{refusal, Listed}
 use Rattle.twins.proofs.Listing.{refused-alone, counts-add-up, whole}
-use Rattle.strict.specs.declared.StrictList.{StrictList}
 use Rattle.strict.specs.Strict.{StrictlyListed}
 use Rattle.strict.proofs.Strictness as strict
-use Rattle.knotpasture.specs.Packed.{pixelsWord, PixelsCalled, RunCalled, wordAt, readingWord, offsetAt, twinsWord, TwinsCalled, strictWord, StrictCalled}
+use Rattle.knotpasture.specs.Packed.{pixelsWord, PixelsCalled, RunCalled, wordAt, readingWord, offsetAt, twinsWord, TwinsCalled, StrictCalled}
 
 -- ---- the pixels call
 
@@ -88,7 +86,7 @@ module _ {store : List ℕ} {n : ℕ} {x : RecordReading} (d : Read store n x) w
 
 -- ---- the twin lists
 
-no-counts : {number : ℕ} {list : TwinList} → list ≡ refusal number → list .kept + list .twins + list .bad ≤ 2000
+pub no-counts : {number : ℕ} {list : TwinList} → list ≡ refusal number → list .kept + list .twins + list .bad ≤ 2000
 no-counts e = rw e (omega arith)
 
 module _ {store lent after : List ℕ} {r : TwinList} (d : Listed store lent r after) where
@@ -103,24 +101,18 @@ module _ {store lent after : List ℕ} {r : TwinList} (d : Listed store lent r a
   few =
       cases (eqb (r .answer) done) (λ z. few-done (eqb-true _ _ z)) (λ f. no-counts (refused-alone d (eqb-false _ _ f)))
 
-module _ {store lent after : List ℕ} {r : StrictList} (d : StrictlyListed store lent r after) where
-  pub strict-called : {word : ℕ} → word ≡ strictWord r → StrictCalled store lent word after
-  strict-called e = record { answers = e ∙ ap strictWord (d .answers); holds = d .holds }
+module _ {store lent after : List ℕ} {r : TwinList} (d : StrictlyListed store lent r after) where
+  pub strict-called : {word : ℕ} → word ≡ twinsWord r → StrictCalled store lent word after
+  strict-called e = record { answers = e ∙ ap twinsWord (d .answers); holds = d .holds }
 
-  pub strict-few : r .list .kept + r .list .twins + r .list .bad ≤ 2000
+  pub strict-few : r .kept + r .twins + r .bad ≤ 2000
   strict-few =
-      cases (eqb (r .list .answer) done) (λ z. few (strict.list-is d (eqb-true _ _ z)))
+      cases (eqb (r .answer) done) (λ z. few (strict.list-is d (eqb-true _ _ z)))
       (λ f. no-counts (strict.refused-alone d (eqb-false _ _ f)))
 
-  pub strict-number : r .list .answer ≤ reservedBlock
-  strict-number = rw (strict.answer-number d) (strict.refusal-small store (length lent))
-
-  -- and so is the number of the first damaged record
-  pub first-few : r .reserved ≤ 2000
-  first-few =
-      cases (eqb (r .list .answer) reservedBlock)
-      (λ z. let k = known store (r .reserved) (strict.told-damaged d (eqb-true _ _ z) .unrefused) in omega arith)
-      (λ f. let e = strict.told-none d (eqb-false _ _ f) in omega arith)
+  -- a refusal's word is its number: no count in it is other than 0
+  pub strict-word-alone : {word : ℕ} → word ≡ twinsWord r → (r .answer ≡ done → ⊥) → word ≡ r .answer
+  strict-word-alone e n = e ∙ ap twinsWord (strict.refused-alone d n) ∙ omega arith
 
 pub one-list : {store lent : List ℕ} {r s : ℕ} {a b : List ℕ} → TwinsCalled store lent r a → TwinsCalled store lent s b → (r ≡ s) × (a ≡ b)
 one-list d e = (d .answers ∙ sym (e .answers), d .holds ∙ sym (e .holds))

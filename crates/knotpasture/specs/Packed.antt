@@ -14,10 +14,9 @@ use Rattle.bc6.specs.Call.{refusalOf, answerAt, valuesAt}
 use Rattle.bc6_blocks.specs.Run.{runRefusal, runAnswer, runValues}
 use Rattle.records.specs.Store.{recordSize, headSize, tileOf, formatOf, recordRefusal}
 use Rattle.twins.specs.declared.TwinList.{TwinList}
-use Rattle.strict.specs.declared.StrictList.{StrictList}
 use Rattle.twins.specs.Twins.{listRefusal, marksAt}
 use Rattle.twins.specs.Twins as twins
-use Rattle.strict.specs.Strict.{strictRefusal, strictAnswerAt, strictMarksAt}
+use Rattle.strict.specs.Strict.{strictRefusal}
 
 -- two bytes, the first the lowest
 abbrev pub twoBytes : ℕ → ℕ → ℕ
@@ -82,11 +81,7 @@ pub record TwinsCalled (store lent : List ℕ) (r : ℕ) (after : List ℕ) : Ty
   pub answers : r ≡ twinsWord (twins.answerAt (listRefusal (length store) (length lent)) store)
   pub holds : after ≡ marksAt (listRefusal (length store) (length lent)) store lent
 
--- the same; and in the lowest of the three fields, which a refusal leaves free, the first damaged record
-abbrev pub strictWord : StrictList → ℕ
-strictWord strict = twinsWord (strict .list) + strict .reserved * 0x10000
-
--- The strict twin list: its answer in one word, and the lent marks as the call leaves them.
+-- The strict twin list: its answer in one word, and the lent marks as the call leaves them. No count of a refusal's word is other than 0.
 pub record StrictCalled (store lent : List ℕ) (r : ℕ) (after : List ℕ) : Type 0 where
-  pub answers : r ≡ strictWord (strictAnswerAt (strictRefusal store (length lent)) store)
-  pub holds : after ≡ strictMarksAt (strictRefusal store (length lent)) store lent
+  pub answers : r ≡ twinsWord (twins.answerAt (strictRefusal store (length lent)) store)
+  pub holds : after ≡ marksAt (strictRefusal store (length lent)) store lent

@@ -1,4 +1,6 @@
 // The public calls for C and Rust, as include/knotpasture.h declares them. A slice is a pointer and a length.
+pub mod stores;
+
 use bc6_numbers::Numbers;
 use bc6h_spec::Answer;
 use records::Record;
@@ -119,8 +121,7 @@ pub extern "C" fn knot_twin_list(store: &[u8], marks: &mut [u8]) -> u64
 pub extern "C" fn knot_strict_twin_list(store: &[u8], marks: &mut [u8]) -> u64
     ensures { λ r. ⌜ StrictCalled (now (store .entry)) (now (marks .entry)) r (now (marks .exit)) ⌝ }
 {
-    let strict = strict::strict_twin_list(store, marks);
-    list_word(strict.list) + (strict.reserved as u64) * 0x10000
+    list_word(strict::strict_twin_list(store, marks))
 }
 
 #[no_mangle]

@@ -11,9 +11,9 @@ use Rattle.bc6h_spec.specs.Answers.{done}
 use Rattle.bc6h_spec.specs.Fields.{modeOf}
 use Rattle.records.specs.Store.{recordsIn, tileAt, blockOf, recordRefusal, Unrefused}
 use Rattle.twins.specs.declared.TwinList.{TwinList}
-use Rattle.twins.specs.Twins.{pictureAt, keptMark, twinMark, badMark, markAt, marksOf, listRefusal, answerAt, Listed}
+use Rattle.twins_scratch.specs.Shown.{pictureAt}
+use Rattle.twins.specs.Twins.{keptMark, twinMark, badMark, markAt, marksOf, listRefusal, answerAt, Listed}
 use Rattle.twins.proofs.Listing as listed
-use Rattle.strict.specs.declared.StrictList.{StrictList}
 use Rattle.strict.specs.Strict.{strictRefusal, StrictlyListed}
 use Rattle.strict.proofs.Strictness as strictly
 use Rattle.text.specs.Text.{field, refusalLine, Written}
@@ -68,7 +68,7 @@ module _ (store : List ℕ) where
 -- ---- the store's answer
 
 module _ {store lent after : List ℕ} {strict : Bool} (room : length lent ≡ mostRecords) where
-  pub strict-number : {r : StrictList} → strict ≡ true → StrictlyListed store lent r after → r .list .answer ≡ listingRefusal strict store
+  pub strict-number : {r : TwinList} → strict ≡ true → StrictlyListed store lent r after → r .answer ≡ listingRefusal strict store
   unfolding listingRefusal
   strict-number s d = strictly.answer-number d ∙ rw (s, room)
 

@@ -8,7 +8,8 @@ use Rattle.laws.specs.Pick.{pick}
 use Rattle.laws.specs.Made.{made, countOf, join}
 use Rattle.bc6h_spec.specs.Fields.{modeOf}
 use Rattle.records.specs.Store.{recordsIn, tileAt, blockOf, recordRefusal}
-use Rattle.twins.specs.Twins.{pictureAt, keptMark, twinMark, badMark, markAt, marksOf, listRefusal}
+use Rattle.twins_scratch.specs.Shown.{pictureAt}
+use Rattle.twins.specs.Twins.{keptMark, twinMark, badMark, markAt, marksOf, listRefusal}
 use Rattle.strict.specs.Strict.{strictRefusal}
 use Rattle.text.specs.Text.{blank, lineFeed, decimal, hex, field, refusalLine}
 

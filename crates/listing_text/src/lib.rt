@@ -5,7 +5,8 @@ ghost use Prim.Native.Nat.{_+_, _*_, _≤_, _<_};
 ghost use lib.ListN.{length, getD};
 ghost use Rattle.bc6h_spec.specs.Answers.{done};
 ghost use Rattle.records.specs.Store.{recordsIn, formatOf, Unrefused};
-ghost use Rattle.twins.specs.Twins.{pictureAt, markAt, marksOf, Listed};
+ghost use Rattle.twins_scratch.specs.Shown.{pictureAt};
+ghost use Rattle.twins.specs.Twins.{markAt, Listed};
 ghost use Rattle.text.specs.Text.{Written};
 ghost use Rattle.listing_text.specs.Listing.{tripleOf, shownRest, refusedRest, lineOf, linesOf, countsLine, mostRecords, listingRefusal, listingOf, Marks};
 use bc6::block_pixels;
@@ -23,8 +24,8 @@ use text::put_field;
 use text::put_hex;
 use text::put_refusal;
 use twins::TwinList;
-use twins::mode_at;
 use twins::twin_list;
+use twins_scratch::mode_at;
 
 pub struct Listing {
     pub end: usize,
@@ -139,8 +140,7 @@ fn list_records(store: &[u8], marks: &mut [u8], strict: bool) -> TwinList
     ensures { λ r. ⌜ (r .answer ≡ done → Listed (now (store .entry)) (now (marks .entry)) r (now (marks .exit))) ⌝ }
 {
     if strict {
-        let answer = strict_twin_list(store, marks);
-        return answer.list;
+        return strict_twin_list(store, marks);
     }
     twin_list(store, marks)
 }

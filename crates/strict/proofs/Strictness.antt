@@ -7,20 +7,18 @@ use Prim.Native.Nat.{ℕ, zero, suc, _≤_, _<_}
 use native.Mathlib.Omega.{arith}
 use lib.Dec.{eqb, ltb}
 use lib.ListN.{length}
-use borrow.Author.Tests.{lt-ltb, le-ltb, eq-eqb, ne-eqb, ltb-true, eqb-true}
-use Rattle.laws.specs.Pick.{pick, both}
-use Rattle.laws.specs.First.{firstBelow}
+use borrow.Author.Tests.{lt-ltb, le-ltb, eq-eqb, ltb-true, eqb-true}
 use Rattle.laws.proofs.Tests.{cases, both-true}
-use Rattle.laws.proofs.Firsts.{first-passes, first-least}
+use Rattle.laws.proofs.Firsts.{first-most, first-passes, first-least, first-never}
 use Rattle.bc6h_spec.specs.Answers.{done, unevenStore, reservedBlock}
 use Rattle.bc6h_spec.specs.Fields.{modeOf}
-use Rattle.records.specs.Store.{recordsIn, blockOf, Unrefused}
+use Rattle.records.specs.Store.{storeLimit, recordsIn, blockOf, Unrefused}
 use Rattle.records.proofs.Refusals.{known}
 use Rattle.twins.specs.declared.TwinList.{TwinList}
-use Rattle.strict.specs.declared.StrictList.{StrictList}
-use Rattle.twins.specs.Twins.{isRecord, isReserved, listRefusal, refusal, Listed}
-use Rattle.strict.specs.Strict.{Damaged, damaged, firstDamaged, orDamaged, strictRefusal, strictlyRefused, strictAnswerAt, StrictlyListed}
-use Rattle.twins.proofs.Marking.{is-record, is-refused}
+use Rattle.twins_scratch.specs.Shown.{isRecord}
+use Rattle.twins.specs.Twins.{listRefusal, refusal, answerAt, Listed}
+use Rattle.strict.specs.Strict.{Damaged, damaged, firstDamaged, orDamaged, strictRefusal, StrictlyListed}
+use Rattle.twins_scratch.proofs.Shown.{is-record, is-refused}
 use Rattle.twins.proofs.Listing as ordinary
 
 -- ---- damaged records
@@ -49,9 +47,25 @@ module _ (store : List ℕ) where
   unfolding firstDamaged
   first-damaged h = damaged-means store _ (first-passes (damaged store) (recordsIn store) h)
 
+  pub first-few : firstDamaged store ≤ recordsIn store
+  unfolding firstDamaged
+  first-few = first-most (damaged store) (recordsIn store)
+
   pub no-earlier : (n : ℕ) → Damaged store n → firstDamaged store ≤ n
   unfolding firstDamaged
   no-earlier n d = first-least (damaged store) (recordsIn store) n (known store n (d .unrefused) .below) (damaged-so store n d)
+
+  -- where it is the number of all records, none is damaged; so it is of a store that is too long
+  pub none-damaged : firstDamaged store ≡ recordsIn store → (n : ℕ) → Damaged store n → ⊥
+  none-damaged e n d = omega (arith, e, no-earlier n d, known store n (d .unrefused) .below)
+
+  pub long-none : storeLimit < length store → recordsIn store ≡ firstDamaged store
+  unfolding firstDamaged
+  long-none h =
+      sym (first-never (damaged store) (λ k. sym (damaged-refused store k (λ u. omega (arith, h, known store k u .fits)))) (recordsIn store))
+
+  pub one-first : {a b : ℕ} → a ≡ firstDamaged store → b ≡ firstDamaged store → a ≡ b
+  one-first d e = d ∙ sym e
 
 -- ---- the checks and the statement, at each return
 
@@ -70,26 +84,22 @@ module _ (store lent : List ℕ) where
   unfolding strictRefusal
   strict-fine e h = rw (e, le-ltb _ _ h)
 
-  pub strictly-refused : (number : ℕ) {r : StrictList} → number ≡ listRefusal (length store) (length lent) → (number ≡ done → ⊥)
-      → r ≡ strictlyRefused number 0 → StrictlyListed store lent r lent
+  pub strictly-refused : (number : ℕ) {r : TwinList} → number ≡ listRefusal (length store) (length lent) → (number ≡ done → ⊥)
+      → r ≡ refusal number → StrictlyListed store lent r lent
   strictly-refused zero e z q = absurd (z refl)
-  strictly-refused (suc number) e z q =
-      let s = strict-refusal number (sym e) in
-      let f : eqb (suc number) reservedBlock ≡ false = ne-eqb (suc number) reservedBlock (λ t. omega (arith, ordinary.refusal-small (length store) (length lent), e, t)) in
-      record { answers = q ∙ rw (s, f); holds = rw s }
+  strictly-refused (suc number) e z q = let s = strict-refusal number (sym e) in record { answers = rw s q; holds = rw s }
 
-  pub strictly-damaged : {r : StrictList} {first : ℕ} → listRefusal (length store) (length lent) ≡ done → first ≡ firstDamaged store
-      → first < recordsIn store → r ≡ strictlyRefused reservedBlock first → StrictlyListed store lent r lent
+  pub strictly-damaged : {r : TwinList} {first : ℕ} → listRefusal (length store) (length lent) ≡ done → first ≡ firstDamaged store
+      → first < recordsIn store → r ≡ refusal reservedBlock → StrictlyListed store lent r lent
   strictly-damaged {r} {first} e q h a =
       let s = strict-damaged e (rw q at h) in
-      record { answers = a ∙ rw (s, q); holds = rw s }
+      record { answers = rw s a; holds = rw s }
 
-  pub strictly-done : {list : TwinList} {after : List ℕ} {first : ℕ} → listRefusal (length store) (length lent) ≡ done
-      → first ≡ firstDamaged store → recordsIn store ≤ first → Listed store lent list after
-      → StrictlyListed store lent (record { list = list; reserved = 0 }) after
-  strictly-done {list} {after} {first} e q h d =
+  pub strictly-done : {r : TwinList} {after : List ℕ} {first : ℕ} → listRefusal (length store) (length lent) ≡ done
+      → first ≡ firstDamaged store → recordsIn store ≤ first → Listed store lent r after → StrictlyListed store lent r after
+  strictly-done {r} {after} {first} e q h d =
       let s = strict-fine e (rw q at h) in
-      record { answers = rw (s, d .answers, e); holds = rw (s, d .holds, e) }
+      record { answers = rw s (rw e at (d .answers)); holds = rw s (rw e at (d .holds)) }
 
 -- ---- what it says
 
@@ -101,7 +111,7 @@ refusal-small store room = go (listRefusal (length store) room) (ordinary.refusa
     go zero l = cases (ltb (firstDamaged store) (recordsIn store)) (λ t. rw t (omega arith)) (λ f. rw f (omega arith))
     go (suc k) l = omega arith
 
-strict-answer : (k : ℕ) (store : List ℕ) → strictAnswerAt k store .list .answer ≡ k
+strict-answer : (k : ℕ) (store : List ℕ) → answerAt k store .answer ≡ k
 strict-answer zero store = refl
 strict-answer (suc k) store = refl
 
@@ -112,27 +122,24 @@ fine-means store lent e = go (listRefusal (length store) (length lent)) refl
     go zero q = refl
     go (suc k) q = absurd (omega (arith, sym (strict-refusal store lent k q) ∙ e))
 
-module _ {store lent after : List ℕ} {r : StrictList} (d : StrictlyListed store lent r after) where
-  pub one-outcome : {s : StrictList} {other : List ℕ} → StrictlyListed store lent s other → (r ≡ s) × (after ≡ other)
+module _ {store lent after : List ℕ} {r : TwinList} (d : StrictlyListed store lent r after) where
+  pub one-outcome : {s : TwinList} {other : List ℕ} → StrictlyListed store lent s other → (r ≡ s) × (after ≡ other)
   one-outcome e = (d .answers ∙ sym (e .answers), d .holds ∙ sym (e .holds))
 
-  pub answer-number : r .list .answer ≡ strictRefusal store (length lent)
-  answer-number = ap (λ (x : StrictList). x .list .answer) (d .answers) ∙ strict-answer (strictRefusal store (length lent)) store
+  pub answer-number : r .answer ≡ strictRefusal store (length lent)
+  answer-number = ap (λ (x : TwinList). x .answer) (d .answers) ∙ strict-answer (strictRefusal store (length lent)) store
 
   -- where it is done, what it answers and leaves is what the ordinary list does
-  module _ (z : r .list .answer ≡ done) where
+  module _ (z : r .answer ≡ done) where
     strict-done : strictRefusal store (length lent) ≡ done
     strict-done = sym answer-number ∙ z
 
-    pub list-is : Listed store lent (r .list) after
+    pub list-is : Listed store lent r after
     list-is =
         let e = fine-means store lent strict-done in
-        record {
-          answers = ap (λ (x : StrictList). x .list) (d .answers) ∙ rw (strict-done, e);
-          holds = d .holds ∙ rw (strict-done, e);
-        }
+        record { answers = d .answers ∙ rw (strict-done, e); holds = d .holds ∙ rw (strict-done, e) }
 
-    pub ordinary-list : {list : TwinList} {marks : List ℕ} → Listed store lent list marks → (r .list ≡ list) × (after ≡ marks)
+    pub ordinary-list : {list : TwinList} {marks : List ℕ} → Listed store lent list marks → (r ≡ list) × (after ≡ marks)
     ordinary-list e = ordinary.one-outcome list-is e
 
     -- and then no record is damaged
@@ -144,28 +151,27 @@ module _ {store lent after : List ℕ} {r : StrictList} (d : StrictlyListed stor
         let h : firstDamaged store < recordsIn store = omega arith in
         omega (arith, sym (strict-damaged store lent (fine-means store lent strict-done) h) ∙ strict-done)
 
-  -- where it is not done, every count is zero and no mark is changed
-  pub refused-alone : (r .list .answer ≡ done → ⊥) → r .list ≡ refusal (r .list .answer)
-  refused-alone n =
-      ap (λ (x : StrictList). x .list) (d .answers) ∙ go (strictRefusal store (length lent)) refl ∙ ap refusal (sym answer-number)
+  -- where it is not done, it is its number alone: every count is zero and no mark is changed
+  pub refused-alone : (r .answer ≡ done → ⊥) → r ≡ refusal (r .answer)
+  refused-alone n = d .answers ∙ go (strictRefusal store (length lent)) refl ∙ ap refusal (sym answer-number)
     where
-      go : (k : ℕ) → strictRefusal store (length lent) ≡ k → strictAnswerAt k store .list ≡ refusal k
+      go : (k : ℕ) → strictRefusal store (length lent) ≡ k → answerAt k store ≡ refusal k
       go zero q = absurd (n (answer-number ∙ q))
       go (suc k) q = refl
 
-  pub silent : (r .list .answer ≡ done → ⊥) → after ≡ lent
+  pub silent : (r .answer ≡ done → ⊥) → after ≡ lent
   silent n = go (strictRefusal store (length lent)) refl
     where
       go : (k : ℕ) → strictRefusal store (length lent) ≡ k → after ≡ lent
       go zero q = absurd (n (answer-number ∙ q))
       go (suc k) q = rw q at (d .holds)
 
-  -- 12 says that the record it names is damaged, and none before it; no other number names one
-  module _ (z : r .list .answer ≡ reservedBlock) where
+  -- 12 says that a record is damaged: `first_damaged` then names one, and none before it is
+  module _ (z : r .answer ≡ reservedBlock) where
     strict-12 : strictRefusal store (length lent) ≡ reservedBlock
     strict-12 = sym answer-number ∙ z
 
-    some-damaged : firstDamaged store < recordsIn store
+    pub some-damaged : firstDamaged store < recordsIn store
     unfolding strictRefusal
     some-damaged = go (listRefusal (length store) (length lent)) refl
       where
@@ -175,23 +181,12 @@ module _ {store lent after : List ℕ} {r : StrictList} (d : StrictlyListed stor
             let l = ordinary.refusal-small (length store) (length lent) in
             absurd (omega (arith, sym (strict-refusal store lent k q) ∙ strict-12))
 
-    reserved-is : r .reserved ≡ firstDamaged store
-    reserved-is = ap (λ (x : StrictList). x .reserved) (d .answers) ∙ rw strict-12
+    pub told-damaged : {first : ℕ} → first ≡ firstDamaged store → Damaged store first
+    told-damaged e = rw e (first-damaged store some-damaged)
 
-    pub told-damaged : Damaged store (r .reserved)
-    told-damaged = rw reserved-is (first-damaged store some-damaged)
-
-    pub told-first : (n : ℕ) → Damaged store n → r .reserved ≤ n
-    told-first n b = rw reserved-is (no-earlier store n b)
-
-  pub told-none : (r .list .answer ≡ reservedBlock → ⊥) → r .reserved ≡ 0
-  told-none n = go (strictRefusal store (length lent)) refl
-    where
-      go : (k : ℕ) → strictRefusal store (length lent) ≡ k → r .reserved ≡ 0
-      go zero q = ap (λ (x : StrictList). x .reserved) (d .answers) ∙ rw q
-      go (suc k) q =
-          ap (λ (x : StrictList). x .reserved) (d .answers) ∙ rw (q, ne-eqb (suc k) reservedBlock (λ t. n (answer-number ∙ q ∙ t)))
+    pub told-first : {first : ℕ} → first ≡ firstDamaged store → (n : ℕ) → Damaged store n → first ≤ n
+    told-first e n b = rw e (no-earlier store n b)
 
   -- a store with a damaged record is refused, whatever else
-  pub damaged-refuses : (n : ℕ) → Damaged store n → r .list .answer ≡ done → ⊥
+  pub damaged-refuses : (n : ℕ) → Damaged store n → r .answer ≡ done → ⊥
   damaged-refuses n b z = undamaged z n b

@@ -1,4 +1,3 @@
-pub mod Keeping
 pub mod Marking
 pub mod Listing
 pub mod Reserved

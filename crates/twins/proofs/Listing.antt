@@ -16,7 +16,8 @@ use Rattle.laws.proofs.Counts.{count-three}
 use Rattle.bc6h_spec.specs.Answers.{done, shortOutput, longStore, unevenStore}
 use Rattle.records.specs.Store.{recordSize, storeLimit, recordsIn}
 use Rattle.twins.specs.declared.TwinList.{TwinList}
-use Rattle.twins.specs.Twins.{Marked, keptMark, twinMark, badMark, firstTwin, markAt, marksOf, listRefusal, refusal, answerAt, marksAt, Listed}
+use Rattle.twins_scratch.specs.Scratch.{entrySize, scratchOf}
+use Rattle.twins.specs.Twins.{Marked, keptMark, twinMark, badMark, markAt, marksOf, listRefusal, refusal, answerAt, marksAt, Listed, firstMet, scratchRefusal, scratchAt, ListedIn}
 use Rattle.twins.proofs.Marking.{mark-small, mark-is}
 
 -- ---- the checks
@@ -146,3 +147,96 @@ whole-when {size} {lent} e z = whole-by size lent (sym e ∙ z)
 
 pub whole : {store lent after : List ℕ} {r : TwinList} → Listed store lent r after → r .answer ≡ done → Whole (length store) (length lent)
 whole {store} {lent} d z = whole-by (length store) (length lent) (sym (answer-number d) ∙ z)
+
+-- ---- over lent scratch space
+
+module _ (size room space : ℕ) where
+  pub met-first : (number : ℕ) → listRefusal size room ≡ number → (number ≡ done → ⊥) → scratchRefusal size room space ≡ number
+  unfolding scratchRefusal
+  met-first zero e z = absurd (z refl)
+  met-first (suc k) e z = rw e
+
+  pub met-next : listRefusal size room ≡ done → scratchRefusal size room space ≡ listRefusal size (space / entrySize)
+  unfolding scratchRefusal
+  met-next e = rw e
+
+  -- a done list's store is whole, and its marks and what is kept of it have room
+  pub record Roomy : Type 0 where
+    pub marks-fit : Whole size room
+    pub records-fit : Whole size (space / entrySize)
+
+  roomy-by : scratchRefusal size room space ≡ done → Roomy
+  roomy-by z = go (listRefusal size room) refl
+    where
+      go : (k : ℕ) → listRefusal size room ≡ k → Roomy
+      go zero q = record { marks-fit = whole-by size room q; records-fit = whole-by size (space / entrySize) (sym (met-next q) ∙ z) }
+      go (suc k) q = absurd (omega (arith, sym (met-first (suc k) q (λ e. omega arith)) ∙ z))
+
+pub roomy-when : {size room space number : ℕ} → number ≡ scratchRefusal size room space → number ≡ done → Roomy size room space
+roomy-when {size} {room} {space} e z = roomy-by size room space (sym e ∙ z)
+
+module _ (store lent space : List ℕ) where
+  pub listed-in-refused : (number : ℕ) {r : TwinList} → number ≡ scratchRefusal (length store) (length lent) (length space) → (number ≡ done → ⊥)
+      → r ≡ refusal number → ListedIn store lent space r lent space
+  listed-in-refused zero a z e = absurd (z refl)
+  listed-in-refused (suc k) a z e = let s = sym a in record { answers = rw s e; holds = rw s; leaves = rw s }
+
+  pub listed-in-done : {after spaceAfter : List ℕ} {kept twins bad : ℕ} → scratchRefusal (length store) (length lent) (length space) ≡ done
+      → spaceAfter ≡ scratchOf store space
+      → after ≡ marksOf store ++ drop (recordsIn store) lent → kept ≡ countOf keptMark (take (recordsIn store) after)
+      → twins ≡ countOf twinMark (take (recordsIn store) after) → bad ≡ countOf badMark (take (recordsIn store) after)
+      → ListedIn store lent space (record { answer = done; kept = kept; twins = twins; bad = bad }) after spaceAfter
+  listed-in-done a s e k t b = record { answers = rw (a, k, t, b, front store lent e); holds = rw a e; leaves = rw a s }
+
+module _ {store lent space after spaceAfter : List ℕ} {r : TwinList} (d : ListedIn store lent space r after spaceAfter) where
+  pub one-outcome-in : {s : TwinList} {other spaceOther : List ℕ} → ListedIn store lent space s other spaceOther
+      → (r ≡ s) × (after ≡ other) × (spaceAfter ≡ spaceOther)
+  one-outcome-in e = (d .answers ∙ sym (e .answers), d .holds ∙ sym (e .holds), d .leaves ∙ sym (e .leaves))
+
+  pub answer-number-in : r .answer ≡ scratchRefusal (length store) (length lent) (length space)
+  answer-number-in =
+      ap (λ (x : TwinList). x .answer) (d .answers) ∙ answer-is (scratchRefusal (length store) (length lent) (length space)) store
+
+  -- a refusal is its number alone, and nothing that is lent changes
+  pub record Silent : Type 0 where
+    pub alone : r ≡ refusal (r .answer)
+    pub same-marks : after ≡ lent
+    pub same-space : spaceAfter ≡ space
+
+  pub silent-in : (r .answer ≡ done → ⊥) → Silent
+  silent-in n = go (scratchRefusal (length store) (length lent) (length space)) refl
+    where
+      go : (k : ℕ) → scratchRefusal (length store) (length lent) (length space) ≡ k → Silent
+      go zero q = absurd (n (answer-number-in ∙ q))
+      go (suc k) q =
+          record {
+            alone = rw q at (d .answers) ∙ ap refusal (sym (answer-number-in ∙ q));
+            same-marks = rw q at (d .holds);
+            same-space = rw q at (d .leaves);
+          }
+
+  -- where it is done, what it answers and marks is what the ordinary list does
+  pub list-is : r .answer ≡ done → Listed store lent r after
+  list-is z =
+      let k = sym answer-number-in ∙ z in
+      let w = roomy-by (length store) (length lent) (length space) k .marks-fit in
+      let l = fine (length store) (length lent) (w .fits) (w .even) (w .room) in
+      record { answers = d .answers ∙ rw (k, l); holds = d .holds ∙ rw (k, l) }
+
+  pub ordinary-list : r .answer ≡ done → {list : TwinList} {marks : List ℕ} → Listed store lent list marks → (r ≡ list) × (after ≡ marks)
+  ordinary-list z e = one-outcome (list-is z) e
+
+  -- scratch space for as many records as any store has is never too small
+  pub listed-by : length space ≡ 2000 * entrySize → Listed store lent r after
+  listed-by l =
+      let e = enough (listRefusal (length store) (length lent)) refl in
+      record { answers = d .answers ∙ rw e; holds = d .holds ∙ rw e }
+    where
+      enough : (k : ℕ) → listRefusal (length store) (length lent) ≡ k
+          → scratchRefusal (length store) (length lent) (length space) ≡ listRefusal (length store) (length lent)
+      enough zero q =
+          let w = whole-by (length store) (length lent) q in
+          met-next (length store) (length lent) (length space) q
+          ∙ fine (length store) (length space / entrySize) (w .fits) (w .even) (let h = w .fits in omega (arith, l))
+          ∙ sym q
+      enough (suc k) q = met-first (length store) (length lent) (length space) (suc k) q (λ e. omega arith) ∙ sym q

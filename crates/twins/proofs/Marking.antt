@@ -17,17 +17,11 @@ use Rattle.bc6h_spec.specs.Answers.{done}
 use Rattle.bc6h_spec.specs.Fields.{modeOf}
 use Rattle.bc6h_spec.specs.Picture.{valueCount}
 use Rattle.records.specs.Store.{recordsIn, formatOf, blockOf, recordRefusal, Unrefused}
-use Rattle.twins.specs.Twins.{pictureAt, Reserved, Alike, Twin, Marked, keptMark, twinMark, badMark, isRecord, isReserved, holding, showing, alike, firstTwin, markAt}
-use Rattle.twins.specs.Kept.{pictureIn, kindAt, printOf, Pictured, Decoded}
-use Rattle.twins.proofs.Keeping.{whole-picture, kind-format}
-
--- ---- which records are refused
-
-pub is-record : (store : List ℕ) (n : ℕ) → Unrefused store n → isRecord store n ≡ true
-is-record store n u = eq-eqb _ _ u
-
-pub is-refused : (store : List ℕ) (n : ℕ) → (Unrefused store n → ⊥) → isRecord store n ≡ false
-is-refused store n r = ne-eqb _ _ r
+use Rattle.twins_scratch.specs.Shown.{pictureAt, Reserved, isRecord, isReserved}
+use Rattle.twins_scratch.specs.Scratch.{pictureIn, kindAt, printOf, Pictured, Kept}
+use Rattle.twins_scratch.proofs.Shown.{is-record, is-refused, whole-picture}
+use Rattle.twins_scratch.proofs.Keeping.{kind-format}
+use Rattle.twins.specs.Twins.{Alike, Twin, Marked, keptMark, twinMark, badMark, holding, showing, alike, firstTwin, markAt}
 
 -- ---- which records hold a picture
 
@@ -131,8 +125,9 @@ module _ (store : List ℕ) (n earlier : ℕ) where
     pub other-kept : holding store earlier format ≡ false → false ≡ alike store n earlier
     other-kept e = sym (alike-showing u z ∙ showing-none store earlier (formatOf store n) (pictureAt store n) (rw f at e))
 
-    pub alike-kept : {pictures a b : List ℕ} {r : Bool} → Pictured store (recordsIn store) pictures → holding store earlier format ≡ true
-        → n < recordsIn store → earlier < n → a ≡ pictureIn pictures earlier → b ≡ pictureIn pictures n → r ≡ same a b → r ≡ alike store n earlier
+    pub alike-kept : {scratch a b : List ℕ} {r : Bool} → Pictured store scratch → holding store earlier format ≡ true → n < recordsIn store
+        → earlier < n → a ≡ pictureIn scratch (recordsIn store) earlier → b ≡ pictureIn scratch (recordsIn store) n → r ≡ same a b
+        → r ≡ alike store n earlier
     alike-kept p t h l ea eb e =
         let k : holding store earlier (formatOf store n) ≡ true = rw f at t in
         let v = holding-means store earlier (formatOf store n) k .unrefused in
@@ -155,8 +150,8 @@ same-kind : (store : List ℕ) (n earlier : ℕ) → Alike store n earlier → k
 same-kind store n earlier a = sym (kind-format store earlier (a .earlier-unreserved)) ∙ a .same-format ∙ kind-format store n (a .unreserved)
 
 -- a record with another fingerprint is passed by
-pub alike-other : {store pictures prints : List ℕ} → Decoded store (recordsIn store) pictures prints → (n earlier : ℕ) → n < recordsIn store → earlier < n
-    → (getD prints earlier 0 ≡ getD prints n 0 → ⊥) → alike store n earlier ≡ false
+pub alike-other : {store scratch : List ℕ} → Kept store scratch → (n earlier : ℕ) → n < recordsIn store → earlier < n
+    → (getD scratch earlier 0 ≡ getD scratch n 0 → ⊥) → alike store n earlier ≡ false
 alike-other {store} d n earlier h l other =
     not-so _
     (λ t. let a = alike-means store n earlier t in
@@ -248,3 +243,27 @@ module _ (store : List ℕ) (n : ℕ) where
       (λ f. let h = ltb-false _ _ f in
       m .kept u (λ t. let l = twin-so store n t in let b = t .before in omega arith) ∙ mark-kept u h))
       (λ f. let r = eqb-false _ _ f in m .bad r ∙ mark-bad r)
+
+-- ---- the first record that a twin equals is no twin itself
+
+alike-through : {store : List ℕ} {n middle first : ℕ} → Alike store n middle → Alike store middle first → Alike store n first
+alike-through a b =
+    record {
+      unrefused = a .unrefused;
+      earlier-unrefused = b .earlier-unrefused;
+      same-format = b .same-format ∙ a .same-format;
+      unreserved = a .unreserved;
+      earlier-unreserved = b .earlier-unreserved;
+      same-values = b .same-values ∙ a .same-values;
+    }
+
+pub first-stays : (store : List ℕ) (n : ℕ) → firstTwin store n < n → markAt store (firstTwin store n) ≡ keptMark
+first-stays store n h =
+    let a = first-alike store n h in
+    let e = firstTwin store n in
+    sym (mark-kept store e (a .earlier-unrefused)
+    (cases (ltb (firstTwin store e) e)
+    (λ t. let l : firstTwin store e < e = ltb-true _ _ t in
+    let first : Twin store n = record { earlier = firstTwin store e; before = omega arith; shows = alike-through a (first-alike store e l) } in
+    absurd (omega (arith, twin-so store n first, l)))
+    (λ f. ltb-false _ _ f)))

@@ -4,7 +4,8 @@ use mathlib.Core.List.{List}
 use Prim.Native.Nat.{ℕ}
 use Rattle.bc6h_spec.specs.Fields.{modeOf}
 use Rattle.records.specs.Store.{blockOf}
-use Rattle.twins.specs.Twins.{Reserved, Twin}
+use Rattle.twins_scratch.specs.Shown.{Reserved}
+use Rattle.twins.specs.Twins.{Twin}
 use Rattle.twins.specs.Reserved.{ReservedAlone}
 use Rattle.twins.proofs.Marking.{first-alike, mark-reserved, twin-marked}
 use Rattle.twins.proofs.Listing.{mark-here}

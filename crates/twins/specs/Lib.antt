@@ -1,3 +1,2 @@
 pub mod Twins
-pub mod Kept
 pub mod Reserved

@@ -10,21 +10,12 @@ use Rattle.laws.specs.Every.{same}
 use Rattle.laws.specs.Made.{made, countOf}
 use Rattle.laws.specs.First.{firstBelow}
 use Rattle.bc6h_spec.specs.Answers.{done, shortOutput, longStore, unevenStore}
-use Rattle.bc6h_spec.specs.Fields.{modeOf}
-use Rattle.bc6h_spec.specs.Picture.{isSigned}
-use Rattle.bc6h_spec.specs.Block.{pixelsOf}
-use Rattle.records.specs.Store.{recordSize, storeLimit, recordsIn, formatOf, blockOf, recordRefusal, Unrefused}
+use Rattle.records.specs.Store.{recordSize, storeLimit, recordsIn, formatOf, Unrefused}
+use Rattle.twins_scratch.specs.Shown.{pictureAt, Reserved, isRecord, isReserved}
+use Rattle.twins_scratch.specs.Scratch.{entrySize, scratchOf}
 use Rattle.twins.specs.declared.TwinList.{TwinList}
 
 -- ---- in words
-
--- the 48 values that record n decodes to
-unfoldable pub pictureAt : List ℕ → ℕ → List ℕ
-pictureAt store n = pixelsOf (isSigned (formatOf store n)) (blockOf store n)
-
--- "a reserved block shows zeros but holds no picture"
-abbrev pub Reserved : List ℕ → ℕ → Type 0
-Reserved store n = modeOf (blockOf store n) ≡ 0
 
 -- two unrefused records "of the same format, with the same 48 values, and neither of the two reserved"
 pub record Alike (store : List ℕ) (n earlier : ℕ) : Type 0 where
@@ -60,12 +51,6 @@ pub record Marked (store : List ℕ) (n mark : ℕ) : Type 0 where
   pub kept : Unrefused store n → (Twin store n → ⊥) → mark ≡ keptMark
 
 -- ---- by computing: proofs/ shows that `markAt` is the one number that `Marked` admits
-
-abbrev pub isRecord : List ℕ → ℕ → Bool
-isRecord store n = eqb (recordRefusal store n) done
-
-abbrev pub isReserved : List ℕ → ℕ → Bool
-isReserved store n = eqb (modeOf (blockOf store n)) 0
 
 -- record n holds a picture of the format: it is not refused, of that format and not reserved
 unfoldable pub holding : List ℕ → ℕ → ℕ → Bool
@@ -118,3 +103,24 @@ marksAt (suc number) store lent = lent
 pub record Listed (store lent : List ℕ) (r : TwinList) (after : List ℕ) : Type 0 where
   pub answers : r ≡ answerAt (listRefusal (length store) (length lent)) store
   pub holds : after ≡ marksAt (listRefusal (length store) (length lent)) store lent
+
+-- ---- the call over lent scratch space
+
+-- the first number that is not 0
+abbrev pub firstMet : ℕ → ℕ → ℕ
+firstMet zero next = next
+firstMet (suc number) next = suc number
+
+-- "5, 6, 3", where 3 is also met by scratch space for fewer records than the store has
+unfoldable pub scratchRefusal : ℕ → ℕ → ℕ → ℕ
+scratchRefusal size room space = firstMet (listRefusal size room) (listRefusal size (space / entrySize))
+
+-- a refusal changes no lent value either
+abbrev pub scratchAt : ℕ → List ℕ → List ℕ → List ℕ
+scratchAt zero store lent = scratchOf store lent
+scratchAt (suc number) store lent = lent
+
+pub record ListedIn (store lent space : List ℕ) (r : TwinList) (after spaceAfter : List ℕ) : Type 0 where
+  pub answers : r ≡ answerAt (scratchRefusal (length store) (length lent) (length space)) store
+  pub holds : after ≡ marksAt (scratchRefusal (length store) (length lent) (length space)) store lent
+  pub leaves : spaceAfter ≡ scratchAt (scratchRefusal (length store) (length lent) (length space)) store space

@@ -6,20 +6,21 @@ ghost use Prim.Native.Nat.{_+_, _*_, _≤_, _<_};
 ghost use lib.ListN.{length, drop};
 ghost use Rattle.laws.specs.Every.{same};
 ghost use Rattle.laws.specs.Made.{countOf};
-ghost use Rattle.bc6h_spec.specs.Fields.{modeOf};
 ghost use Rattle.bc6h_spec.specs.Picture.{valueCount};
-ghost use Rattle.records.specs.Store.{recordsIn, formatOf, blockOf, Unrefused};
-ghost use Rattle.twins.specs.Twins.{pictureAt, marks, Reserved, holding, showing, alike, firstTwin, marksOf, listRefusal, refusal, Listed};
-ghost use Rattle.twins.specs.Kept.{pictureIn, kindAt, printOf, Pictured, Decoded};
-use bc6::block_pixels;
-use bc6_fields::extract_mode;
+ghost use Rattle.records.specs.Store.{recordsIn, formatOf, Unrefused};
+ghost use Rattle.twins_scratch.specs.Shown.{Reserved};
+ghost use Rattle.twins_scratch.specs.Scratch.{entrySize, Pictured, Kept};
+ghost use Rattle.twins.specs.Twins.{marks, holding, showing, alike, firstTwin, marksOf, listRefusal, scratchRefusal, refusal, Listed, ListedIn};
 use bc6h_spec::Answer;
 use bc6h_spec::Block;
-use bcn_util::BitStream;
 use records::Record;
 use records::RecordReading;
 use records::record_at;
-use records::record_block;
+use twins_scratch::Scratch;
+use twins_scratch::decode_record;
+use twins_scratch::keep_records;
+use twins_scratch::mode_at;
+use twins_scratch::picture_in;
 
 // What a record is marked with.
 pub struct Mark {
@@ -50,13 +51,10 @@ pub struct TwinList {
 }
 
 impl TwinList {
-    // The most records of a store, and the values of their pictures.
+    // The most records of a store, and the values of scratch space for them.
     pub const RECORDS: usize = Record::STORE / Record::SIZE;
 
-    pub const VALUES: usize = TwinList::RECORDS * Block::VALUES;
-
-    // The kind of a record that holds no picture; that of another is its format.
-    const NO_PICTURE: u64 = 2;
+    pub const SCRATCH: usize = TwinList::RECORDS * Scratch::ENTRY;
 
     pub fn refused(answer: u8) -> TwinList
         ensures { λ r. ⌜ r ≡ refusal answer ⌝ }
@@ -82,56 +80,6 @@ fn same_picture(a: &[u16], b: &[u16]) -> bool
     true
 }
 
-fn wide(value: u16) -> u64
-    ensures { λ r. ⌜ (r ≡ value) × (r < 65536) ⌝ }
-{
-    value as u64
-}
-
-// A number that records of another kind or with other values seldom share, from the three values of each pixel in turn.
-fn fingerprint(kind: u64, picture: &[u16]) -> u64
-    requires { ⌜ length (now picture) ≡ valueCount ⌝ }
-    ensures { λ r. ⌜ r ≡ printOf kind (now (picture .entry)) ⌝ }
-{
-    let mut print: u64 = kind;
-    for pixel in 0..16usize {
-        let at = pixel * 3;
-        let low = wide(picture[at]);
-        let middle = wide(picture[at + 1]);
-        let high = wide(picture[at + 2]);
-        print = print % 0x10000000000 * 0x9E3779 + low + middle * 0x1000 + high * 0x1000000;
-    }
-    print
-}
-
-// The picture of record n among those of all records.
-fn picture_in(pictures: &[u16], n: usize) -> &[u16]
-    requires { ⌜ n * valueCount + valueCount ≤ length (now pictures) ⌝ }
-    ensures { λ r. ⌜ now r ≡ pictureIn (now (pictures .entry)) n ⌝ }
-{
-    let start = n * Block::VALUES;
-    let end = start + Block::VALUES;
-    &pictures[start..end]
-}
-
-// The picture of record n, which is not refused, into the first values of `out`.
-fn decode_record(store: &[u8], n: usize, format: u8, out: &mut [u16])
-    requires { ⌜ Unrefused (now store) n ⌝ }
-    requires { ⌜ format ≡ formatOf (now store) n ⌝ }
-    requires { ⌜ valueCount ≤ length (now out) ⌝ }
-    ensures { λ _. ⌜ now (out .exit) ≡ pictureAt (now (store .entry)) n ++ drop valueCount (now (out .entry)) ⌝ }
-{
-    block_pixels(record_block(store, n), format, out);
-}
-
-// The mode of record n, which is not refused; 0 for a reserved one.
-pub fn mode_at(store: &[u8], n: usize) -> usize
-    requires { ⌜ Unrefused (now store) n ⌝ }
-    ensures { λ r. ⌜ r ≡ modeOf (blockOf (now (store .entry)) n) ⌝ }
-{
-    extract_mode(BitStream::new(record_block(store, n)))
-}
-
 // Record n is not refused, of the format and not reserved.
 fn holds_picture(store: &[u8], n: usize, format: u8) -> bool
     ensures { λ r. ⌜ r ≡ holding (now (store .entry)) n format ⌝ }
@@ -145,58 +93,31 @@ fn holds_picture(store: &[u8], n: usize, format: u8) -> bool
     mode_at(store, n) != 0
 }
 
-// The kind of record n, which is not refused and of the format.
-fn kind_at(store: &[u8], n: usize, format: u8) -> u64
-    requires { ⌜ Unrefused (now store) n ⌝ }
-    requires { ⌜ format ≡ formatOf (now store) n ⌝ }
-    ensures { λ r. ⌜ r ≡ kindAt (now (store .entry)) n ⌝ }
-{
-    if mode_at(store, n) == 0 {
-        return TwinList::NO_PICTURE;
-    }
-    format as u64
-}
-
-// Decodes each record once: its picture, and the picture's fingerprint, at the record's number.
-fn decode_records(store: &[u8], pictures: &mut [u16], prints: &mut [u64])
-    requires { ⌜ recordsIn (now store) * valueCount ≤ length (now pictures) ⌝ }
-    requires { ⌜ recordsIn (now store) ≤ length (now prints) ⌝ }
-    ensures { λ _. ⌜ Decoded (now (store .entry)) (recordsIn (now (store .entry))) (now (pictures .exit)) (now (prints .exit)) ⌝ }
-{
-    let count = store.len() / Record::SIZE;
-    for n in 0..count {
-        let RecordReading::Record(found) = record_at(store, n) else {
-            continue;
-        };
-        let start = n * Block::VALUES;
-        decode_record(store, n, found.format, &mut pictures[start..]);
-        let kind = kind_at(store, n, found.format);
-        prints[n] = fingerprint(kind, picture_in(pictures, n));
-    }
-}
-
 // Record `earlier` holds the picture of record n, which holds one of the format.
-fn kept_alike(store: &[u8], pictures: &[u16], n: usize, format: u8, earlier: usize) -> bool
+fn kept_alike(store: &[u8], scratch: &[u16], n: usize, format: u8, earlier: usize) -> bool
     requires { ⌜ Unrefused (now store) n ⌝ }
     requires { ⌜ format ≡ formatOf (now store) n ⌝ }
     requires { ⌜ (Reserved (now store) n → ⊥) ⌝ }
     requires { ⌜ (n < recordsIn (now store)) × (earlier < n) ⌝ }
-    requires { ⌜ recordsIn (now store) * valueCount ≤ length (now pictures) ⌝ }
-    requires { ⌜ Pictured (now store) (recordsIn (now store)) (now pictures) ⌝ }
+    requires { ⌜ recordsIn (now store) * entrySize ≤ length (now scratch) ⌝ }
+    requires { ⌜ Pictured (now store) (now scratch) ⌝ }
     ensures { λ r. ⌜ r ≡ alike (now (store .entry)) n earlier ⌝ }
 {
     if !holds_picture(store, earlier, format) {
         return false;
     }
-    same_picture(picture_in(pictures, earlier), picture_in(pictures, n))
+    let count = store.len() / Record::SIZE;
+    same_picture(
+        picture_in(scratch, count, earlier),
+        picture_in(scratch, count, n),
+    )
 }
 
-// One mark a record, by the pictures and fingerprints that were kept.
-fn mark_records(store: &[u8], pictures: &[u16], prints: &[u64], marks: &mut [u8])
-    requires { ⌜ recordsIn (now store) * valueCount ≤ length (now pictures) ⌝ }
-    requires { ⌜ recordsIn (now store) ≤ length (now prints) ⌝ }
+// One mark a record, by what scratch space keeps of each.
+fn mark_records(store: &[u8], scratch: &[u16], marks: &mut [u8])
+    requires { ⌜ recordsIn (now store) * entrySize ≤ length (now scratch) ⌝ }
     requires { ⌜ recordsIn (now store) ≤ length (now marks) ⌝ }
-    requires { ⌜ Decoded (now store) (recordsIn (now store)) (now pictures) (now prints) ⌝ }
+    requires { ⌜ Kept (now store) (now scratch) ⌝ }
     ensures { λ _. ⌜ now (marks .exit) ≡ marksOf (now (store .entry)) ++ drop (recordsIn (now (store .entry))) (now (marks .entry)) ⌝ }
 {
     let count = store.len() / Record::SIZE;
@@ -209,13 +130,13 @@ fn mark_records(store: &[u8], pictures: &[u16], prints: &[u64], marks: &mut [u8]
             marks[n] = Mark::KEPT;
             continue;
         }
-        let print = prints[n];
+        let print = scratch[n];
         let mut mark = Mark::KEPT;
         'search: for earlier in 0..n {
-            if prints[earlier] != print {
+            if scratch[earlier] != print {
                 continue 'search;
             }
-            if kept_alike(store, pictures, n, found.format, earlier) {
+            if kept_alike(store, scratch, n, found.format, earlier) {
                 mark = Mark::TWIN;
                 break 'search;
             }
@@ -253,18 +174,27 @@ pub fn list_refusal(store: &[u8], room: usize) -> u8
     Answer::DONE
 }
 
-// Marks the records of a store, one mark a record, and counts the marks of each kind.
-pub fn twin_list(store: &[u8], marks: &mut [u8]) -> TwinList
-    ensures { λ r. ⌜ Listed (now (store .entry)) (now (marks .entry)) r (now (marks .exit)) ⌝ }
+// The same where scratch space has so many values.
+fn scratch_refusal(store: &[u8], room: usize, space: usize) -> u8
+    ensures { λ r. ⌜ r ≡ scratchRefusal (length (now (store .entry))) room space ⌝ }
 {
-    let refusal = list_refusal(store, marks.len());
+    let refusal = list_refusal(store, room);
+    if refusal != Answer::DONE {
+        return refusal;
+    }
+    list_refusal(store, space / Scratch::ENTRY)
+}
+
+// Marks the records of a store, one mark a record, and counts the marks of each kind; what it keeps of the records stands in `scratch`.
+pub fn twin_list_in(store: &[u8], marks: &mut [u8], scratch: &mut [u16]) -> TwinList
+    ensures { λ r. ⌜ ListedIn (now (store .entry)) (now (marks .entry)) (now (scratch .entry)) r (now (marks .exit)) (now (scratch .exit)) ⌝ }
+{
+    let refusal = scratch_refusal(store, marks.len(), scratch.len());
     if refusal != Answer::DONE {
         return TwinList::refused(refusal);
     }
-    let mut pictures = [0u16; TwinList::VALUES];
-    let mut prints = [0u64; TwinList::RECORDS];
-    decode_records(store, &mut pictures, &mut prints);
-    mark_records(store, &pictures, &prints, marks);
+    keep_records(store, scratch);
+    mark_records(store, scratch, marks);
     let made = &marks[..store.len() / Record::SIZE];
     TwinList {
         answer: Answer::DONE,
@@ -272,6 +202,14 @@ pub fn twin_list(store: &[u8], marks: &mut [u8]) -> TwinList
         twins: count_of(made, Mark::TWIN),
         bad: count_of(made, Mark::BAD),
     }
+}
+
+// The same, with scratch space of its own.
+pub fn twin_list(store: &[u8], marks: &mut [u8]) -> TwinList
+    ensures { λ r. ⌜ Listed (now (store .entry)) (now (marks .entry)) r (now (marks .exit)) ⌝ }
+{
+    let mut scratch = [0u16; TwinList::SCRATCH];
+    twin_list_in(store, marks, &mut scratch)
 }
 
 // Record n holds the picture, in the format.

@@ -4,6 +4,7 @@ use Prim.Native.Nat.{_≤_, _-_}
 use Rattle.laws.specs.First.{firstBelow}
 use Rattle.laws.proofs.Firsts.{first-none, first-more, first-end, first-at}
 use Rattle.strict.specs.Strict.{damaged, firstDamaged}
+use Rattle.strict.proofs.Strictness.{long-none}
 use Rattle.strict.proofs.first_damaged.Statement.{statement}
 use Rattle.strict.proofs.first_damaged.Tie as tie
 
@@ -13,15 +14,18 @@ Inv-loop store count n₀ n = (n ≤ count) × (firstBelow (damaged store) n ≡
 abbrev μ-loop : tie.MeasureT-loop
 μ-loop store count n₀ n = count - n
 
+returns : tie.Need-returns Inv-loop μ-loop
+returns c = long-none _ (c .if1 .taken)
+
 loop-holds : tie.Need-loop-holds Inv-loop μ-loop
 loop-holds c = (search needs, first-none _)
 
 is-damaged-requires : tie.Need-is-damaged-requires Inv-loop μ-loop
 is-damaged-requires c κs = search needs
 
-returns : tie.Need-returns Inv-loop μ-loop
+returns-2 : tie.Need-returns-2 Inv-loop μ-loop
 unfolding firstDamaged
-returns c = sym (first-at _ _ _ (c .before .before .before .loop .inv .1) (sym (c .before .is-damaged .ensures) ∙ c .if1 .taken) (search needs))
+returns-2 c = sym (first-at _ _ _ (c .before .before .before .loop .inv .1) (sym (c .before .is-damaged .ensures) ∙ c .if2 .taken) (search needs))
 
 add-n : tie.Need-add-n Inv-loop μ-loop
 add-n c = search needs
@@ -30,11 +34,11 @@ loop-less : tie.Need-loop-less Inv-loop μ-loop
 loop-less c = search needs
 
 loop-again : tie.Need-loop-again Inv-loop μ-loop
-loop-again c = (search needs, first-more _ _ (c .before .before .before .loop .inv .1) (sym (c .before .is-damaged .ensures) ∙ c .if1 .left))
+loop-again c = (search needs, first-more _ _ (c .before .before .before .loop .inv .1) (sym (c .before .is-damaged .ensures) ∙ c .if2 .left))
 
-returns-2 : tie.Need-returns-2 Inv-loop μ-loop
+returns-3 : tie.Need-returns-3 Inv-loop μ-loop
 unfolding firstDamaged
-returns-2 c = sym (first-end _ _ _ (search needs) (search needs) (c .before .loop .inv .1))
+returns-3 c = sym (first-end _ _ _ (search needs) (search needs) (c .before .loop .inv .1))
 
 pub first-damaged-spec : {M : Type 1} → statement M
 first-damaged-spec =
@@ -42,10 +46,11 @@ first-damaged-spec =
     (tie.spec
     Inv-loop
     μ-loop
+    returns
     loop-holds
     is-damaged-requires
-    returns
+    returns-2
     add-n
     loop-less
     loop-again
-    returns-2)
+    returns-3)

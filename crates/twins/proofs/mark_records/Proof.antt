@@ -15,16 +15,16 @@ use Rattle.twins.proofs.mark_records.Statement.{statement}
 use Rattle.twins.proofs.mark_records.Tie as tie
 
 abbrev Inv-search : tie.InvT-search
-Inv-search store pictures prints marks count n found print mark₀ earlier₀ mark earlier = (earlier ≤ n) × (mark ≡ keptMark) × (firstBelow (alike store n) earlier ≡ earlier)
+Inv-search store scratch marks count n found print mark₀ earlier₀ mark earlier = (earlier ≤ n) × (mark ≡ keptMark) × (firstBelow (alike store n) earlier ≡ earlier)
 
 abbrev μ-search : tie.MeasureT-search
-μ-search store pictures prints marks count n found print mark₀ earlier₀ mark earlier = n - earlier
+μ-search store scratch marks count n found print mark₀ earlier₀ mark earlier = n - earlier
 
 abbrev Inv-loop : tie.InvT-loop
-Inv-loop store pictures prints marks₀ count n₀ marks n = (n ≤ count) × (marks ≡ made (markAt store) n ++ drop n marks₀) × (length marks ≡ length marks₀)
+Inv-loop store scratch marks₀ count n₀ marks n = (n ≤ count) × (marks ≡ made (markAt store) n ++ drop n marks₀) × (length marks ≡ length marks₀)
 
 abbrev μ-loop : tie.MeasureT-loop
-μ-loop store pictures prints marks₀ count n₀ marks n = count - n
+μ-loop store scratch marks₀ count n₀ marks n = count - n
 
 loop-holds : tie.Need-loop-holds Inv-search μ-search Inv-loop μ-loop
 loop-holds c = (search needs, made-none _ _, refl)
@@ -87,10 +87,10 @@ search-less : tie.Need-search-less Inv-search μ-search Inv-loop μ-loop
 search-less c = search needs
 
 search-again : tie.Need-search-again Inv-search μ-search Inv-loop μ-loop
-search-again c = let i = c .before .before .before .search .inv in (search needs, i .1, first-more _ _ (i .2) (alike-other (c .before .before .before .before .before .before .before .before .before .before .before .before .before .before .before .before .before .pre .1 .1 .1) _ _ (search needs) (search needs) (c .if2 .taken)))
+search-again c = let i = c .before .before .before .search .inv in (search needs, i .1, first-more _ _ (i .2) (alike-other (c .before .before .before .before .before .before .before .before .before .before .before .before .before .before .before .before .pre .1 .1) _ _ (search needs) (search needs) (c .if2 .taken)))
 
 kept-alike-requires : tie.Need-kept-alike-requires Inv-search μ-search Inv-loop μ-loop
-kept-alike-requires c κs = let s = c .before .before .before .before .before .before .before .before .before .before .before .before .before .before .before .before .before .pre in let r = c .before .before .before .before .before .before .before .before .before .before .record-at .ensures in let e = c .before .before .before .before .before .before .before .before .found .given .1 in (unrefused r e, (format-is r e, ((λ z. c .before .before .before .before .before .if1 .left (c .before .before .before .before .before .before .mode-at .ensures ∙ z)), ((search needs, search needs), (s .0, s .1 .1 .1 .pictured)))))
+kept-alike-requires c κs = let s = c .before .before .before .before .before .before .before .before .before .before .before .before .before .before .before .before .pre in let r = c .before .before .before .before .before .before .before .before .before .before .record-at .ensures in let e = c .before .before .before .before .before .before .before .before .found .given .1 in (unrefused r e, (format-is r e, ((λ z. c .before .before .before .before .before .if1 .left (c .before .before .before .before .before .before .mode-at .ensures ∙ z)), ((search needs, search needs), (s .0, s .1 .1 .pictured)))))
 
 add-earlier-2 : tie.Need-add-earlier-2 Inv-search μ-search Inv-loop μ-loop
 add-earlier-2 c = search needs

@@ -1,0 +1,6 @@
+pub mod Repeating
+pub mod Linking
+pub mod Leaving
+pub mod Cleaning
+pub mod Moving
+pub mod Theorems

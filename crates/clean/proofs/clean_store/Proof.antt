@@ -1,0 +1,98 @@
+use borrow.Author.Needs.{needs}
+use mathlib.Core.Path.{sym, _∙_}
+use Prim.Native.Nat.{_-_}
+use native.Mathlib.Omega.{arith}
+use Rattle.twins.proofs.Listing.{whole-when}
+use Rattle.clean.proofs.Cleaning as laws
+use Rattle.clean.proofs.Cleaning.{SoFar}
+use Rattle.clean.proofs.clean_store.Statement.{statement}
+use Rattle.clean.proofs.clean_store.Tie as tie
+
+abbrev Inv-loop : tie.InvT-loop
+Inv-loop store out₀ refusal links count kept₀ n₀ out kept n = SoFar store out₀ out n kept
+
+abbrev μ-loop : tie.MeasureT-loop
+μ-loop store out₀ refusal links count kept₀ n₀ out kept n = count - n
+
+list-refusal-requires : tie.Need-list-refusal-requires Inv-loop μ-loop
+list-refusal-requires c κs = search needs
+
+refused-requires : tie.Need-refused-requires Inv-loop μ-loop
+refused-requires c κs = search needs
+
+returns : tie.Need-returns Inv-loop μ-loop
+returns c = laws.cleaned-refused _ _ _ (c .before .before .list-refusal .ensures) (c .before .if1 .taken) (c .refused .ensures)
+
+slice-aggregate-link-records : tie.Need-slice-aggregate-link-records Inv-loop μ-loop
+slice-aggregate-link-records c = search needs
+
+link-records-requires : tie.Need-link-records-requires Inv-loop μ-loop
+link-records-requires c κs = let w = whole-when (c .before .before .list-refusal .ensures) (c .before .if1 .left) in (search needs, search needs)
+
+loop-holds : tie.Need-loop-holds Inv-loop μ-loop
+loop-holds c = laws.so-far-none _ _
+
+slice-aggregate-is-gone : tie.Need-slice-aggregate-is-gone Inv-loop μ-loop
+slice-aggregate-is-gone c = search needs
+
+is-gone-requires : tie.Need-is-gone-requires Inv-loop μ-loop
+is-gone-requires c κs = let w = whole-when (c .before .before .before .before .before .before .before .list-refusal .ensures) (c .before .before .before .before .before .before .if1 .left) in (search needs, (search needs, c .before .before .before .before .link-records .ensures))
+
+add-n : tie.Need-add-n Inv-loop μ-loop
+add-n c = search needs
+
+loop-less : tie.Need-loop-less Inv-loop μ-loop
+loop-less c = search needs
+
+loop-again : tie.Need-loop-again Inv-loop μ-loop
+loop-again c = laws.so-far-gone (c .before .before .before .before .loop .inv) (search needs) (sym (c .before .is-gone .ensures) ∙ c .if2 .taken)
+
+copy-record-requires : tie.Need-copy-record-requires Inv-loop μ-loop
+copy-record-requires c κs = let w = whole-when (c .before .before .before .before .before .before .before .before .before .before .list-refusal .ensures) (c .before .before .before .before .before .before .before .before .before .if1 .left) in let s = c .before .before .before .before .before .loop .inv in (search needs, omega arith)
+
+add-kept : tie.Need-add-kept Inv-loop μ-loop
+add-kept c = search needs
+
+add-n-2 : tie.Need-add-n-2 Inv-loop μ-loop
+add-n-2 c = search needs
+
+loop-less-2 : tie.Need-loop-less-2 Inv-loop μ-loop
+loop-less-2 c = search needs
+
+loop-again-2 : tie.Need-loop-again-2 Inv-loop μ-loop
+loop-again-2 c = let w = whole-when (c .before .before .before .before .before .before .before .before .before .before .before .before .before .list-refusal .ensures) (c .before .before .before .before .before .before .before .before .before .before .before .before .if1 .left) in let s = c .before .before .before .before .before .before .before .before .loop .inv in laws.so-far-more s (search needs) (omega arith) (sym (c .before .before .before .before .before .is-gone .ensures) ∙ c .before .before .before .before .if2 .left) (c .before .before .copy-record .ensures)
+
+sub-t9 : tie.Need-sub-t9 Inv-loop μ-loop
+sub-t9 c = search needs
+
+same-length : tie.Need-same-length Inv-loop μ-loop
+same-length c = search needs
+
+returns-2 : tie.Need-returns-2 Inv-loop μ-loop
+returns-2 c = laws.cleaned-done _ _ (sym (c .before .before .before .before .before .before .list-refusal .ensures) ∙ c .before .before .before .before .before .if1 .left) (c .before .loop .inv) (search needs)
+
+pub clean-store-spec : {M : Type 1} → statement M
+clean-store-spec =
+    tie.close
+    (tie.spec
+    Inv-loop
+    μ-loop
+    list-refusal-requires
+    refused-requires
+    returns
+    slice-aggregate-link-records
+    link-records-requires
+    loop-holds
+    slice-aggregate-is-gone
+    is-gone-requires
+    add-n
+    loop-less
+    loop-again
+    copy-record-requires
+    add-kept
+    add-n-2
+    loop-less-2
+    loop-again-2
+    sub-t9
+    same-length
+    returns-2)

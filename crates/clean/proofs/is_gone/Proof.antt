@@ -1,0 +1,96 @@
+use borrow.Author.Needs.{needs}
+use mathlib.Core.Path.{sym, _∙_}
+use Rattle.records.proofs.Readings.{unrefused, refused}
+use Rattle.clean.proofs.Repeating.{refused-stays, reserved-stays}
+use Rattle.clean.proofs.Linking.{Passed, passed-none, earlier, next-less, passed-more, walked, met}
+use Rattle.clean.proofs.is_gone.Statement.{statement}
+use Rattle.clean.proofs.is_gone.Tie as tie
+
+abbrev Inv-loop : tie.InvT-loop
+Inv-loop store links n at₀ at = Passed store n at
+
+abbrev μ-loop : tie.MeasureT-loop
+μ-loop store links n at₀ at = at
+
+record-at-requires : tie.Need-record-at-requires Inv-loop μ-loop
+record-at-requires c κs = search needs
+
+enum-told : tie.Need-enum-told Inv-loop μ-loop
+enum-told c = search needs
+
+enum-told-2 : tie.Need-enum-told-2 Inv-loop μ-loop
+enum-told-2 c = search needs
+
+returns : tie.Need-returns Inv-loop μ-loop
+returns c = refused-stays _ _ (refused (c .before .before .record-at .ensures) (c .enum-told2 .given .1))
+
+mode-at-requires : tie.Need-mode-at-requires Inv-loop μ-loop
+mode-at-requires c κs = unrefused (c .before .before .record-at .ensures) (c .enum-told .given .1)
+
+returns-2 : tie.Need-returns-2 Inv-loop μ-loop
+returns-2 c = reserved-stays _ _ (sym (c .before .mode-at .ensures) ∙ c .if1 .taken)
+
+mul-place : tie.Need-mul-place Inv-loop μ-loop
+mul-place c = search needs
+
+shared-slice-read-place : tie.Need-shared-slice-read-place Inv-loop μ-loop
+shared-slice-read-place c = search needs
+
+place-requires : tie.Need-place-requires Inv-loop μ-loop
+place-requires c κs = search needs
+
+loop-holds : tie.Need-loop-holds Inv-loop μ-loop
+loop-holds c = let s = c .before .before .before .before .before .before .before .before .before .pre in passed-none (s .1 .1) _ (s .0) (unrefused (c .before .before .before .before .before .before .record-at .ensures) (c .before .before .before .before .enum-told .given .1)) (c .place .ensures)
+
+sub-earlier : tie.Need-sub-earlier Inv-loop μ-loop
+sub-earlier c = search needs
+
+is-repeat-requires : tie.Need-is-repeat-requires Inv-loop μ-loop
+is-repeat-requires c κs = search needs
+
+returns-3 : tie.Need-returns-3 Inv-loop μ-loop
+returns-3 c = let s = c .before .before .before .before .before .before .before .before .before .before .before .before .before .pre in met (s .1 .1) _ (s .0) (c .before .before .before .loop .inv) (search needs) (sym (c .before .is-repeat .ensures) ∙ c .if2 .taken)
+
+mul-place-2 : tie.Need-mul-place-2 Inv-loop μ-loop
+mul-place-2 c = let s = c .before .before .before .before .before .before .before .before .before .before .before .before .before .pre in let l = earlier (s .1 .1) _ (s .0) (c .before .before .before .loop .inv) (search needs) in search needs
+
+shared-slice-read-place-2 : tie.Need-shared-slice-read-place-2 Inv-loop μ-loop
+shared-slice-read-place-2 c = let s = c .before .before .before .before .before .before .before .before .before .before .before .before .before .before .pre in let l = earlier (s .1 .1) _ (s .0) (c .before .before .before .before .loop .inv) (search needs) in search needs
+
+place-requires-2 : tie.Need-place-requires-2 Inv-loop μ-loop
+place-requires-2 c κs = search needs
+
+loop-less : tie.Need-loop-less Inv-loop μ-loop
+loop-less c = let s = c .before .before .before .before .before .before .before .before .before .before .before .before .before .before .before .pre in next-less (s .1 .1) _ (s .0) (c .before .before .before .before .before .loop .inv) (search needs) (c .place2 .ensures)
+
+loop-again : tie.Need-loop-again Inv-loop μ-loop
+loop-again c = let s = c .before .before .before .before .before .before .before .before .before .before .before .before .before .before .before .pre in passed-more (s .1 .1) _ (s .0) (c .before .before .before .before .before .loop .inv) (search needs) (c .place2 .ensures) (sym (c .before .before .before .is-repeat .ensures) ∙ c .before .before .if2 .left)
+
+returns-4 : tie.Need-returns-4 Inv-loop μ-loop
+returns-4 c = let s = c .before .before .before .before .before .before .before .before .before .before .before .pre in walked (s .1 .1) _ (s .0) (c .before .loop .inv) (search needs)
+
+pub is-gone-spec : {M : Type 1} → statement M
+is-gone-spec =
+    tie.close
+    (tie.spec
+    Inv-loop
+    μ-loop
+    record-at-requires
+    enum-told
+    enum-told-2
+    returns
+    mode-at-requires
+    returns-2
+    mul-place
+    shared-slice-read-place
+    place-requires
+    loop-holds
+    sub-earlier
+    is-repeat-requires
+    returns-3
+    mul-place-2
+    shared-slice-read-place-2
+    place-requires-2
+    loop-less
+    loop-again
+    returns-4)

@@ -1,0 +1,53 @@
+-- The words that the exports over a whole store answer, from what the calls ensure. Assumes nothing.
+use mathlib.Core.Path.{_≡_, sym, ap, _∙_}
+use mathlib.Core.List.{List}
+use Prim.Native.Nat.{ℕ, _+_, _≤_}
+use native.Mathlib.Omega.{arith}
+use lib.Dec.{eqb}
+use borrow.Author.Tests.{eqb-true, eqb-false}
+use Rattle.laws.proofs.Tests.{cases}
+use Rattle.bc6h_spec.specs.Answers.{done}
+use Rattle.twins.specs.declared.TwinList.{TwinList}
+use Rattle.twins.specs.Twins.{ListedIn}
+use Rattle.twins.proofs.Listing.{list-is, silent-in}
+use Rattle.clean.specs.declared.Cleaned.{Cleaned}
+use Rattle.clean.specs.Clean.{CleanedInto}
+use Rattle.clean.proofs.Cleaning as cleaning
+use Rattle.knotpasture.specs.Packed.{twinsWord}
+use Rattle.knotpasture.specs.Stores.{TwinsInCalled, cleanWord, CleanCalled}
+use Rattle.knotpasture.proofs.Words.{no-counts, few}
+
+-- ---- the twin list over lent scratch space
+
+module _ {store lent space after spaceAfter : List ℕ} {r : TwinList} (d : ListedIn store lent space r after spaceAfter) where
+  pub twins-in-called : {word : ℕ} → word ≡ twinsWord r → TwinsInCalled store lent space word after spaceAfter
+  twins-in-called e = record { answers = e ∙ ap twinsWord (d .answers); holds = d .holds; leaves = d .leaves }
+
+  pub few-in : r .kept + r .twins + r .bad ≤ 2000
+  few-in =
+      cases (eqb (r .answer) done) (λ z. few (list-is d (eqb-true _ _ z))) (λ f. no-counts (silent-in d (eqb-false _ _ f) .alone))
+
+pub one-list-in : {store lent space : List ℕ} {r s : ℕ} {a b u v : List ℕ} → TwinsInCalled store lent space r a u → TwinsInCalled store lent space s b v
+    → (r ≡ s) × (a ≡ b) × (u ≡ v)
+one-list-in d e = (d .answers ∙ sym (e .answers), d .holds ∙ sym (e .holds), d .leaves ∙ sym (e .leaves))
+
+-- ---- the clean-up
+
+module _ {store lent after : List ℕ} {r : Cleaned} (d : CleanedInto store lent r after) where
+  pub clean-called : {word : ℕ} → word ≡ cleanWord r → CleanCalled store lent word after
+  clean-called e = record { answers = e ∙ ap cleanWord (d .answers); holds = d .holds }
+
+  clean-done-few : r .answer ≡ done → r .kept + r .removed ≤ 2000
+  clean-done-few z = let w = cleaning.whole d z in let c = cleaning.counts-add-up d z in omega arith
+
+  pub clean-few : r .kept + r .removed ≤ 2000
+  clean-few =
+      cases (eqb (r .answer) done) (λ z. clean-done-few (eqb-true _ _ z))
+      (λ f. rw (cleaning.refused-alone d (eqb-false _ _ f)) (omega arith))
+
+  -- a refusal's word is its number: no count in it is other than 0
+  pub clean-word-alone : {word : ℕ} → word ≡ cleanWord r → (r .answer ≡ done → ⊥) → word ≡ r .answer
+  clean-word-alone e n = e ∙ ap cleanWord (cleaning.refused-alone d n) ∙ omega arith
+
+pub one-clean : {store lent : List ℕ} {r s : ℕ} {a b : List ℕ} → CleanCalled store lent r a → CleanCalled store lent s b → (r ≡ s) × (a ≡ b)
+one-clean d e = (d .answers ∙ sym (e .answers), d .holds ∙ sym (e .holds))

@@ -1,0 +1,25 @@
+-- What the exports over a whole store answer: the calls' own answers, packed into one word. Assumes nothing.
+use mathlib.Core.Path.{_≡_}
+use mathlib.Core.List.{List}
+use Prim.Native.Nat.{ℕ, _+_, _*_}
+use lib.ListN.{length}
+use Rattle.twins.specs.Twins.{answerAt, marksAt, scratchRefusal, scratchAt}
+use Rattle.clean.specs.declared.Cleaned.{Cleaned}
+use Rattle.clean.specs.Clean.{cleanRefusal, bytesAt}
+use Rattle.clean.specs.Clean as clean
+use Rattle.knotpasture.specs.Packed.{twinsWord}
+
+-- The twin list over lent scratch space: its answer in one word, and the lent marks and the scratch space as the call leaves them.
+pub record TwinsInCalled (store lent space : List ℕ) (r : ℕ) (after spaceAfter : List ℕ) : Type 0 where
+  pub answers : r ≡ twinsWord (answerAt (scratchRefusal (length store) (length lent) (length space)) store)
+  pub holds : after ≡ marksAt (scratchRefusal (length store) (length lent) (length space)) store lent
+  pub leaves : spaceAfter ≡ scratchAt (scratchRefusal (length store) (length lent) (length space)) store space
+
+-- the number in the low byte; records that stay and removed ones in the two sixteen-bit fields above the lowest
+abbrev pub cleanWord : Cleaned → ℕ
+cleanWord cleaned = cleaned .answer + cleaned .kept * 0x10000 + cleaned .removed * 0x100000000
+
+-- The clean-up: its answer in one word, and the lent bytes as the call leaves them.
+pub record CleanCalled (store lent : List ℕ) (r : ℕ) (after : List ℕ) : Type 0 where
+  pub answers : r ≡ cleanWord (clean.answerAt (cleanRefusal (length store) (length lent)) store)
+  pub holds : after ≡ bytesAt (cleanRefusal (length store) (length lent)) store lent

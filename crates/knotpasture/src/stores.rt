@@ -1,0 +1,47 @@
+// Calls over a whole store, for C: the twin list over lent scratch space, the first damaged record, and a clean-up.
+
+ghost use mathlib.Core.Path.{_≡_};
+ghost use Prim.Native.Nat.{_+_, _≤_};
+ghost use Rattle.clean.specs.Clean.{firstOf};
+ghost use Rattle.strict.specs.Strict.{firstDamaged};
+ghost use Rattle.knotpasture.specs.Stores.{cleanWord, CleanCalled, TwinsInCalled};
+use super::list_word;
+use clean::Cleaned;
+
+#[no_mangle]
+pub extern "C" fn knot_twin_list_in(store: &[u8], marks: &mut [u8], scratch: &mut [u16]) -> u64
+    ensures { λ r. ⌜ TwinsInCalled (now (store .entry)) (now (marks .entry)) (now (scratch .entry)) r (now (marks .exit)) (now (scratch .exit)) ⌝ }
+{
+    list_word(twins::twin_list_in(store, marks, scratch))
+}
+
+#[no_mangle]
+pub extern "C" fn knot_first_damaged(store: &[u8]) -> usize
+    ensures { λ r. ⌜ r ≡ firstDamaged (now (store .entry)) ⌝ }
+{
+    strict::first_damaged(store)
+}
+
+// The number and the counts of a clean-up.
+fn clean_word(cleaned: Cleaned) -> u64
+    requires { ⌜ cleaned .kept + cleaned .removed ≤ 2000 ⌝ }
+    ensures { λ r. ⌜ r ≡ cleanWord cleaned ⌝ }
+{
+    (cleaned.answer as u64)
+        + (cleaned.kept as u64) * 0x10000
+        + (cleaned.removed as u64) * 0x100000000
+}
+
+#[no_mangle]
+pub extern "C" fn knot_clean_store(store: &[u8], out: &mut [u8]) -> u64
+    ensures { λ r. ⌜ CleanCalled (now (store .entry)) (now (out .entry)) r (now (out .exit)) ⌝ }
+{
+    clean_word(clean::clean_store(store, out))
+}
+
+#[no_mangle]
+pub extern "C" fn knot_first_of(store: &[u8], n: usize) -> usize
+    ensures { λ r. ⌜ r ≡ firstOf (now (store .entry)) n ⌝ }
+{
+    clean::first_of(store, n)
+}

@@ -15,7 +15,20 @@ import tempfile
 ROOT = pathlib.Path(__file__).resolve().parent.parent
 
 # The commands, in the order of `knot help`.
-COMMANDS = ["list", "clean", "dds", "pfm", "place", "unplace", "probe", "audit", "infinities", "fields", "block", "record"]
+COMMANDS = [
+    "list",
+    "audit",
+    "clean",
+    "infinities",
+    "fields",
+    "block",
+    "record",
+    "place",
+    "unplace",
+    "probe",
+    "dds",
+    "pfm",
+]
 
 DONE, REFUSED, USAGE, TROUBLE = 0, 1, 2, 3
 
@@ -204,8 +217,7 @@ def over_store(name, store, closing, words=()):
     text, told = program(name, store, words)
     refused = re.fullmatch(rb"store refused ([0-9]+)\n", text)
     if refused:
-        number = int(refused[1])
-        raise Refused(number, text, MEANINGS[number] + told_last(told))
+        raise Refused(int(refused[1]), text, MEANINGS[int(refused[1])] + told_last(told))
     last = text[text.rfind(b"\n", 0, -1) + 1:]
     if not re.fullmatch(closing.encode() + rb"\n", last):
         raise Trouble(f"the program {name} did not end its text{told_last(told)}")

@@ -13,9 +13,9 @@ use records::tile_at;
 use store_program::Input;
 use store_program::StoreInput;
 use store_program::first_bytes;
+use store_program::print;
 use store_program::read_input;
-use store_program::tell_text;
-use store_program::write_text;
+use store_program::tell;
 use text::put;
 use text::put_count;
 use text::put_decimal;
@@ -57,14 +57,14 @@ fn tell_removed(text: &mut [u8], store: &[u8]) -> bool
             continue;
         }
         if text.len() - end < Line::SIZE {
-            if !tell_text(text, end) {
+            if !tell(text, end) {
                 return false;
             }
             end = 0;
         }
         end = put_removed(text, end, store, n, first);
     }
-    tell_text(text, end)
+    tell(text, end)
 }
 
 fn tell_counts(text: &mut [u8], cleaned: Cleaned)
@@ -73,14 +73,14 @@ fn tell_counts(text: &mut [u8], cleaned: Cleaned)
     let mut end = put_count(text, 0, b"kept ", cleaned.kept as u64);
     end = put_count(text, end, b" removed ", cleaned.removed as u64);
     end = put(text, end, b"\n");
-    tell_text(text, end);
+    tell(text, end);
 }
 
 fn tell_refusal(text: &mut [u8], answer: u8)
     requires { ⌜ 128 ≤ length (now text) ⌝ }
 {
     let end = put_refusal(text, 0, answer);
-    tell_text(text, end);
+    tell(text, end);
 }
 
 fn print_cleaned(store: &[u8], out: &mut [u8], text: &mut [u8])
@@ -91,7 +91,7 @@ fn print_cleaned(store: &[u8], out: &mut [u8], text: &mut [u8])
         tell_refusal(text, cleaned.answer);
         return;
     }
-    if !write_text(out, cleaned.kept * Record::SIZE) {
+    if !print(out, cleaned.kept * Record::SIZE) {
         return;
     }
     if tell_removed(text, store) {

@@ -7,7 +7,7 @@ use store_program::Input;
 use store_program::StoreInput;
 use store_program::first_bytes;
 use store_program::read_input;
-use store_program::tell_text;
+use store_program::tell;
 use store_program::write_text;
 use strict::first_damaged;
 use text::put;
@@ -20,15 +20,16 @@ fn is_strict() -> bool {
     same_bytes(&word[..size], b"--strict")
 }
 
-// Tells the first damaged record of a store, where there is one.
+// Which record is the first damaged one, on standard error.
 fn tell_damaged(store: &[u8]) {
     let first = first_damaged(store);
-    if first < store.len() / Record::SIZE {
-        let mut text = [0u8; 64];
-        let mut end = put_count(&mut text, 0, b"first damaged record ", first as u64);
-        end = put(&mut text, end, b"\n");
-        tell_text(&text, end);
+    if first >= store.len() / Record::SIZE {
+        return;
     }
+    let mut text = [0u8; 64];
+    let mut end = put_count(&mut text, 0, b"first damaged record ", first as u64);
+    end = put(&mut text, end, b"\n");
+    tell(&text, end);
 }
 
 fn main() {
@@ -38,8 +39,10 @@ fn main() {
     };
     let mut text = [0u8; Listing::ROOM];
     let strict = is_strict();
-    let end = put_listing(&mut text, first_bytes(&input, size), strict);
-    if write_text(&text, end) && strict {
-        tell_damaged(first_bytes(&input, size));
+    let store = first_bytes(&input, size);
+    let end = put_listing(&mut text, store, strict);
+    write_text(&text, end);
+    if strict {
+        tell_damaged(store);
     }
 }

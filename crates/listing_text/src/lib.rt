@@ -6,7 +6,7 @@ ghost use lib.ListN.{length, getD};
 ghost use Rattle.bc6h_spec.specs.Answers.{done};
 ghost use Rattle.records.specs.Store.{recordsIn, formatOf, Unrefused};
 ghost use Rattle.twins_scratch.specs.Shown.{pictureAt};
-ghost use Rattle.twins.specs.Twins.{markAt, marksOf, Listed};
+ghost use Rattle.twins.specs.Twins.{markAt, Listed};
 ghost use Rattle.text.specs.Text.{Written};
 ghost use Rattle.listing_text.specs.Listing.{tripleOf, shownRest, refusedRest, lineOf, linesOf, countsLine, mostRecords, listingRefusal, listingOf, Marks};
 use bc6::block_pixels;

@@ -20,8 +20,8 @@ use probe::ProbePixel;
 use probe::probe_check;
 use store_program::Input;
 use store_program::first_bytes;
+use store_program::print;
 use store_program::read_input;
-use store_program::write_text;
 use text::put;
 use text::put_count;
 
@@ -99,7 +99,7 @@ fn print_fault(fault: Fault) {
     let mut end = put_count(&mut text, 0, b"store refused ", fault.answer as u64);
     end = put_faulty(&mut text, end, fault);
     end = put(&mut text, end, b"\n");
-    write_text(&text, end);
+    print(&text, end);
 }
 
 fn print_probe(edge: usize, records: usize) {
@@ -107,7 +107,7 @@ fn print_probe(edge: usize, records: usize) {
     let mut end = put_count(&mut text, 0, b"probe edge ", edge as u64);
     end = put_count(&mut text, end, b" records ", records as u64);
     end = put(&mut text, end, b"\n");
-    write_text(&text, end);
+    print(&text, end);
 }
 
 // The block of record n at a place of the canvas.
@@ -147,7 +147,7 @@ fn print_header(edge: usize) -> bool
     let mut text = [0u8; 32];
     let side = (4 * edge) as u32;
     let end = put_header(side, side, &mut text);
-    write_text(&text, end)
+    print(&text, end)
 }
 
 // The rows of a face of the edge, from the lowest up.

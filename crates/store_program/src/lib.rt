@@ -58,20 +58,31 @@ pub fn first_bytes(buffer: &[u8], size: usize) -> &[u8]
     buffer
 }
 
-// Writes the first bytes of a text to standard output, all of them. False, and a line on standard error, where a write fails.
-pub fn write_text(text: &[u8], end: usize) -> bool
+fn write_first(fd: i32, text: &[u8], end: usize) -> bool
     requires { ⌜ end ≤ length (now text) ⌝ }
 {
-    if !io::write_all(STDOUT_FILENO, &text[..end]) {
-        io::write_all(STDERR_FILENO, b"standard output could not be written\n");
-        return false;
-    }
-    true
+    io::write_all(fd, &text[..end])
+}
+
+// Writes the first bytes of a text to standard output. False where a write fails.
+pub fn print(text: &[u8], end: usize) -> bool
+    requires { ⌜ end ≤ length (now text) ⌝ }
+{
+    write_first(STDOUT_FILENO, text, end)
 }
 
 // The same to standard error.
-pub fn tell_text(text: &[u8], end: usize) -> bool
+pub fn tell(text: &[u8], end: usize) -> bool
     requires { ⌜ end ≤ length (now text) ⌝ }
 {
-    io::write_all(STDERR_FILENO, &text[..end])
+    write_first(STDERR_FILENO, text, end)
+}
+
+// Writes the first bytes of a text to standard output, and tells where it could not.
+pub fn write_text(text: &[u8], end: usize)
+    requires { ⌜ end ≤ length (now text) ⌝ }
+{
+    if !print(text, end) {
+        io::write_all(STDERR_FILENO, b"standard output could not be written\n");
+    }
 }

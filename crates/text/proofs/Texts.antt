@@ -22,6 +22,10 @@ then {l} {m} {n} {at} {r} {s} {a} {b} x y = record {
   exit-is = y .exit-is ∙ ap (λ (t : List ℕ). sets t r b) (x .exit-is) ∙ sets-append a b l at r (x .next-is);
 }
 
+-- the statement admits one outcome
+pub one-outcome : {l m n : List ℕ} {at r s : ℕ} {a : List ℕ} → Written l at a r m → Written l at a s n → (r ≡ s) × (m ≡ n)
+one-outcome x y = (x .next-is ∙ sym (y .next-is), x .exit-is ∙ sym (y .exit-is))
+
 -- the same word in another form
 pub said : {l n : List ℕ} {at r : ℕ} {a b : List ℕ} → Written l at a r n → a ≡ b → Written l at b r n
 said w e = rw (sym e) w

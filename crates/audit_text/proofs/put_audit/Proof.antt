@@ -7,37 +7,25 @@ use Rattle.audit_text.proofs.Twins as twins
 use borrow.Author.Needs.{needs}
 use Rattle.audit_text.proofs.put_audit.Statement.{statement}
 use Rattle.audit_text.proofs.put_audit.Tie as tie
-use Rattle.audit_text.proofs.put_audit.Reads as reads
-use Rattle.audit_text.proofs.put_audit.Lts as lts
-use Rattle.audit_text.proofs.put_twins.Reads as put-twins-reads
-use Rattle.text.proofs.put_refusal.Reads as put-refusal-reads
-use Rattle.twins.proofs.twin_list.Reads as twin-list-reads
 
--- src/lib.rt:157:33
 slice-aggregate-twin-list : tie.Need-slice-aggregate-twin-list
 slice-aggregate-twin-list c = search needs
 
--- src/lib.rt:157:9
 twin-list-requires : tie.Need-twin-list-requires
 twin-list-requires c κs = search needs
 
--- src/lib.rt:159:9
 put-refusal-requires : tie.Need-put-refusal-requires
 put-refusal-requires c κs = search needs
 
--- src/lib.rt:159:9
 same-length : tie.Need-same-length
 same-length c = search needs
 
--- src/lib.rt:159:9
 returns : tie.Need-returns
 returns c = (search needs, said (c .before .before .put-refusal .ensures .1) (twins.refused-text (c .before .before .before .before .before .before .before .before .before .before .before .args .store .now) _ (twins.number-is refl (c .before .before .before .before .before .before .before .twin-list .ensures)) (c .before .before .before .before .if1 .taken)))
 
--- src/lib.rt:161:28
 slice-aggregate-put-twins : tie.Need-slice-aggregate-put-twins
 slice-aggregate-put-twins c = search needs
 
--- src/lib.rt:161:5
 put-twins-requires : tie.Need-put-twins-requires
 put-twins-requires c κs =
     let z = c .before .before .if1 .left in
@@ -45,11 +33,9 @@ put-twins-requires c κs =
     let w = whole d z in
     (omega arith, (omega arith, all-marks d z))
 
--- src/lib.rt:151:1
 same-length-2 : tie.Need-same-length-2
 same-length-2 c = search needs
 
--- src/lib.rt:151:1
 returns-2 : tie.Need-returns-2
 returns-2 c =
     let z = c .before .before .before .before .before .if1 .left in

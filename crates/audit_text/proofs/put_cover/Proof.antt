@@ -3,40 +3,29 @@ use Rattle.audit_text.specs.Audit.{coverWord}
 use borrow.Author.Needs.{needs}
 use Rattle.audit_text.proofs.put_cover.Statement.{statement}
 use Rattle.audit_text.proofs.put_cover.Tie as tie
-use Rattle.audit_text.proofs.put_cover.Reads as reads
-use Rattle.audit_text.proofs.put_cover.Lts as lts
-use Rattle.text.proofs.put.Reads as put-reads
 
--- src/lib.rt:82:30
 slice-aggregate-put : tie.Need-slice-aggregate-put
 slice-aggregate-put c = search needs
 
--- src/lib.rt:82:9
 put-requires : tie.Need-put-requires
 put-requires c κs = search needs
 
--- src/lib.rt:82:9
 same-length : tie.Need-same-length
 same-length c = search needs
 
--- src/lib.rt:82:9
 returns : tie.Need-returns
 unfolding coverWord
 returns c = (search needs, said (c .before .before .put .ensures .1) (rw (c .before .before .before .before .before .if1 .taken)))
 
--- src/lib.rt:84:19
 slice-aggregate-put-2 : tie.Need-slice-aggregate-put-2
 slice-aggregate-put-2 c = search needs
 
--- src/lib.rt:84:5
 put-requires-2 : tie.Need-put-requires-2
 put-requires-2 c κs = search needs
 
--- src/lib.rt:76:1
 same-length-2 : tie.Need-same-length-2
 same-length-2 c = search needs
 
--- src/lib.rt:76:1
 returns-2 : tie.Need-returns-2
 unfolding coverWord
 returns-2 c = (search needs, said (c .before .before .put2 .ensures .1) (rw (c .before .before .before .before .before .if1 .left)))

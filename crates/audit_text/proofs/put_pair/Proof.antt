@@ -2,48 +2,34 @@ use Rattle.audit_text.proofs.Twins as twins
 use borrow.Author.Needs.{needs}
 use Rattle.audit_text.proofs.put_pair.Statement.{statement}
 use Rattle.audit_text.proofs.put_pair.Tie as tie
-use Rattle.audit_text.proofs.put_pair.Reads as reads
-use Rattle.audit_text.proofs.put_pair.Lts as lts
-use Rattle.records.proofs.tile_at.Reads as tile-at-reads
-use Rattle.text.proofs.put_field.Reads as put-field-reads
 
--- src/lib.rt:93:9
 put-field-requires : tie.Need-put-field-requires
 put-field-requires c κs = search needs
 
--- src/lib.rt:94:32
 tile-at-requires : tie.Need-tile-at-requires
 tile-at-requires c κs = search needs
 
--- src/lib.rt:94:32
 cast-put-field : tie.Need-cast-put-field
 cast-put-field c = search needs
 
--- src/lib.rt:94:5
 put-field-requires-2 : tie.Need-put-field-requires-2
 put-field-requires-2 c κs = search needs
 
--- src/lib.rt:95:5
 put-field-requires-3 : tie.Need-put-field-requires-3
 put-field-requires-3 c κs = search needs
 
--- src/lib.rt:96:26
 tile-at-requires-2 : tie.Need-tile-at-requires-2
 tile-at-requires-2 c κs = search needs
 
--- src/lib.rt:96:26
 cast-put-field-2 : tie.Need-cast-put-field-2
 cast-put-field-2 c = search needs
 
--- src/lib.rt:96:5
 put-field-requires-4 : tie.Need-put-field-requires-4
 put-field-requires-4 c κs = search needs
 
--- src/lib.rt:88:1
 same-length : tie.Need-same-length
 same-length c = search needs
 
--- src/lib.rt:88:1
 returns : tie.Need-returns
 returns c = (search needs, twins.pair (c .before .before .before .before .before .before .before .before .before .before .before .before .before .before .before .before .before .before .before .before .args .store .now) _ _ (c .before .before .before .before .before .before .before .before .before .before .before .before .tile-at .ensures) (c .before .before .before .tile-at2 .ensures) (c .before .before .before .before .before .before .before .before .before .before .before .before .before .before .before .before .put-field .ensures .1) (c .before .before .before .before .before .before .before .before .before .before .before .put-field2 .ensures .1) (c .before .before .before .before .before .before .before .put-field3 .ensures .1) (c .before .before .put-field4 .ensures .1))
 

@@ -3,56 +3,40 @@ use Rattle.text.proofs.Texts.{then}
 use borrow.Author.Needs.{needs}
 use Rattle.audit_text.proofs.put_tally.Statement.{statement}
 use Rattle.audit_text.proofs.put_tally.Tie as tie
-use Rattle.audit_text.proofs.put_tally.Reads as reads
-use Rattle.audit_text.proofs.put_tally.Lts as lts
-use Rattle.text.proofs.put.Reads as put-reads
-use Rattle.text.proofs.put_count.Reads as put-count-reads
 
--- src/lib.rt:114:39
 slice-aggregate-put-count : tie.Need-slice-aggregate-put-count
 slice-aggregate-put-count c = search needs
 
--- src/lib.rt:114:9
 put-count-requires : tie.Need-put-count-requires
 put-count-requires c κs = search needs
 
--- src/lib.rt:115:32
 slice-aggregate-put-count-2 : tie.Need-slice-aggregate-put-count-2
 slice-aggregate-put-count-2 c = search needs
 
--- src/lib.rt:115:5
 put-count-requires-2 : tie.Need-put-count-requires-2
 put-count-requires-2 c κs = search needs
 
--- src/lib.rt:116:32
 slice-aggregate-put-count-3 : tie.Need-slice-aggregate-put-count-3
 slice-aggregate-put-count-3 c = search needs
 
--- src/lib.rt:116:5
 put-count-requires-3 : tie.Need-put-count-requires-3
 put-count-requires-3 c κs = search needs
 
--- src/lib.rt:117:32
 slice-aggregate-put-count-4 : tie.Need-slice-aggregate-put-count-4
 slice-aggregate-put-count-4 c = search needs
 
--- src/lib.rt:117:5
 put-count-requires-4 : tie.Need-put-count-requires-4
 put-count-requires-4 c κs = search needs
 
--- src/lib.rt:118:20
 slice-aggregate-put : tie.Need-slice-aggregate-put
 slice-aggregate-put c = search needs
 
--- src/lib.rt:118:5
 put-requires : tie.Need-put-requires
 put-requires c κs = search needs
 
--- src/lib.rt:109:1
 same-length : tie.Need-same-length
 same-length c = search needs
 
--- src/lib.rt:109:1
 returns : tie.Need-returns
 unfolding tallyLine
 returns c = (search needs, then (then (then (then (c .before .before .before .before .before .before .before .before .before .before .before .before .before .before .before .before .before .before .before .before .before .before .put-count .ensures .1) (c .before .before .before .before .before .before .before .before .before .before .before .before .before .before .before .before .before .put-count2 .ensures .1)) (c .before .before .before .before .before .before .before .before .before .before .before .before .put-count3 .ensures .1)) (c .before .before .before .before .before .before .before .put-count4 .ensures .1)) (c .before .before .put .ensures .1))

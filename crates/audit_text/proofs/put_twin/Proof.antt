@@ -3,29 +3,19 @@ use Rattle.text.proofs.Texts.{then}
 use borrow.Author.Needs.{needs}
 use Rattle.audit_text.proofs.put_twin.Statement.{statement}
 use Rattle.audit_text.proofs.put_twin.Tie as tie
-use Rattle.audit_text.proofs.put_twin.Reads as reads
-use Rattle.audit_text.proofs.put_twin.Lts as lts
-use Rattle.audit_text.proofs.put_bytes.Reads as put-bytes-reads
-use Rattle.audit_text.proofs.put_cover.Reads as put-cover-reads
-use Rattle.audit_text.proofs.put_pair.Reads as put-pair-reads
 
--- src/lib.rt:104:9
 put-pair-requires : tie.Need-put-pair-requires
 put-pair-requires c κs = search needs
 
--- src/lib.rt:105:5
 put-bytes-requires : tie.Need-put-bytes-requires
 put-bytes-requires c κs = search needs
 
--- src/lib.rt:106:5
 put-cover-requires : tie.Need-put-cover-requires
 put-cover-requires c κs = search needs
 
--- src/lib.rt:99:1
 same-length : tie.Need-same-length
 same-length c = search needs
 
--- src/lib.rt:99:1
 returns : tie.Need-returns
 unfolding twinLine
 returns c = (search needs, then (then (c .before .before .before .before .before .before .before .before .before .before .put-pair .ensures .1) (c .before .before .before .before .before .before .put-bytes .ensures .1)) (c .before .before .put-cover .ensures .1))

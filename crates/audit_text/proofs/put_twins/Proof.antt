@@ -8,12 +8,6 @@ use Rattle.audit_text.proofs.Twins as twins
 use borrow.Author.Needs.{needs}
 use Rattle.audit_text.proofs.put_twins.Statement.{statement}
 use Rattle.audit_text.proofs.put_twins.Tie as tie
-use Rattle.audit_text.proofs.put_twins.Reads as reads
-use Rattle.audit_text.proofs.put_twins.Lts as lts
-use Rattle.audit_text.proofs.examine.Reads as examine-reads
-use Rattle.audit_text.proofs.one_if.Reads as one-if-reads
-use Rattle.audit_text.proofs.put_tally.Reads as put-tally-reads
-use Rattle.audit_text.proofs.put_twin.Reads as put-twin-reads
 
 abbrev Inv-loop : tie.InvT-loop
 Inv-loop text₀ store marks count same₀ other₀ covered₀ before₀ end₀ n₀ text same other covered before end n =
@@ -23,23 +17,18 @@ abbrev μ-loop : tie.MeasureT-loop
 μ-loop text₀ store marks count same₀ other₀ covered₀ before₀ end₀ n₀ text same other covered before end n =
     count - n
 
--- src/lib.rt:135:5
 loop-holds : tie.Need-loop-holds Inv-loop μ-loop
 loop-holds c = (search needs, search needs, search needs, twins.no-tally (c .before .before .before .args .store .now), twins.no-lines (c .before .before .before .args .store .now) (c .before .before .before .args .text .now))
 
--- src/lib.rt:136:12
 shared-slice-read-if1 : tie.Need-shared-slice-read-if1 Inv-loop μ-loop
 shared-slice-read-if1 c = search needs
 
--- src/lib.rt:137:13
 add-n : tie.Need-add-n Inv-loop μ-loop
 add-n c = search needs
 
--- src/lib.rt:135:5
 loop-less : tie.Need-loop-less Inv-loop μ-loop
 loop-less c = search needs
 
--- src/lib.rt:135:5
 loop-again : tie.Need-loop-again Inv-loop μ-loop
 loop-again c =
     let l = c .before .before .before .loop in
@@ -47,55 +36,42 @@ loop-again c =
     let m = c .before .before .before .before .before .before .before .pre .1 .1 .at (l .n) (search needs) in
     (search needs, search needs, search needs, twins.tally-skipped store (l .n) _ m (c .if1 .taken) (l .inv .3), twins.line-skipped store (l .n) _ m (c .if1 .taken) (l .inv .4))
 
--- src/lib.rt:139:13
 examine-requires : tie.Need-examine-requires Inv-loop μ-loop
 examine-requires c κs = search needs
 
--- src/lib.rt:140:9
 put-twin-requires : tie.Need-put-twin-requires Inv-loop μ-loop
 put-twin-requires c κs = search needs
 
--- src/lib.rt:141:17
 one-if-requires : tie.Need-one-if-requires Inv-loop μ-loop
 one-if-requires c κs = search needs
 
--- src/lib.rt:141:9
 add-same : tie.Need-add-same Inv-loop μ-loop
 add-same c = let few = c .before .before .before .before .before .before .before .before .before .loop .inv .3 .few in search needs
 
--- src/lib.rt:142:18
 one-if-requires-2 : tie.Need-one-if-requires-2 Inv-loop μ-loop
 one-if-requires-2 c κs = search needs
 
--- src/lib.rt:142:9
 add-other : tie.Need-add-other Inv-loop μ-loop
 add-other c = let few = c .before .before .before .before .before .before .before .before .before .before .before .loop .inv .3 .few in search needs
 
--- src/lib.rt:143:20
 one-if-requires-3 : tie.Need-one-if-requires-3 Inv-loop μ-loop
 one-if-requires-3 c κs = search needs
 
--- src/lib.rt:143:9
 add-covered : tie.Need-add-covered Inv-loop μ-loop
 add-covered c = let few = c .before .before .before .before .before .before .before .before .before .before .before .before .loop .inv .3 .few in search needs
 
--- src/lib.rt:144:19
 one-if-requires-4 : tie.Need-one-if-requires-4 Inv-loop μ-loop
 one-if-requires-4 c κs = search needs
 
--- src/lib.rt:144:9
 add-before : tie.Need-add-before Inv-loop μ-loop
 add-before c = let few = c .before .before .before .before .before .before .before .before .before .before .before .before .before .loop .inv .3 .few in search needs
 
--- src/lib.rt:135:9
 add-n-2 : tie.Need-add-n-2 Inv-loop μ-loop
 add-n-2 c = search needs
 
--- src/lib.rt:135:5
 loop-less-2 : tie.Need-loop-less-2 Inv-loop μ-loop
 loop-less-2 c = search needs
 
--- src/lib.rt:135:5
 loop-again-2 : tie.Need-loop-again-2 Inv-loop μ-loop
 loop-again-2 c =
     let l = c .before .before .before .before .before .before .before .before .before .before .before .before .before .loop in
@@ -109,15 +85,12 @@ loop-again-2 c =
       twins.line-more store (l .n) _ m (c .before .before .before .before .before .before .before .before .before .before .if1 .left) f (l .inv .4) (c .before .before .before .before .before .before .before .put-twin .ensures .1),
     )
 
--- src/lib.rt:146:5
 put-tally-requires : tie.Need-put-tally-requires Inv-loop μ-loop
 put-tally-requires c κs = search needs
 
--- src/lib.rt:122:1
 same-length : tie.Need-same-length Inv-loop μ-loop
 same-length c = search needs
 
--- src/lib.rt:122:1
 returns : tie.Need-returns Inv-loop μ-loop
 returns c =
     let l = c .before .before .before .before .before .loop in

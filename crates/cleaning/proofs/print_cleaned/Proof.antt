@@ -19,11 +19,11 @@ same-length-2 c = search needs
 returns : tie.Need-returns
 returns c = search needs
 
-mul-write-text : tie.Need-mul-write-text
-mul-write-text c = let d = c .before .before .before .before .before .before .clean-store .ensures in let z = c .before .before .if1 .left in let w = whole d z in let a = counts-add-up d z in omega arith
+mul-print : tie.Need-mul-print
+mul-print c = let d = c .before .before .before .before .before .before .clean-store .ensures in let z = c .before .before .if1 .left in let w = whole d z in let a = counts-add-up d z in omega arith
 
-write-text-requires : tie.Need-write-text-requires
-write-text-requires c κs = let d = c .before .before .before .before .before .before .clean-store .ensures in let z = c .before .before .if1 .left in let w = whole d z in let a = counts-add-up d z in omega arith
+print-requires : tie.Need-print-requires
+print-requires c κs = let d = c .before .before .before .before .before .before .clean-store .ensures in let z = c .before .before .if1 .left in let w = whole d z in let a = counts-add-up d z in omega arith
 
 same-length-3 : tie.Need-same-length-3
 same-length-3 c = search needs
@@ -64,8 +64,8 @@ print-cleaned-spec =
     same-length
     same-length-2
     returns
-    mul-write-text
-    write-text-requires
+    mul-print
+    print-requires
     same-length-3
     returns-2
     tell-removed-requires

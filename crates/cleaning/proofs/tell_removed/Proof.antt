@@ -35,8 +35,8 @@ loop-again c = search needs
 sub-if2 : tie.Need-sub-if2 Inv-loop μ-loop
 sub-if2 c = search needs
 
-tell-text-requires : tie.Need-tell-text-requires Inv-loop μ-loop
-tell-text-requires c κs = search needs
+tell-requires : tie.Need-tell-requires Inv-loop μ-loop
+tell-requires c κs = search needs
 
 same-length : tie.Need-same-length Inv-loop μ-loop
 same-length c = search needs
@@ -56,8 +56,8 @@ loop-less-2 c = search needs
 loop-again-2 : tie.Need-loop-again-2 Inv-loop μ-loop
 loop-again-2 c = let r = room (c .before .before .before .before) in search needs
 
-tell-text-requires-2 : tie.Need-tell-text-requires-2 Inv-loop μ-loop
-tell-text-requires-2 c κs = search needs
+tell-requires-2 : tie.Need-tell-requires-2 Inv-loop μ-loop
+tell-requires-2 c κs = search needs
 
 same-length-2 : tie.Need-same-length-2 Inv-loop μ-loop
 same-length-2 c = search needs
@@ -77,13 +77,13 @@ tell-removed-spec =
     loop-less
     loop-again
     sub-if2
-    tell-text-requires
+    tell-requires
     same-length
     returns
     put-removed-requires
     add-n-2
     loop-less-2
     loop-again-2
-    tell-text-requires-2
+    tell-requires-2
     same-length-2
     returns-2)

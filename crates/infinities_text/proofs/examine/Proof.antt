@@ -4,55 +4,37 @@ use Rattle.infinities_text.proofs.Findings as findings
 use borrow.Author.Needs.{needs}
 use Rattle.infinities_text.proofs.examine.Statement.{statement}
 use Rattle.infinities_text.proofs.examine.Tie as tie
-use Rattle.infinities_text.proofs.examine.Reads as reads
-use Rattle.infinities_text.proofs.examine.Lts as lts
-use Rattle.bc6.proofs.block_pixels.Reads as block-pixels-reads
-use Rattle.infinities_text.proofs.first_infinite.Reads as first-infinite-reads
-use Rattle.infinities_text.proofs.wide.Reads as wide-reads
-use Rattle.records.proofs.record_at.Reads as record-at-reads
-use Rattle.records.proofs.record_block.Reads as record-block-reads
 
--- src/lib.rt:73:40
 record-at-requires : tie.Need-record-at-requires
 record-at-requires c κs = search needs
 
--- src/lib.rt:73:31
 enum-known-found : tie.Need-enum-known-found
 enum-known-found c = search needs
 
--- src/lib.rt:74:9
 enum-told : tie.Need-enum-told
 enum-told c = search needs
 
--- src/lib.rt:74:9
 returns : tie.Need-returns
 returns c = (search needs, findings.nothing (c .before .before .before .before .args .store .now) (c .before .before .before .before .args .n) (refused (c .before .before .record-at .ensures) (c .enum-told .given .1)))
 
--- src/lib.rt:80:31
 record-block-requires : tie.Need-record-block-requires
 record-block-requires c κs = search needs
 
--- src/lib.rt:80:69
 slice-aggregate-block-pixels : tie.Need-slice-aggregate-block-pixels
 slice-aggregate-block-pixels c = search needs
 
--- src/lib.rt:80:9
 block-pixels-requires : tie.Need-block-pixels-requires
 block-pixels-requires c κs = search needs
 
--- src/lib.rt:82:19
 wide-requires : tie.Need-wide-requires
 wide-requires c κs = search needs
 
--- src/lib.rt:83:31
 slice-aggregate-first-infinite : tie.Need-slice-aggregate-first-infinite
 slice-aggregate-first-infinite c = search needs
 
--- src/lib.rt:83:16
 first-infinite-requires : tie.Need-first-infinite-requires
 first-infinite-requires c κs = search needs
 
--- src/lib.rt:69:1
 returns-2 : tie.Need-returns-2
 returns-2 c =
     let d = c .before .before .before .before .before .before .before .before .before .before .record-at .ensures in

@@ -3,7 +3,6 @@ use borrow.Author.Needs.{needs}
 use borrow.Author.Tests.{eq-eqb, ne-eqb}
 use mathlib.Core.Path.{_≡_, sym}
 use Prim.Native.Nat.{_≤_, _-_}
-use native.Mathlib.Omega.{arith}
 use Rattle.laws.specs.First.{firstBelow}
 use Rattle.laws.proofs.Firsts.{first-none, first-more, first-end, first-at}
 use Rattle.infinities_text.specs.Infinities.{infiniteAt}

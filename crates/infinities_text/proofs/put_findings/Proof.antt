@@ -8,11 +8,6 @@ use Rattle.infinities_text.proofs.Findings as findings
 use borrow.Author.Needs.{needs}
 use Rattle.infinities_text.proofs.put_findings.Statement.{statement}
 use Rattle.infinities_text.proofs.put_findings.Tie as tie
-use Rattle.infinities_text.proofs.put_findings.Reads as reads
-use Rattle.infinities_text.proofs.put_findings.Lts as lts
-use Rattle.infinities_text.proofs.examine.Reads as examine-reads
-use Rattle.infinities_text.proofs.put_counts.Reads as put-counts-reads
-use Rattle.infinities_text.proofs.put_finding.Reads as put-finding-reads
 
 abbrev Inv-loop : tie.InvT-loop
 Inv-loop text₀ store count records₀ values₀ end₀ n₀ text records values end n =
@@ -21,23 +16,18 @@ Inv-loop text₀ store count records₀ values₀ end₀ n₀ text records value
 abbrev μ-loop : tie.MeasureT-loop
 μ-loop text₀ store count records₀ values₀ end₀ n₀ text records values end n = count - n
 
--- src/lib.rt:135:5
 loop-holds : tie.Need-loop-holds Inv-loop μ-loop
 loop-holds c = (search needs, search needs, search needs, findings.no-counts (c .before .before .args .store .now), findings.no-lines (c .before .before .args .store .now) (c .before .before .args .text .now))
 
--- src/lib.rt:136:13
 examine-requires : tie.Need-examine-requires Inv-loop μ-loop
 examine-requires c κs = search needs
 
--- src/lib.rt:138:13
 add-n : tie.Need-add-n Inv-loop μ-loop
 add-n c = search needs
 
--- src/lib.rt:135:5
 loop-less : tie.Need-loop-less Inv-loop μ-loop
 loop-less c = search needs
 
--- src/lib.rt:135:5
 loop-again : tie.Need-loop-again Inv-loop μ-loop
 loop-again c =
     let l = c .before .before .before .before .loop in
@@ -45,27 +35,21 @@ loop-again c =
     let f = c .before .before .examine .ensures .1 in
     (search needs, search needs, search needs, findings.count-skipped store (l .n) f (c .if1 .taken) (l .inv .3), findings.line-skipped store (l .n) f (c .if1 .taken) (l .inv .4))
 
--- src/lib.rt:140:9
 put-finding-requires : tie.Need-put-finding-requires Inv-loop μ-loop
 put-finding-requires c κs = search needs
 
--- src/lib.rt:141:9
 add-records : tie.Need-add-records Inv-loop μ-loop
 add-records c = let few = c .before .before .before .before .before .before .before .before .loop .inv .3 .few in search needs
 
--- src/lib.rt:142:9
 add-values : tie.Need-add-values Inv-loop μ-loop
 add-values c = let few = c .before .before .before .before .before .before .before .before .before .loop .inv .3 .few in search needs
 
--- src/lib.rt:135:9
 add-n-2 : tie.Need-add-n-2 Inv-loop μ-loop
 add-n-2 c = search needs
 
--- src/lib.rt:135:5
 loop-less-2 : tie.Need-loop-less-2 Inv-loop μ-loop
 loop-less-2 c = search needs
 
--- src/lib.rt:135:5
 loop-again-2 : tie.Need-loop-again-2 Inv-loop μ-loop
 loop-again-2 c =
     let l = c .before .before .before .before .before .before .before .before .before .loop in
@@ -78,15 +62,12 @@ loop-again-2 c =
       findings.line-more store (l .n) f (c .before .before .before .before .before .if1 .left) (l .inv .4) (c .before .before .before .put-finding .ensures .1),
     )
 
--- src/lib.rt:144:5
 put-counts-requires : tie.Need-put-counts-requires Inv-loop μ-loop
 put-counts-requires c κs = search needs
 
--- src/lib.rt:125:1
 same-length : tie.Need-same-length Inv-loop μ-loop
 same-length c = search needs
 
--- src/lib.rt:125:1
 returns : tie.Need-returns Inv-loop μ-loop
 returns c =
     let l = c .before .before .before .before .before .loop in

@@ -5,37 +5,25 @@ use Rattle.infinities_text.proofs.Findings as findings
 use borrow.Author.Needs.{needs}
 use Rattle.infinities_text.proofs.put_infinities.Statement.{statement}
 use Rattle.infinities_text.proofs.put_infinities.Tie as tie
-use Rattle.infinities_text.proofs.put_infinities.Reads as reads
-use Rattle.infinities_text.proofs.put_infinities.Lts as lts
-use Rattle.infinities_text.proofs.put_findings.Reads as put-findings-reads
-use Rattle.text.proofs.put_refusal.Reads as put-refusal-reads
-use Rattle.twins.proofs.list_refusal.Reads as list-refusal-reads
 
--- src/lib.rt:153:9
 list-refusal-requires : tie.Need-list-refusal-requires
 list-refusal-requires c κs = search needs
 
--- src/lib.rt:155:9
 put-refusal-requires : tie.Need-put-refusal-requires
 put-refusal-requires c κs = search needs
 
--- src/lib.rt:155:9
 same-length : tie.Need-same-length
 same-length c = search needs
 
--- src/lib.rt:155:9
 returns : tie.Need-returns
 returns c = (search needs, said (c .before .before .put-refusal .ensures .1) (findings.refused-text (c .before .before .before .before .before .before .before .before .args .store .now) _ (c .before .before .before .before .before .list-refusal .ensures) (c .before .before .before .before .if1 .taken)))
 
--- src/lib.rt:157:5
 put-findings-requires : tie.Need-put-findings-requires
 put-findings-requires c κs = let w = whole-when (c .before .before .list-refusal .ensures) (c .before .if1 .left) in search needs
 
--- src/lib.rt:148:1
 same-length-2 : tie.Need-same-length-2
 same-length-2 c = search needs
 
--- src/lib.rt:148:1
 returns-2 : tie.Need-returns-2
 returns-2 c =
     let e = c .before .before .before .before .before .list-refusal .ensures in

@@ -2,24 +2,16 @@ use Rattle.twins_scratch.proofs.Shown.{record-painted, whole-picture}
 use borrow.Author.Needs.{needs}
 use Rattle.listing_text.proofs.picture_of.Statement.{statement}
 use Rattle.listing_text.proofs.picture_of.Tie as tie
-use Rattle.listing_text.proofs.picture_of.Reads as reads
-use Rattle.listing_text.proofs.picture_of.Lts as lts
-use Rattle.bc6.proofs.block_pixels.Reads as block-pixels-reads
-use Rattle.records.proofs.record_block.Reads as record-block-reads
 
--- src/lib.rt:47:18
 record-block-requires : tie.Need-record-block-requires
 record-block-requires c κs = search needs
 
--- src/lib.rt:47:50
 slice-aggregate-block-pixels : tie.Need-slice-aggregate-block-pixels
 slice-aggregate-block-pixels c = search needs
 
--- src/lib.rt:47:5
 block-pixels-requires : tie.Need-block-pixels-requires
 block-pixels-requires c κs = search needs
 
--- src/lib.rt:41:1
 returns : tie.Need-returns
 returns c =
     let s = c .before .before .before .before .before .pre in

@@ -4,81 +4,57 @@ use Rattle.listing_text.proofs.Lines as lines
 use borrow.Author.Needs.{needs}
 use Rattle.listing_text.proofs.put_record.Statement.{statement}
 use Rattle.listing_text.proofs.put_record.Tie as tie
-use Rattle.listing_text.proofs.put_record.Reads as reads
-use Rattle.listing_text.proofs.put_record.Lts as lts
-use Rattle.listing_text.proofs.put_picture.Reads as put-picture-reads
-use Rattle.listing_text.proofs.put_refused.Reads as put-refused-reads
-use Rattle.records.proofs.RecordReading.number.Reads as number-reads
-use Rattle.records.proofs.record_at.Reads as record-at-reads
-use Rattle.records.proofs.tile_at.Reads as tile-at-reads
-use Rattle.text.proofs.put_field.Reads as put-field-reads
 
--- src/lib.rt:99:9
 put-field-requires : tie.Need-put-field-requires
 put-field-requires c κs = search needs
 
--- src/lib.rt:100:32
 tile-at-requires : tie.Need-tile-at-requires
 tile-at-requires c κs = search needs
 
--- src/lib.rt:100:32
 cast-put-field : tie.Need-cast-put-field
 cast-put-field c = search needs
 
--- src/lib.rt:100:5
 put-field-requires-2 : tie.Need-put-field-requires-2
 put-field-requires-2 c κs = search needs
 
--- src/lib.rt:101:9
 record-at-requires : tie.Need-record-at-requires
 record-at-requires c κs = search needs
 
--- src/lib.rt:102:32
 number-requires : tie.Need-number-requires
 number-requires c κs = search needs
 
--- src/lib.rt:102:32
 cast-put-field-2 : tie.Need-cast-put-field-2
 cast-put-field-2 c = search needs
 
--- src/lib.rt:102:5
 put-field-requires-3 : tie.Need-put-field-requires-3
 put-field-requires-3 c κs = search needs
 
--- src/lib.rt:103:31
 enum-known-reading : tie.Need-enum-known-reading
 enum-known-reading c = search needs
 
--- src/lib.rt:104:28
 enum-told : tie.Need-enum-told
 enum-told c = search needs
 
--- src/lib.rt:104:9
 put-refused-requires : tie.Need-put-refused-requires
 put-refused-requires c κs = search needs
 
--- src/lib.rt:104:9
 same-length : tie.Need-same-length
 same-length c = search needs
 
--- src/lib.rt:104:9
 returns : tie.Need-returns
 returns c =
     let d = c .before .before .before .before .before .before .before .before .before .before .before .record-at .ensures in
     (search needs, lines.refused-line (c .before .before .before .before .before .before .before .before .before .before .before .before .before .before .before .before .before .before .before .before .before .before .before .args .store .now) (c .before .before .before .before .before .before .before .before .before .before .before .before .before .before .before .before .before .before .before .before .before .before .before .args .n) (c .before .before .before .before .before .before .before .before .before .before .before .before .before .before .before .tile-at .ensures) (c .before .before .before .before .before .before .before .before .before .number .ensures ∙ d .answers) (c .before .before .before .before .before .before .before .before .before .before .before .before .before .before .before .before .before .before .before .put-field .ensures .1) (c .before .before .before .before .before .before .before .before .before .before .before .before .before .before .put-field2 .ensures .1) (c .before .before .before .before .before .before .before .before .put-field3 .ensures .1) (refused d (c .before .before .before .before .enum-told .given .1)) (c .before .before .put-refused .ensures .1))
 
--- src/lib.rt:106:5
 put-picture-requires : tie.Need-put-picture-requires
 put-picture-requires c κs =
     let d = c .before .before .before .before .before .before .before .before .before .record-at .ensures in
     let e = c .before .before .reading .given .1 in
     (search needs, (unrefused d e, (format-is d e, search needs)))
 
--- src/lib.rt:93:1
 same-length-2 : tie.Need-same-length-2
 same-length-2 c = search needs
 
--- src/lib.rt:93:1
 returns-2 : tie.Need-returns-2
 returns-2 c =
     let d = c .before .before .before .before .before .before .before .before .before .before .before .before .record-at .ensures in

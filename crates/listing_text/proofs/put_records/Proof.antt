@@ -8,9 +8,6 @@ use Rattle.listing_text.proofs.Lines as lines
 use borrow.Author.Needs.{needs}
 use Rattle.listing_text.proofs.put_records.Statement.{statement}
 use Rattle.listing_text.proofs.put_records.Tie as tie
-use Rattle.listing_text.proofs.put_records.Reads as reads
-use Rattle.listing_text.proofs.put_records.Lts as lts
-use Rattle.listing_text.proofs.put_record.Reads as put-record-reads
 
 abbrev Inv-loop : tie.InvT-loop
 Inv-loop text₀ store marks count end₀ n₀ text end n =
@@ -19,37 +16,29 @@ Inv-loop text₀ store marks count end₀ n₀ text end n =
 abbrev μ-loop : tie.MeasureT-loop
 μ-loop text₀ store marks count end₀ n₀ text end n = count - n
 
--- src/lib.rt:119:5
 loop-holds : tie.Need-loop-holds Inv-loop μ-loop
 loop-holds c = (search needs, search needs, search needs, lines.no-lines (c .before .before .before .args .store .now) (c .before .before .before .args .text .now))
 
--- src/lib.rt:120:47
 shared-slice-read-put-record : tie.Need-shared-slice-read-put-record Inv-loop μ-loop
 shared-slice-read-put-record c = search needs
 
--- src/lib.rt:120:9
 put-record-requires : tie.Need-put-record-requires Inv-loop μ-loop
 put-record-requires c κs = (search needs, c .before .before .before .before .before .before .before .pre .1 .1 .at (c .before .before .before .loop .n) (search needs))
 
--- src/lib.rt:119:9
 add-n : tie.Need-add-n Inv-loop μ-loop
 add-n c = search needs
 
--- src/lib.rt:119:5
 loop-less : tie.Need-loop-less Inv-loop μ-loop
 loop-less c = search needs
 
--- src/lib.rt:119:5
 loop-again : tie.Need-loop-again Inv-loop μ-loop
 loop-again c =
     let l = c .before .before .before .before .before .before .loop in
     (search needs, search needs, search needs, lines.line-more (c .before .before .before .before .before .before .before .before .before .before .args .store .now) (l .n) (l .inv .3) (c .before .before .put-record .ensures .1))
 
--- src/lib.rt:110:1
 same-length : tie.Need-same-length Inv-loop μ-loop
 same-length c = search needs
 
--- src/lib.rt:110:1
 returns : tie.Need-returns Inv-loop μ-loop
 returns c =
     let l = c .before .loop in

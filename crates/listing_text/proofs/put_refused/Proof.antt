@@ -2,36 +2,25 @@ use Rattle.listing_text.proofs.Lines as lines
 use borrow.Author.Needs.{needs}
 use Rattle.listing_text.proofs.put_refused.Statement.{statement}
 use Rattle.listing_text.proofs.put_refused.Tie as tie
-use Rattle.listing_text.proofs.put_refused.Reads as reads
-use Rattle.listing_text.proofs.put_refused.Lts as lts
-use Rattle.text.proofs.put.Reads as put-reads
-use Rattle.text.proofs.put_field.Reads as put-field-reads
 
--- src/lib.rt:87:33
 slice-aggregate-put : tie.Need-slice-aggregate-put
 slice-aggregate-put c = search needs
 
--- src/lib.rt:87:9
 put-requires : tie.Need-put-requires
 put-requires c κs = search needs
 
--- src/lib.rt:88:5
 put-field-requires : tie.Need-put-field-requires
 put-field-requires c κs = search needs
 
--- src/lib.rt:89:20
 slice-aggregate-put-2 : tie.Need-slice-aggregate-put-2
 slice-aggregate-put-2 c = search needs
 
--- src/lib.rt:89:5
 put-requires-2 : tie.Need-put-requires-2
 put-requires-2 c κs = search needs
 
--- src/lib.rt:81:1
 same-length : tie.Need-same-length
 same-length c = search needs
 
--- src/lib.rt:81:1
 returns : tie.Need-returns
 returns c = (search needs, lines.unshown (c .before .before .before .before .before .before .before .before .before .before .before .before .before .before .before .before .args .store .now) (c .before .before .before .before .before .before .before .before .before .before .before .before .before .before .before .before .args .n) (c .before .before .before .before .before .before .before .before .before .before .before .before .before .before .before .before .pre .1) (c .before .before .before .before .before .before .before .before .before .before .before .put .ensures .1) (c .before .before .before .before .before .before .before .put-field .ensures .1) (c .before .before .put2 .ensures .1))
 

@@ -3,52 +3,37 @@ use Rattle.text.proofs.Texts.{then}
 use borrow.Author.Needs.{needs}
 use Rattle.listing_text.proofs.put_triple.Statement.{statement}
 use Rattle.listing_text.proofs.put_triple.Tie as tie
-use Rattle.listing_text.proofs.put_triple.Reads as reads
-use Rattle.listing_text.proofs.put_triple.Lts as lts
-use Rattle.text.proofs.put.Reads as put-reads
-use Rattle.text.proofs.put_hex.Reads as put-hex-reads
 
--- src/lib.rt:57:9
 put-hex-requires : tie.Need-put-hex-requires
 put-hex-requires c κs = search needs
 
--- src/lib.rt:58:26
 slice-aggregate-put : tie.Need-slice-aggregate-put
 slice-aggregate-put c = search needs
 
--- src/lib.rt:58:5
 put-requires : tie.Need-put-requires
 put-requires c κs = search needs
 
--- src/lib.rt:59:5
 put-hex-requires-2 : tie.Need-put-hex-requires-2
 put-hex-requires-2 c κs = search needs
 
--- src/lib.rt:60:26
 slice-aggregate-put-2 : tie.Need-slice-aggregate-put-2
 slice-aggregate-put-2 c = search needs
 
--- src/lib.rt:60:5
 put-requires-2 : tie.Need-put-requires-2
 put-requires-2 c κs = search needs
 
--- src/lib.rt:61:5
 put-hex-requires-3 : tie.Need-put-hex-requires-3
 put-hex-requires-3 c κs = search needs
 
--- src/lib.rt:62:20
 slice-aggregate-put-3 : tie.Need-slice-aggregate-put-3
 slice-aggregate-put-3 c = search needs
 
--- src/lib.rt:62:5
 put-requires-3 : tie.Need-put-requires-3
 put-requires-3 c κs = search needs
 
--- src/lib.rt:52:1
 same-length : tie.Need-same-length
 same-length c = search needs
 
--- src/lib.rt:52:1
 returns : tie.Need-returns
 unfolding tripleOf
 returns c = (search needs, then (then (then (then (then (c .before .before .before .before .before .before .before .before .before .before .before .before .before .before .before .before .before .before .before .before .before .before .before .before .before .put-hex .ensures .1) (c .before .before .before .before .before .before .before .before .before .before .before .before .before .before .before .before .before .before .before .before .put .ensures .1)) (c .before .before .before .before .before .before .before .before .before .before .before .before .before .before .before .before .put-hex2 .ensures .1)) (c .before .before .before .before .before .before .before .before .before .before .before .put2 .ensures .1)) (c .before .before .before .before .before .before .before .put-hex3 .ensures .1)) (c .before .before .put3 .ensures .1))

@@ -7,8 +7,8 @@ use Rattle.probe_store.proofs.print_header.Tie as tie
 put-header-requires : tie.Need-put-header-requires
 put-header-requires c κs = (search needs, search needs, header-fits _ _ _ (search needs))
 
-write-text-requires : tie.Need-write-text-requires
-write-text-requires c κs = header-end _ _ _ (c .before .before .put-header .ensures .next-is) (search needs)
+print-requires : tie.Need-print-requires
+print-requires c κs = header-end _ _ _ (c .before .before .put-header .ensures .next-is) (search needs)
 
 pub print-header-spec : {M : Type 1} → statement M
 print-header-spec =
@@ -19,5 +19,5 @@ print-header-spec =
     (λ c. search needs)
     put-header-requires
     (λ c. search needs)
-    write-text-requires
+    print-requires
     (λ c. search needs))

@@ -3,31 +3,23 @@ use borrow.Author.Tests.{lt-ltb, le-ltb}
 use borrow.Author.Needs.{needs}
 use Rattle.text.proofs.hex_digit.Statement.{statement}
 use Rattle.text.proofs.hex_digit.Tie as tie
-use Rattle.text.proofs.hex_digit.Reads as reads
-use Rattle.text.proofs.hex_digit.Lts as lts
 
--- src/lib.rt:65:17
 cast-digit : tie.Need-cast-digit
 cast-digit c = search needs
 
--- src/lib.rt:67:16
 add-result : tie.Need-add-result
 add-result c = search needs
 
--- src/lib.rt:67:9
 returns : tie.Need-returns
 unfolding hexDigit
 returns c = rw (lt-ltb _ _ (c .if1 .taken))
 
--- src/lib.rt:69:5
 sub-result : tie.Need-sub-result
 sub-result c = search needs
 
--- src/lib.rt:69:5
 add-result-2 : tie.Need-add-result-2
 add-result-2 c = search needs
 
--- src/lib.rt:62:1
 returns-2 : tie.Need-returns-2
 unfolding hexDigit
 returns-2 c = rw (le-ltb _ _ (c .if1 .left))

@@ -2,40 +2,28 @@ use Rattle.text.proofs.Texts.{said, hex-is}
 use borrow.Author.Needs.{needs}
 use Rattle.text.proofs.put_hex.Statement.{statement}
 use Rattle.text.proofs.put_hex.Tie as tie
-use Rattle.text.proofs.put_hex.Reads as reads
-use Rattle.text.proofs.put_hex.Lts as lts
-use Rattle.text.proofs.hex_digit.Reads as hex-digit-reads
-use Rattle.text.proofs.put.Reads as put-reads
 
--- src/lib.rt:79:9
 hex-digit-requires : tie.Need-hex-digit-requires
 hex-digit-requires c κs = search needs
 
--- src/lib.rt:80:9
 hex-digit-requires-2 : tie.Need-hex-digit-requires-2
 hex-digit-requires-2 c κs = search needs
 
--- src/lib.rt:81:9
 hex-digit-requires-3 : tie.Need-hex-digit-requires-3
 hex-digit-requires-3 c κs = search needs
 
--- src/lib.rt:82:9
 hex-digit-requires-4 : tie.Need-hex-digit-requires-4
 hex-digit-requires-4 c κs = search needs
 
--- src/lib.rt:84:19
 slice-aggregate-put : tie.Need-slice-aggregate-put
 slice-aggregate-put c = search needs
 
--- src/lib.rt:84:5
 put-requires : tie.Need-put-requires
 put-requires c κs = search needs
 
--- src/lib.rt:73:1
 same-length : tie.Need-same-length
 same-length c = search needs
 
--- src/lib.rt:73:1
 returns : tie.Need-returns
 returns c = (search needs, said (c .before .before .put .ensures .1) (hex-is (c .before .before .before .before .before .before .before .before .before .before .args .value) (search needs) (search needs) (search needs) (search needs)))
 

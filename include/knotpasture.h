@@ -109,7 +109,7 @@ uint32_t knot_blocks_pixels(const uint8_t *blocks, size_t blocks_length, uint8_t
  * Modes 11 to 14 have one region: their last two endpoints, partition and region count are 0.
  * Answers the number in the low byte and the mode in the next. Refusals: 1, 2, 4, 3 (fewer than 32 numbers of room).
  *
- * Stack: 350 bytes.
+ * Stack: 1,400 bytes.
  */
 uint32_t knot_block_fields(const uint8_t *block, size_t block_length, uint8_t format, uint16_t *numbers, size_t numbers_length);
 
@@ -122,7 +122,7 @@ uint32_t knot_block_fields(const uint8_t *block, size_t block_length, uint8_t fo
  *
  * Answers the number alone. Refusals: 1, 10 (also for another count of numbers than 32), 11, in this order.
  *
- * Stack: 1,350 bytes.
+ * Stack: 1,400 bytes.
  */
 uint32_t knot_write_block(const uint16_t *numbers, size_t numbers_length, uint8_t *out, size_t out_length);
 
@@ -130,6 +130,8 @@ uint32_t knot_write_block(const uint16_t *numbers, size_t numbers_length, uint8_
  * 48 values become out[0] to out[47], as knot_block_pixels would write them of the record's block; the rest of out stays.
  *
  * Answers the number alone. Refusals: 1, 10 (also for another count of numbers than 32), 3, in this order.
+ *
+ * Stack: 1,100 bytes.
  */
 uint32_t knot_fields_pixels(const uint16_t *numbers, size_t numbers_length, uint16_t *out, size_t out_length);
 
@@ -239,12 +241,14 @@ enum {
  * Answers the number in the low byte; where that is 0, the format in the next byte, the face in bits 16 to 23 and the tile in the
  * high 32 bits (KNOT_FORMAT, KNOT_FACE, KNOT_TILE); *column and *row become the record's. Refusals: 5, 6, 8, 1, 7, 17; *column and
  * *row become 0.
+ *
+ * Stack: 50 bytes.
  */
 uint64_t knot_placed_record_at(const uint8_t *store, size_t store_length, size_t n, uint16_t *column, uint16_t *row);
 
 #define KNOT_FACE(word) ((uint8_t)((word) >> 16 & 0xFF))
 
-/* Where in the store the sixteen block bytes of record n start: 32 n + 16. 0 exactly when knot_placed_record_at refuses n. */
+/* Where in the store the sixteen block bytes of record n start: 32 n + 16. 0 exactly when knot_placed_record_at refuses n. Stack: 50 bytes. */
 size_t knot_placed_record_block(const uint8_t *store, size_t store_length, size_t n);
 
 /* Moves a store of 24-byte records to one of records with a place, none of them placed: out[32 n] to out[32 n + 31] for record n,
@@ -253,6 +257,8 @@ size_t knot_placed_record_block(const uint8_t *store, size_t store_length, size_
  * Answers the number in the low byte; where that is 0, the number of records in bits 16 to 31. Refusals: 5 and 6 as for
  * knot_record_at, 3 (fewer than 32 bytes of room a record); then the first record that is refused, with its 1 or 7. Nothing is
  * written then, not even the records before it.
+ *
+ * Stack: 50 bytes.
  */
 uint64_t knot_place_store(const uint8_t *old, size_t old_length, uint8_t *out, size_t out_length);
 
@@ -261,6 +267,8 @@ uint64_t knot_place_store(const uint8_t *old, size_t old_length, uint8_t *out, s
  *
  * Answers as knot_place_store. Refusals: 5 and 6 as for knot_placed_record_at, 3 (fewer than 24 bytes of room a record); then the
  * first record that is refused, with its 1, 7, 17 or 18, a placed record.
+ *
+ * Stack: 50 bytes.
  */
 uint64_t knot_unplace_store(const uint8_t *store, size_t store_length, uint8_t *out, size_t out_length);
 
@@ -282,6 +290,8 @@ enum { KNOT_EDGE_LIMIT = 16 /* blocks on an edge, at most */ };
  * Answers the number in the low byte; where that is 0, red in bits 16 to 31, green in bits 32 to 47, blue in bits 48 to 63. A
  * refusal is the number alone. Refusals: those of knot_probe_check, then 24. The store is checked at each call: for many pixels
  * knot_probe_face is the call.
+ *
+ * Stack: 3,500 bytes.
  */
 uint64_t knot_probe_pixel(const uint8_t *store, size_t store_length, uint32_t edge, uint32_t face, uint32_t x, uint32_t y);
 
@@ -293,6 +303,8 @@ uint64_t knot_probe_pixel(const uint8_t *store, size_t store_length, uint32_t ed
  *
  * Answers the number in the low byte; for 1, 7, 17, 20, 21 and 22 the first faulty record's number in bits 16 to 31, which are 0 for
  * every other answer.
+ *
+ * Stack: 3,200 bytes.
  */
 uint64_t knot_probe_check(const uint8_t *store, size_t store_length, uint32_t edge);
 
@@ -302,6 +314,8 @@ uint64_t knot_probe_check(const uint8_t *store, size_t store_length, uint32_t ed
  * out[3 (4 n y + x)] on; the rest of out stays. Each block is decoded once.
  *
  * Answers the number alone. Refusals: those of knot_probe_check, then 24 (face), then 3 (fewer than 48 n n values of room).
+ *
+ * Stack: 5,000 bytes.
  */
 uint32_t knot_probe_face(const uint8_t *store, size_t store_length, uint32_t edge, uint32_t face, uint16_t *out, size_t out_length);
 
@@ -310,7 +324,7 @@ uint32_t knot_probe_face(const uint8_t *store, size_t store_length, uint32_t edg
  * the lowest number of its precision. Two such blocks of one format, mode and partition that show the same 48 values are the same
  * sixteen bytes: deleting one of the two loses nothing. False for any other format or length.
  *
- * Stack: 650 bytes.
+ * Stack: 1,600 bytes.
  */
 bool knot_is_trusted(const uint8_t *block, size_t block_length, uint8_t format);
 
@@ -319,6 +333,8 @@ bool knot_is_trusted(const uint8_t *block, size_t block_length, uint8_t format);
  *
  * Answers the number in the low byte and the mode in the next: 0 to 7, or KNOT_BC7_RESERVED for a reserved block, which is done and shows 64
  * zeros, alpha too. Refusals: 2, 3 (fewer than 64 bytes of room), in this order, with mode 0.
+ *
+ * Stack: 600 bytes.
  */
 uint32_t knot_bc7_pixels(const uint8_t *block, size_t block_length, uint8_t *out, size_t out_length);
 
@@ -329,6 +345,8 @@ enum { KNOT_BC7_BYTES = 64, KNOT_BC7_RESERVED = 8 };
  *
  * Answers the number; *done becomes the number of blocks, which may be 0. Refusals: 9, 3 (fewer than 64 bytes of room a block), in this order;
  * nothing is written, not even the first block's bytes, and *done becomes 0.
+ *
+ * Stack: 650 bytes.
  */
 uint64_t knot_bc7_blocks_pixels(const uint8_t *blocks, size_t blocks_length, uint8_t *out, size_t out_length, size_t *done);
 
@@ -346,15 +364,18 @@ enum {
  *
  * Answers the number in the low byte; where that is 0, the format in bits 8 to 15, the width in bits 16 to 31, the height in bits
  * 32 to 47; where it is not, nothing else.
+ *
+ * Stack: 50 bytes.
  */
 uint64_t knot_dds_head(const uint8_t *file, size_t file_length);
+/* Stack: 50 bytes. */
 uint64_t knot_dds_read(const uint8_t *file, size_t file_length);
 
 #define KNOT_DDS_FORMAT(word) ((unsigned)((word) >> 8 & 0xFF))
 #define KNOT_DDS_WIDTH(word) ((unsigned)((word) >> 16 & 0xFFFF))
 #define KNOT_DDS_HEIGHT(word) ((unsigned)((word) >> 32 & 0xFFFF))
 
-/* Where in the file the blocks start: KNOT_DDS_HEADER. 0 exactly when knot_dds_read refuses. They go on to the file's end. */
+/* Where in the file the blocks start: KNOT_DDS_HEADER. 0 exactly when knot_dds_read refuses. They go on to the file's end. Stack: 50 bytes. */
 size_t knot_dds_blocks(const uint8_t *file, size_t file_length);
 
 /* Writes a file: KNOT_DDS_HEADER bytes and the blocks; the rest of out stays. knot_dds_read of exactly those bytes answers the same size
@@ -362,6 +383,8 @@ size_t knot_dds_blocks(const uint8_t *file, size_t file_length);
  *
  * Answers the number in the low byte and the file's length in the bits above it, 0 on a refusal. Refusals: 1, 14, 15, 3 (less room than
  * KNOT_DDS_HEADER bytes and the blocks), in this order.
+ *
+ * Stack: 200 bytes.
  */
 uint64_t knot_dds_write(const uint8_t *blocks, size_t blocks_length, uint8_t format, uint32_t width, uint32_t height, uint8_t *out,
                         size_t out_length);
@@ -382,11 +405,13 @@ enum {
  *
  * Answers the number in the low byte and the file's length in the bits above it (KNOT_FILE_LENGTH), 0 on a refusal. Refusals: 1, 16, 15, 3
  * (less room than the file has bytes), in this order.
+ *
+ * Stack: 700 bytes.
  */
 uint64_t knot_pfm_write(const uint8_t *blocks, size_t blocks_length, uint8_t format, uint32_t width, uint32_t height, uint8_t *out,
                         size_t out_length);
 
-/* The length of the file of a picture; 0 for a size that is refused. */
+/* The length of the file of a picture; 0 for a size that is refused. Stack: 50 bytes. */
 size_t knot_pfm_length(uint32_t width, uint32_t height);
 
 #ifdef __cplusplus

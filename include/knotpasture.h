@@ -28,8 +28,8 @@ enum knot_answer {
     KNOT_BAD_BLOCK = 2,     /* block length is not KNOT_BLOCK_SIZE */
     KNOT_SHORT_OUTPUT = 3,  /* lent output too short */
     KNOT_RESERVED_MODE = 4, /* reserved mode, from the field call only */
-    KNOT_LONG_STORE = 5,    /* store longer than KNOT_STORE_LIMIT bytes */
-    KNOT_UNEVEN_STORE = 6,  /* store length not a multiple of KNOT_RECORD_SIZE */
+    KNOT_LONG_STORE = 5,    /* store longer than KNOT_STORE_LIMIT bytes; of records with a place, KNOT_PLACED_STORE_LIMIT */
+    KNOT_UNEVEN_STORE = 6,  /* store length not a multiple of KNOT_RECORD_SIZE; of records with a place, of KNOT_PLACED_SIZE */
     KNOT_SPARE_BYTE = 7,    /* a record's spare byte is not zero */
     KNOT_NO_RECORD = 8,     /* record number not below the number of records */
     KNOT_UNEVEN_BLOCKS = 9, /* block bytes not a multiple of KNOT_BLOCK_SIZE */
@@ -39,8 +39,7 @@ enum knot_answer {
     KNOT_FOREIGN_HEADER = 13, /* DDS header that is not ours */
     KNOT_BAD_SIZE = 14,     /* a DDS file's width or height is not 1 to KNOT_DDS_LIMIT */
     KNOT_BAD_BLOCKS = 15,   /* block bytes short or left over for the size */
-    KNOT_UNEVEN_SIZE = 16   /* a Portable Float Map's width or height is 0, no multiple of 4 or above KNOT_PFM_LIMIT */
-
+    KNOT_UNEVEN_SIZE = 16,  /* a Portable Float Map's width or height is 0, no multiple of 4 or above KNOT_PFM_LIMIT */
     KNOT_BAD_PLACE = 17,    /* bad face, or a record that is not placed has a column or a row */
     KNOT_PLACED_RECORD = 18, /* placed record on the way back, from knot_unplace_store only */
     KNOT_BAD_EDGE = 19,     /* edge of a probe not 1 to KNOT_EDGE_LIMIT */

@@ -1,6 +1,6 @@
 //! Tells how another decoder's values differ from ours, class by class, with the block of fewest bits for each class.
 //!
-//!     tally RECORDS OURS THEIRS      17 bytes a record; 98 bytes an answer of ours; 96 bytes an answer of theirs
+//!     tally RECORDS OURS THEIRS      17 bytes a record; 100 bytes an answer of ours; 96 bytes an answer of theirs
 use std::collections::BTreeMap;
 use std::process::ExitCode;
 
@@ -28,7 +28,7 @@ fn main() -> ExitCode {
         return ExitCode::from(2);
     };
     let count = records.len() / 17;
-    if count == 0 || ours.len() != 98 * count || theirs.len() != 96 * count {
+    if count == 0 || ours.len() != 100 * count || theirs.len() != 96 * count {
         println!("{count} records, {} bytes of ours, {} bytes of theirs: they do not match", ours.len(), theirs.len());
         return ExitCode::FAILURE;
     }
@@ -37,7 +37,7 @@ fn main() -> ExitCode {
         let mut seen = "";
         for k in 0..48 {
             let value = |bytes: &[u8], at: usize| u16::from_le_bytes([bytes[at], bytes[at + 1]]);
-            let (a, b) = (value(ours, 98 * n + 2 + 2 * k), value(theirs, 96 * n + 2 * k));
+            let (a, b) = (value(ours, 100 * n + 4 + 2 * k), value(theirs, 96 * n + 2 * k));
             if a == b {
                 continue;
             }

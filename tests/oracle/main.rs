@@ -1,5 +1,6 @@
 //! The Rust decoder in the manner of the program decode_blocks: standard input is a run of 17-byte records, a format byte
-//! and a block; for each, 98 bytes go out: answer, mode, 48 values, low byte first. Formats are 0 or 1 here.
+//! and a block; for each, 100 bytes go out: answer, mode, count of minus infinities, 48 values, low byte
+//! first. Formats are 0 or 1 here.
 use std::io::{self, BufReader, BufWriter, ErrorKind, Read, Write};
 
 fn main() -> io::Result<()> {
@@ -12,9 +13,11 @@ fn main() -> io::Result<()> {
             read => read?,
         }
         let block = record[1..].try_into().unwrap();
-        let mut answer = [0; 98];
+        let mut answer = [0; 100];
+        let values = oracle::pixels(block, record[0] == 1);
         answer[1] = oracle::mode(block);
-        for (value, bytes) in oracle::pixels(block, record[0] == 1).iter().flatten().zip(answer[2..].chunks_mut(2)) {
+        answer[2] = values.iter().flatten().filter(|&&value| value == 0xFC00).count() as u8;
+        for (value, bytes) in values.iter().flatten().zip(answer[4..].chunks_mut(2)) {
             bytes.copy_from_slice(&value.to_le_bytes());
         }
         output.write_all(&answer)?;

@@ -3,6 +3,7 @@
 usage: knot fields BLOCK signed|unsigned     a block of 16 bytes, which does not say its format
        knot fields FILE                      a format and a block (17 bytes), or a record of a store (24 bytes)
        knot fields STORE N                   record N of a store
+       knot fields --picture ..              what the block shows: pixel by pixel, red, green and blue in hex
 
 The fields are as stored, before any sign extension or transform. A record's own format is kept. A record that is refused and a block
 of a reserved mode have no fields.
@@ -35,6 +36,8 @@ def own_block(record):
 
 
 def run(words):
+    picture = words[:1] == ["--picture"]
+    words = words[1:] if picture else words
     if not 1 <= len(words) <= 2 or words[0].startswith("--"):
         raise house.Usage("it takes a BLOCK and its format, a FILE, or a STORE and a number")
     path, word = words[0], words[1] if words[1:] else None
@@ -48,4 +51,4 @@ def run(words):
         raise house.Trouble("the program extract_fields gave no fields")
     if written[0] != 0:
         raise house.Refused(written[0], f"block refused {written[0]}\n")
-    house.put(fieldtext.text_of(written[1:]))
+    house.put(fieldtext.picture_of(written[1:]) if picture else fieldtext.text_of(written[1:]))

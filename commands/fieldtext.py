@@ -3,6 +3,7 @@
 What may stand in a field is not written down here: it is asked of the proved writer, over records that differ in one field.
 """
 import re
+import struct
 
 from . import house
 
@@ -146,3 +147,15 @@ def block_of(said, name=None):
     if block is None:
         raise refused("; ".join(causes(said, region1)) or house.MEANINGS[10], name)
     return block
+
+
+def picture_of(fields):
+    """The text of what the 44 bytes of a record show, before any block is written of them: a line a pixel, its three patterns in hex."""
+    numbers = [*fields[:2], *struct.unpack("<12H", fields[2:26]), *fields[26:]]
+    shown, _ = house.program("show_fields", struct.pack("<32H", *numbers))
+    if len(shown) != 97:
+        raise house.Trouble("the program show_fields gave no picture")
+    if shown[0] != 0:
+        raise house.Refused(shown[0], f"block refused {shown[0]}\n")
+    values = struct.unpack("<48H", shown[1:])
+    return "".join(f"pixel {k} {values[3 * k]:04X} {values[3 * k + 1]:04X} {values[3 * k + 2]:04X}\n" for k in range(16))

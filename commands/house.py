@@ -13,7 +13,7 @@ import tempfile
 ROOT = pathlib.Path(__file__).resolve().parent.parent
 
 # The commands, in the order of `knot help`.
-COMMANDS = ["list"]
+COMMANDS = ["list", "audit", "report"]
 
 DONE, REFUSED, USAGE, TROUBLE = 0, 1, 2, 3
 

@@ -1,3 +1,4 @@
+pub mod Codes
 pub mod Link
 pub mod Whole
 pub mod Calls

@@ -24,7 +24,7 @@ use Rattle.bc6h_spec.proofs.Shown.{region-lt, mixed-in, value-unsigned, value-s
 use Rattle.bc6.specs.declared.Pixels.{Pixels}
 use Rattle.bc6.specs.Call.{refusalOf, Painted}
 use Rattle.bc6.specs.Numbers.{interpolatedAt, lowest}
-use Rattle.bc6.proofs.Whole.{pixels-none}
+use Rattle.bc6h_spec.proofs.Pixel.{pixels-none}
 use Rattle.bc6h_spec.proofs.Pixel.{shows-as}
 use Rattle.bc6h_spec.proofs.Values.{length-pixels}
 use Rattle.bc6.proofs.Calls.{written}

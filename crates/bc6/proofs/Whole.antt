@@ -12,7 +12,7 @@ use Rattle.bc6h_spec.specs.Fields.{modeIn, modeOf, fieldsAt}
 use Rattle.bc6h_spec.specs.Picture.{pictureAs}
 use Rattle.bc6h_spec.specs.Block.{formatNumber, pixelsOf}
 use Rattle.bc6h_spec.proofs.Reading.{fields-are}
-use Rattle.bc6h_spec.proofs.Pixel.{shows-as}
+use Rattle.bc6h_spec.proofs.Pixel.{pixels-none, shows-as}
 use Rattle.laws.specs.Made.{countOf}
 use Rattle.bc6h_spec.specs.Half.{minusInfinity}
 use Rattle.bc6_half.specs.declared.Half.{Half}
@@ -29,10 +29,6 @@ module _ (s : Bool) (n : ℕ) where
   pub shown-some : (modeIn n ≡ 0 → ⊥) → shownOf s n ≡ pictureAs s (fieldsAt (formatNumber s) (modeIn n) n)
   unfolding shownOf
   shown-some z = rw (ne-eqb (modeIn n) 0 z) refl
-
-pub pixels-none : (s : Bool) (block : List ℕ) → modeOf block ≡ 0 → pixelsOf s block ≡ replicate 48 0
-unfolding pixelsOf
-pixels-none s block z = rw z refl
 
 pub block-shown : (s : Bool) (block : List ℕ) (n : ℕ) → n ≡ numberOf block → shownOf s n ≡ pixelsOf s block
 unfolding modeOf
@@ -51,11 +47,13 @@ unfolding countOf
 shown-black s n {out} z h =
     record { holds = h ∙ ap (λ (l : List ℕ). l ++ drop 48 out) (sym (shown-none s n z)); counts = sym (ap (countOf minusInfinity) (shown-none s n z)) }
 
-pub shown-picture : (s b : Bool) (m n : ℕ) {out after : List ℕ} {r : ℕ} → s ≡ b → m ≡ modeIn n → (m ≡ 0 → ⊥)
-    → PaintedAs (pictureAs b (fieldsAt (formatNumber b) m n)) out r after → PaintedAs (shownOf s n) out r after
-shown-picture s b m n es em z w =
-    painted-as w
-    (ap (λ (k : ℕ). pictureAs b (fieldsAt (formatNumber b) k n)) em ∙ sym (shown-some b n (λ q. z (em ∙ q))) ∙ ap (λ (x : Bool). shownOf x n) (sym es))
+-- a mode that is not 0
+pub some-mode : (m : ℕ) → (m ≡ 0 → ⊥) → 1 ≤ m
+some-mode m z = omega (arith, z)
+
+pub shown-picture : (s b : Bool) (n : ℕ) {out after : List ℕ} {r : ℕ} → s ≡ b → 1 ≤ modeIn n
+    → PaintedAs (pictureAs b (fieldsAt (formatNumber b) (modeIn n) n)) out r after → PaintedAs (shownOf s n) out r after
+shown-picture s b n es some w = painted-as w (sym (shown-some b n (λ q. absurd (omega (arith, q)))) ∙ ap (λ (x : Bool). shownOf x n) (sym es))
 
 -- the zero colour's values
 pub zero-value : (l : List Half) (j : ℕ) → l ≡ black → getD l (j % 3) (record { pattern = 0; infinite = false }) .pattern ≡ 0

@@ -1,11 +1,8 @@
 // The pixels call: from a block's bits to the values that it shows, with no palette.
 //
-// The endpoints stand in one array of twelve, channel by channel: first as they are stored, then, in place, unquantised. Each format has a
-// function of its own: the compiler then works out the endpoints with the format known.
-use bc6_endpoints::one_ends;
-use bc6_endpoints::two_ends;
+// The endpoints stand in the lanes of two or three words. Each format has a function of its own: the compiler then works them out with the
+// format known.
 use bc6_half::Colour;
-use bc6_mode::ModeBits;
 use bc6_mode::extract_mode;
 use bc6h_spec::Answer;
 use bc6h_spec::Block;
@@ -49,38 +46,48 @@ fn one_indices(stream: BitStream) -> u64
     indexes.uncompressed
 }
 
-fn show_unsigned(mode: u8, lo: u64, hi: u64, out: &mut [u16]) -> u16
-    requires { ⌜ ((1 ≤ mode) × (mode ≤ 14)) × (48 ≤ length (now out)) ⌝ }
-    ensures { λ r. ⌜ PaintedAs (pictureAs false (fieldsAt 0 mode (number (record { lo = lo; hi = hi })))) (now (out .entry)) r (now (out .exit)) ⌝ }
+fn show_unsigned(lo: u64, hi: u64, out: &mut [u16]) -> u16
+    requires { ⌜ (1 ≤ modeIn (number (record { lo = lo; hi = hi }))) × (48 ≤ length (now out)) ⌝ }
+    ensures { λ r. ⌜ PaintedAs (pictureAs false (fieldsAt 0 (modeIn (number (record { lo = lo; hi = hi }))) (number (record { lo = lo; hi = hi })))) (now (out .entry)) r (now (out .exit)) ⌝ }
 {
-    let mut ends = [0u16; 12];
-    bc6_runs::read_ends(mode as usize, lo, hi, &mut ends);
-    let bits = ModeBits::of(mode);
     let stream = BitStream { lo, hi };
-    if mode <= 10 {
-        two_ends(bits, false, &mut ends);
+    let ends = bc6_by_mode::unsigned_ends(lo, hi);
+    if lo % 4 != 3 {
         let picks = two_picks(stream);
-        return bc6_two_regions::paint_two(false, ends, picks.map, picks.indices, out);
+        bc6_two_regions::paint_two(
+            false,
+            ends.first,
+            ends.second,
+            ends.third,
+            picks.map,
+            picks.indices,
+            out,
+        );
+        return 0;
     }
-    one_ends(bits, false, &mut ends);
-    bc6_one_region::paint_one(false, ends, one_indices(stream), out)
+    bc6_one_region::paint_one(false, ends.first, ends.second, one_indices(stream), out)
 }
 
-fn show_signed(mode: u8, lo: u64, hi: u64, out: &mut [u16]) -> u16
-    requires { ⌜ ((1 ≤ mode) × (mode ≤ 14)) × (48 ≤ length (now out)) ⌝ }
-    ensures { λ r. ⌜ PaintedAs (pictureAs true (fieldsAt 1 mode (number (record { lo = lo; hi = hi })))) (now (out .entry)) r (now (out .exit)) ⌝ }
+fn show_signed(lo: u64, hi: u64, out: &mut [u16]) -> u16
+    requires { ⌜ (1 ≤ modeIn (number (record { lo = lo; hi = hi }))) × (48 ≤ length (now out)) ⌝ }
+    ensures { λ r. ⌜ PaintedAs (pictureAs true (fieldsAt 1 (modeIn (number (record { lo = lo; hi = hi }))) (number (record { lo = lo; hi = hi })))) (now (out .entry)) r (now (out .exit)) ⌝ }
 {
-    let mut ends = [0u16; 12];
-    bc6_runs::read_ends(mode as usize, lo, hi, &mut ends);
-    let bits = ModeBits::of(mode);
     let stream = BitStream { lo, hi };
-    if mode <= 10 {
-        two_ends(bits, true, &mut ends);
+    let ends = bc6_by_mode::signed_ends(lo, hi);
+    if lo % 4 != 3 {
         let picks = two_picks(stream);
-        return bc6_two_regions::paint_two(true, ends, picks.map, picks.indices, out);
+        bc6_two_regions::paint_two(
+            true,
+            ends.first,
+            ends.second,
+            ends.third,
+            picks.map,
+            picks.indices,
+            out,
+        );
+        return 0;
     }
-    one_ends(bits, true, &mut ends);
-    bc6_one_region::paint_one(true, ends, one_indices(stream), out)
+    bc6_one_region::paint_one(true, ends.first, ends.second, one_indices(stream), out)
 }
 
 // Sixteen black pixels: 48 zeros.
@@ -106,9 +113,9 @@ pub fn show(mode: u8, lo: u64, hi: u64, signed: bool, out: &mut [u16]) -> u16
         return 0;
     }
     if signed {
-        return show_signed(mode, lo, hi, out);
+        return show_signed(lo, hi, out);
     }
-    show_unsigned(mode, lo, hi, out)
+    show_unsigned(lo, hi, out)
 }
 
 // What the pixels call answers.

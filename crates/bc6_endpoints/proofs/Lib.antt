@@ -1,2 +1,5 @@
-pub mod Lanes
-pub mod Parts
+pub mod Unsigned
+pub mod Signed
+pub mod Adding
+pub mod Lanewise
+pub mod Sixteens

@@ -1,71 +1,53 @@
--- The endpoints of a block, from what is stored. Assumes nothing.
+-- The endpoints of a block, from what is stored: in signed format in two's complement. Assumes nothing.
 use mathlib.Core.Path.{_≡_}
-use mathlib.Core.Bool.{Bool, false}
-use mathlib.Core.List.{List}
-use Prim.Native.Nat.{ℕ, _+_, _*_, _^_, _≤_, _<_}
-use lib.Dec.{eqb}
-use lib.IntN.{ℤ, pos}
-use lib.ListN.{length, getD, drop}
+use mathlib.Core.Bool.{Bool, true}
+use Prim.Native.Nat.{ℕ, _+_, _-_, _*_, _^_, _≤_, _<_}
+use lib.Dec.{eqb, leb}
+use lib.IntN.{ℤ}
 use Rattle.laws.specs.Pick.{pick}
-use Rattle.laws.specs.Ranges.{Within}
-use Rattle.bc6h_spec.specs.Half.{signExtend, keep, transform, unquantized}
+use Rattle.lanes.specs.Lanes.{lane, EachBelow}
+use Rattle.bc6h_spec.specs.Half.{keep, unquantized}
 use Rattle.bc6h_spec.specs.Picture.{firstEnd, otherEnd}
-use Rattle.bc6_mode.specs.declared.ModeBits.{ModeBits}
 
--- ---- one channel
+-- an endpoint, unquantised, as 16 bits
+unfoldable pub wordOf : Bool → ℕ → ℤ → ℕ
+wordOf signed p z = keep 16 (unquantized signed p z)
 
--- what is known of the first `count` numbers that a mode of precision p, whose others have w bits, stores of a channel
-pub record Stored (moved : Bool) (p w count : ℕ) (l : List ℕ) : Type 0 where
-  pub room : count ≤ length l
-  pub some : 0 < p
-  pub most : p ≤ 16
-  pub own-some : 0 < w
-  pub own-most : w ≤ 16
-  pub whole : moved ≡ false → w ≡ p
-  pub first : getD l 0 0 < 2 ^ p
-  pub other : (e : ℕ) → 1 ≤ e → e < count → getD l e 0 < 2 ^ w
+-- .. of p bits that are stored whole
+unfoldable pub wholeOf : Bool → ℕ → ℕ → ℕ
+wholeOf signed p n = wordOf signed p (firstEnd signed p n)
 
--- .. and of one that is a difference from `base`
-pub record Lane (p w : ℕ) (base : ℤ) (n : ℕ) : Type 0 where
-  pub some : 0 < p
-  pub few : p < 15
-  pub own-some : 0 < w
-  pub own-most : w ≤ 16
-  pub fits : n < 2 ^ w
-  pub within : Within 65536 base
+-- .. of a difference of w bits from a first one of p
+unfoldable pub movedOf : Bool → ℕ → ℕ → ℕ → ℕ → ℕ
+movedOf signed p w first n = wordOf signed p (otherEnd signed true p w (firstEnd signed p first) n)
 
--- endpoint e after the transform
-abbrev pub endFrom : Bool → Bool → ℕ → ℕ → List ℕ → ℕ → ℤ
-endFrom signed moved p w l e =
-    let a = firstEnd signed p (getD l 0 0) in
-    pick (eqb e 0) a (otherEnd signed moved p w a (getD l e 0))
+-- endpoint e of a channel, whose stored numbers are `at`: the first is whole, the others are differences from it
+abbrev pub endFrom : Bool → ℕ → ℕ → (ℕ → ℕ) → ℕ → ℕ
+endFrom signed p w at e = pick (eqb e 0) (wholeOf signed p (at 0)) (movedOf signed p w (at 0) (at e))
 
--- unquantised, as 16 bits
-unfoldable pub wordFrom : Bool → Bool → ℕ → ℕ → List ℕ → ℕ → ℕ
-wordFrom signed moved p w l e = keep 16 (unquantized signed p (endFrom signed moved p w l e))
+-- ---- in lanes
 
--- what the endpoints are differences from: the first one, or zero where they are stored whole
-abbrev pub baseOf : Bool → Bool → ℕ → ℕ → ℤ
-baseOf signed moved p first = pick moved (firstEnd signed p first) (pos 0)
+-- p bits, and differences of w bits, have room in lanes
+pub record Narrow (p w : ℕ) : Type 0 where
+  pub some : 2 ≤ w
+  pub own : w ≤ p
+  pub most : p < 15
 
--- the first one as such a difference
-abbrev pub leadOf : Bool → ℕ → ℕ
-leadOf moved first = pick moved 0 first
+-- firsts of p bits, and differences of w bits from them
+pub record Apart (p w firsts others : ℕ) : Type 0 where
+  pub narrow : Narrow p w
+  pub whole : EachBelow (2 ^ p) firsts
+  pub few : EachBelow (2 ^ w) others
 
--- an endpoint, unquantised, as 16 bits, of a difference from `base`
-unfoldable pub endOver : Bool → ℕ → ℕ → ℤ → ℕ → ℕ
-endOver signed p w base n = keep 16 (unquantized signed p (transform signed p base (signExtend w n)))
+-- each of them worked out
+pub record MovedLanes (signed : Bool) (p w firsts others r : ℕ) : Type 0 where
+  pub each : (e : ℕ) → e < 4 → lane r e ≡ movedOf signed p w (lane firsts e) (lane others e)
 
--- ---- the three channels, four numbers each
+-- a channel's word: the first of p bits in lane 0, the others' differences of w bits above it
+pub record Channel (p w word : ℕ) : Type 0 where
+  pub narrow : Narrow p w
+  pub first : lane word 0 < 2 ^ p
+  pub other : (e : ℕ) → 1 ≤ e → e < 4 → lane word e < 2 ^ w
 
-abbrev pub widthOf : ModeBits → ℕ → ℕ
-widthOf bits c = pick (eqb c 0) (bits .r) (pick (eqb c 1) (bits .g) (bits .b))
-
-pub record AllStored (bits : ModeBits) (count : ℕ) (l : List ℕ) : Type 0 where
-  pub room : 12 ≤ length l
-  pub channel : (c : ℕ) → c < 3 → Stored (bits .transformed) (bits .a0) (widthOf bits c) count (drop (4 * c) l)
-
--- the first `count` endpoints of each channel are worked out
-pub record WorkedOut (signed : Bool) (bits : ModeBits) (count : ℕ) (l after : List ℕ) : Type 0 where
-  pub words : (c e : ℕ) → c < 3 → e < count
-      → getD after (4 * c + e) 0 ≡ wordFrom signed (bits .transformed) (bits .a0) (widthOf bits c) (drop (4 * c) l) e
+pub record ChannelEnds (signed : Bool) (p w word r : ℕ) : Type 0 where
+  pub each : (e : ℕ) → e < 4 → lane r e ≡ endFrom signed p w (lane word) e

@@ -1,127 +1,135 @@
-// A block's endpoints, in place: from the numbers stored to the ends of its pixels' colours, unquantised; each is a number of 16 bits, in
-// signed format in two's complement.
+// A block's endpoints, from the numbers stored to the ends of its pixels' colours, unquantised: four at once, in the lanes of a word. Each is a
+// number of 16 bits, in signed format in two's complement.
 //
-// The four of a channel are worked out by one rule, so that the compiler makes vector code of them. Each format has a loop of its own
-// for the same reason.
-use bc6_half::first_end;
+// The bits of a mode come as literals, so that every mask is a constant. Each format has functions of its own for the same reason.
 use bc6_half::kept_16;
-use bc6_half::other_end;
 use bc6_half::sign_extend;
-use bc6_half::transform_one;
-use bc6_half::unquantize;
-use bc6_half::unquantize_narrow;
-use bc6_half::unquantize_signed;
-use bc6_mode::ModeBits;
+use lanes::at_least;
+use lanes::bit_of_each;
+use lanes::flipped;
+use lanes::four;
+use lanes::in_each;
+use lanes::kept;
+use lanes::lane;
+use lanes::minus;
+use lanes::plus;
+use lanes::raised;
 ghost use mathlib.Core.Path.{_≡_};
 ghost use mathlib.Core.Bool.{true, false};
-ghost use mathlib.Core.List.{_++_};
-ghost use Prim.Native.Nat.{_^_, _≤_, _<_};
-ghost use lib.ListN.{drop};
-ghost use Rattle.laws.specs.Made.{made};
-ghost use Rattle.bc6_endpoints.specs.Ends.{Stored, Lane, wordFrom, baseOf, leadOf, endOver, AllStored, WorkedOut};
+ghost use Prim.Native.Nat.{_+_, _-_, _^_, _≤_, _<_};
+ghost use lib.IntN.{pos};
+ghost use Rattle.lanes.specs.Lanes.{EachBelow, ByLane};
+ghost use Rattle.bc6h_spec.specs.Half.{signExtend, keep};
+ghost use Rattle.bc6_endpoints.specs.Ends.{wholeOf, Apart, MovedLanes, Channel, ChannelEnds};
+ghost use Rattle.bc6_endpoints.specs.Steps.{Added, addedOf, placeOf, outerOf, innerOf, Sixteen};
 
-// An endpoint that is stored as the difference `field` from `base`.
-fn end_unsigned(base: i32, field: u16, width: u8, bits: u8) -> u16
-    requires { ⌜ Lane bits width base field ⌝ }
-    ensures { λ r. ⌜ r ≡ endOver false bits width base field ⌝ }
+// In each lane the first endpoint plus the difference of `width` bits, p bits kept. (A difference with its sign bit turned over lies
+// 2^(width − 1) above zero.)
+fn added(firsts: u64, others: u64, width: u64, p: u64) -> u64
+    requires { ⌜ Apart p width firsts others ⌝ }
+    ensures { λ r. ⌜ Added p width firsts others r ⌝ }
 {
-    let c = transform_one(base, sign_extend(field as i32, width), bits, false);
-    kept_16(unquantize_narrow(c, bits))
+    let above = in_each((1 << p) - (1 << (width - 1)));
+    kept(plus(firsts, plus(flipped(others, width - 1), above)), p)
 }
 
-fn end_signed(base: i32, field: u16, width: u8, bits: u8) -> u16
-    requires { ⌜ Lane bits width base field ⌝ }
-    ensures { λ r. ⌜ r ≡ endOver true bits width base field ⌝ }
+// Unquantised, unsigned: 0 and the highest number are the ends of the range, and any other lies half a step above its place.
+pub fn spread_unsigned(word: u64, p: u64) -> u64
+    requires { ⌜ (2 ≤ p) × (p < 15) × EachBelow (2 ^ p) word ⌝ }
+    ensures { λ r. ⌜ ByLane (wholeOf false p) word r ⌝ }
 {
-    let c = transform_one(base, sign_extend(field as i32, width), bits, true);
-    kept_16(unquantize_signed(c, bits))
+    let some = at_least(word, 1, p);
+    let top = at_least(word, (1 << p) - 1, p);
+    plus(
+        minus(raised(word, 16 - p), top),
+        raised(plus(some, top), 15 - p),
+    )
 }
 
-// What a channel's endpoints are differences from: the first one, or zero where they are stored whole ..
-fn base(first: u16, bits: u8, moved: bool, signed: bool) -> i32
-    requires { ⌜ (0 < bits) × (bits ≤ 16) × (first < 2 ^ bits) ⌝ }
-    ensures { λ r. ⌜ r ≡ baseOf signed moved bits first ⌝ }
+// Signed: with its highest bit turned over a number lies 2^(p − 1) above zero, and what it becomes 2^15. Its place there,
+fn place(y: u64, p: u64) -> u64
+    requires { ⌜ (2 ≤ p) × (p < 15) × EachBelow (2 ^ p) y ⌝ }
+    ensures { λ r. ⌜ ByLane (placeOf p) y r ⌝ }
 {
-    if moved {
-        return first_end(first, bits, signed);
-    }
-    0
+    let from_1 = minus(plus(y, in_each(1)), at_least(y, 1, p));
+    minus(raised(from_1, 16 - p), in_each((1 << (16 - p)) - 1))
 }
 
-// .. and the first one as such a difference.
-fn lead(first: u16, moved: bool) -> u16
-    ensures { λ r. ⌜ r ≡ leadOf moved first ⌝ }
+// .. and the half steps that it has passed, at the ends of the range
+fn outer_steps(y: u64, p: u64) -> u64
+    requires { ⌜ (2 ≤ p) × (p < 15) × EachBelow (2 ^ p) y ⌝ }
+    ensures { λ r. ⌜ ByLane (outerOf p) y r ⌝ }
 {
-    if moved { 0 } else { first }
+    plus(at_least(y, (1 << p) - 1, p), at_least(y, 2, p))
 }
 
-// The four endpoints of two regions.
-fn two_unsigned(width: u8, bits: u8, moved: bool, ends: &mut [u16])
-    requires { ⌜ Stored moved bits width 4 (now ends) × (bits < 15) ⌝ }
-    ensures { λ _. ⌜ now (ends .exit) ≡ made (wordFrom false moved bits width (now (ends .entry))) 4 ++ drop 4 (now (ends .entry)) ⌝ }
+// .. and about its middle.
+fn inner_steps(y: u64, p: u64) -> u64
+    requires { ⌜ (2 ≤ p) × (p < 15) × EachBelow (2 ^ p) y ⌝ }
+    ensures { λ r. ⌜ ByLane (innerOf p) y r ⌝ }
 {
-    let first = ends[0];
-    let base = base(first, bits, moved, false);
-    ends[0] = lead(first, moved);
-    for e in 0..4usize {
-        ends[e] = end_unsigned(base, ends[e], width, bits);
-    }
+    plus(bit_of_each(y, p - 1), at_least(y, (1 << (p - 1)) + 1, p))
 }
 
-fn two_signed(width: u8, bits: u8, moved: bool, ends: &mut [u16])
-    requires { ⌜ Stored moved bits width 4 (now ends) × (bits < 15) ⌝ }
-    ensures { λ _. ⌜ now (ends .exit) ≡ made (wordFrom true moved bits width (now (ends .entry))) 4 ++ drop 4 (now (ends .entry)) ⌝ }
+// Unquantised, signed: the two lowest numbers and the highest are the ends of the range, and any other but 0 lies half a step away from 0.
+pub fn spread_signed(word: u64, p: u64) -> u64
+    requires { ⌜ (2 ≤ p) × (p < 15) × EachBelow (2 ^ p) word ⌝ }
+    ensures { λ r. ⌜ ByLane (wholeOf true p) word r ⌝ }
 {
-    let first = ends[0];
-    let base = base(first, bits, moved, true);
-    ends[0] = lead(first, moved);
-    for e in 0..4usize {
-        ends[e] = end_signed(base, ends[e], width, bits);
-    }
+    let y = flipped(word, p - 1);
+    let outer = outer_steps(y, p);
+    let steps = plus(outer, inner_steps(y, p));
+    flipped(plus(minus(place(y, p), outer), raised(steps, 15 - p)), 15)
 }
 
-// In either format.
-fn two_regions(width: u8, bits: u8, moved: bool, signed: bool, ends: &mut [u16])
-    requires { ⌜ Stored moved bits width 4 (now ends) × (bits < 15) ⌝ }
-    ensures { λ _. ⌜ now (ends .exit) ≡ made (wordFrom signed moved bits width (now (ends .entry))) 4 ++ drop 4 (now (ends .entry)) ⌝ }
+// Endpoints that are stored as differences from others.
+pub fn other_unsigned(firsts: u64, others: u64, width: u64, p: u64) -> u64
+    requires { ⌜ Apart p width firsts others ⌝ }
+    ensures { λ r. ⌜ MovedLanes false p width firsts others r ⌝ }
 {
-    if signed {
-        two_signed(width, bits, moved, ends);
-    } else {
-        two_unsigned(width, bits, moved, ends);
-    }
+    spread_unsigned(added(firsts, others, width, p), p)
 }
 
-// The two endpoints of one region.
-fn one_region(width: u8, bits: u8, moved: bool, signed: bool, ends: &mut [u16])
-    requires { ⌜ Stored moved bits width 2 (now ends) ⌝ }
-    ensures { λ _. ⌜ now (ends .exit) ≡ made (wordFrom signed moved bits width (now (ends .entry))) 2 ++ drop 2 (now (ends .entry)) ⌝ }
+pub fn other_signed(firsts: u64, others: u64, width: u64, p: u64) -> u64
+    requires { ⌜ Apart p width firsts others ⌝ }
+    ensures { λ r. ⌜ MovedLanes true p width firsts others r ⌝ }
 {
-    let a = first_end(ends[0], bits, signed);
-    let b = other_end(a, ends[1], width, bits, moved, signed);
-    ends[0] = kept_16(unquantize(a, bits, signed));
-    ends[1] = kept_16(unquantize(b, bits, signed));
+    spread_signed(added(firsts, others, width, p), p)
 }
 
-// The endpoints of a block, all three channels: red of the four, then green, then blue. Of one region the first two of each are worked out.
-pub fn two_ends(bits: ModeBits, signed: bool, ends: &mut [u16])
-    requires { ⌜ AllStored bits 4 (now ends) × (bits .a0 < 15) ⌝ }
-    ensures { λ _. ⌜ WorkedOut signed bits 4 (now (ends .entry)) (now (ends .exit)) ⌝ }
+// A channel's four endpoints: the first, and three that are stored as differences from it.
+pub fn ends_unsigned(word: u64, width: u64, p: u64) -> u64
+    requires { ⌜ Channel p width word ⌝ }
+    ensures { λ r. ⌜ ChannelEnds false p width word r ⌝ }
 {
-    let p = bits.a0;
-    let moved = bits.transformed;
-    two_regions(bits.r, p, moved, signed, ends);
-    two_regions(bits.g, p, moved, signed, &mut ends[4..]);
-    two_regions(bits.b, p, moved, signed, &mut ends[8..]);
+    let first = word % 0x1_0000;
+    other_unsigned(in_each(first), word - first, width, p)
 }
 
-pub fn one_ends(bits: ModeBits, signed: bool, ends: &mut [u16])
-    requires { ⌜ AllStored bits 2 (now ends) ⌝ }
-    ensures { λ _. ⌜ WorkedOut signed bits 2 (now (ends .entry)) (now (ends .exit)) ⌝ }
+pub fn ends_signed(word: u64, width: u64, p: u64) -> u64
+    requires { ⌜ Channel p width word ⌝ }
+    ensures { λ r. ⌜ ChannelEnds true p width word r ⌝ }
 {
-    let p = bits.a0;
-    let moved = bits.transformed;
-    one_region(bits.r, p, moved, signed, ends);
-    one_region(bits.g, p, moved, signed, &mut ends[4..]);
-    one_region(bits.b, p, moved, signed, &mut ends[8..]);
+    let first = word % 0x1_0000;
+    other_signed(in_each(first), word - first, width, p)
+}
+
+// Of sixteen bits nothing is left to spread: the first plus the difference of four bits, 16 bits kept.
+fn moved_16(first: u16, field: u16) -> u16
+    requires { ⌜ field < 2 ^ 4 ⌝ }
+    ensures { λ r. ⌜ r ≡ addedOf 16 4 first field ⌝ }
+{
+    kept_16((first as i32) + sign_extend(field as i32, 4))
+}
+
+pub fn other_16(firsts: u64, others: u64) -> u64
+    requires { ⌜ EachBelow (2 ^ 4) others ⌝ }
+    ensures { λ r. ⌜ Sixteen firsts others r ⌝ }
+{
+    four(
+        moved_16(lane(firsts, 0), lane(others, 0)),
+        moved_16(lane(firsts, 1), lane(others, 1)),
+        moved_16(lane(firsts, 2), lane(others, 2)),
+        0,
+    )
 }

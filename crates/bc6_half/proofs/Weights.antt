@@ -1,4 +1,4 @@
--- The weights are 9 i + i div 4 and 4 i + (i + 2) div 4: a test over the indices. Assumes nothing.
+-- The weights are 37 i div 4 and (17 i + 2) div 4: a test over the indices. Assumes nothing.
 use mathlib.Core.Path.{_≡_}
 use Prim.Native.Nat.{ℕ, _+_, _*_, _/_, _<_}
 use lib.Dec.{eqb, eqb→eq}
@@ -6,8 +6,8 @@ use lib.ListN.{getD}
 use Rattle.laws.proofs.Tests.{below-at}
 use Rattle.bc6h_spec.specs.Picture.{weights8, weights16}
 
-pub three : (i : ℕ) → i < 8 → 9 * i + i / 4 ≡ getD weights8 i 0
-three i h = eqb→eq _ _ (below-at (λ i. eqb (9 * i + i / 4) (getD weights8 i 0)) 8 i tt h)
+pub three : (i : ℕ) → i < 8 → 37 * i / 4 ≡ getD weights8 i 0
+three i h = eqb→eq _ _ (below-at (λ i. eqb (37 * i / 4) (getD weights8 i 0)) 8 i tt h)
 
-pub four : (i : ℕ) → i < 16 → 4 * i + (i + 2) / 4 ≡ getD weights16 i 0
-four i h = eqb→eq _ _ (below-at (λ i. eqb (4 * i + (i + 2) / 4) (getD weights16 i 0)) 16 i tt h)
+pub four : (i : ℕ) → i < 16 → (17 * i + 2) / 4 ≡ getD weights16 i 0
+four i h = eqb→eq _ _ (below-at (λ i. eqb ((17 * i + 2) / 4) (getD weights16 i 0)) 16 i tt h)

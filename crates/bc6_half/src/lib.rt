@@ -123,7 +123,7 @@ pub fn weight_3(i: u16) -> u16
     requires { ⌜ i < 8 ⌝ }
     ensures { λ r. ⌜ (r ≡ getD weights8 i 0) × (r ≤ 64) ⌝ }
 {
-    9 * i + i / 4
+    (37 * i) >> 2
 }
 
 // 0, 4, 9, 13, 17, 21, 26, 30, 34, 38, 43, 47, 51, 55, 60, 64.
@@ -131,7 +131,7 @@ pub fn weight_4(i: u16) -> u16
     requires { ⌜ i < 16 ⌝ }
     ensures { λ r. ⌜ (r ≡ getD weights16 i 0) × (r ≤ 64) ⌝ }
 {
-    4 * i + (i + 2) / 4
+    (17 * i + 2) >> 2
 }
 
 // (a (64 − w) + b w + 32) div 64, rounded down. (64 − w is taken before it is widened, so that each product is of two numbers of 16 bits.)

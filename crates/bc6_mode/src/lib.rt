@@ -1,26 +1,34 @@
 // The mode of a block, and what it says of the endpoints.
 use bcn_util::BitStream;
 ghost use mathlib.Core.Path.{_≡_};
-ghost use Prim.Native.Nat.{_≤_};
+ghost use Prim.Native.Nat.{_≤_, _<_};
 ghost use Rattle.bcn_util.specs.Stream.{number};
 ghost use Rattle.bc6h_spec.specs.Fields.{modeIn};
-ghost use Rattle.bc6_mode.specs.Modes.{bitsOf};
+ghost use Rattle.bc6_mode.specs.Modes.{ModesOf, bitsOf};
+
+// The modes of the eight codes that end in two given bits, four bits a mode: of the code 000 above them lowest, of 111 highest.
+fn modes_of(low2: u64) -> u64
+    requires { ⌜ low2 < 4 ⌝ }
+    ensures { λ r. ⌜ ModesOf low2 r ⌝ }
+{
+    match low2 {
+        // 1 and 2 have no bits above these
+        0b00 => 0x1111_1111,
+        0b01 => 0x2222_2222,
+        // 3 to 10
+        0b10 => 0xA987_6543,
+        // 11 to 14; of the codes 100 to 111 none has a mode
+        _ => 0x0000_EDCB,
+    }
+}
 
 // The mode number, 0 for a reserved mode.
 pub fn extract_mode(stream: BitStream) -> usize
     ensures { λ r. ⌜ r ≡ modeIn (number stream) ⌝ }
 {
-    let two = stream.consume_bits(2);
-    let low2 = two.bits;
-    let rest = two.rest;
-    let three = rest.consume_bits(3);
-    let high3 = three.bits as usize;
-    match low2 {
-        0b00 => 1,
-        0b01 => 2,
-        0b10 => 3 + high3,
-        _ => { if high3 < 4 { 11 + high3 } else { 0 } }
-    }
+    let code = stream.lo;
+    let modes = modes_of(code % 4);
+    ((modes >> (4 * (code / 4 % 8))) % 16) as usize
 }
 
 // What a mode says of its endpoints: the bits of the first, the bits of the others' red, green and blue, and whether the

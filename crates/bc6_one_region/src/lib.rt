@@ -1,9 +1,10 @@
 // The values of a block of one region, each worked out from its endpoints and its pixel's index: no palette. They lie between endpoints 0 and 1.
 //
-// The endpoints stand channel by channel: red of endpoints 0 to 3, then green, then blue. A turn paints pixels k and k + 8, one channel of
-// both after the other: of that the compiler makes vector code of eight pixels whose numbers stay in registers.
+// The endpoints are two words, each of an endpoint's three channels in its lanes. A turn paints pixels k and k + 8, one channel of both after
+// the other: of that the compiler makes vector code of eight pixels whose numbers stay in registers.
 use bc6_paint::channel_signed;
 use bc6_paint::channel_unsigned;
+use bc6_paint::pair;
 use bc6_paint::turn_one;
 ghost use mathlib.Core.Path.{_≡_};
 ghost use mathlib.Core.Bool.{true, false};
@@ -11,47 +12,47 @@ ghost use mathlib.Core.List.{_++_};
 ghost use Prim.Native.Nat.{_≤_};
 ghost use lib.ListN.{length, drop};
 ghost use Rattle.laws.specs.Made.{made};
-ghost use Rattle.bc6_paint.specs.Values.{oneValue, PaintedAs, PaintedIn};
+ghost use Rattle.bc6_paint.specs.Values.{pairEnds, oneValue, PaintedAs, PaintedIn};
 
 // In unsigned format.
-fn paint_one_unsigned(ends: [u16; 12], word: u64, out: &mut [u16])
+fn paint_one_unsigned(first: u64, second: u64, word: u64, out: &mut [u16])
     requires { ⌜ 48 ≤ length (now out) ⌝ }
-    ensures { λ _. ⌜ now (out .exit) ≡ made (oneValue false ends word) 48 ++ drop 48 (now (out .entry)) ⌝ }
+    ensures { λ _. ⌜ now (out .exit) ≡ made (oneValue false (pairEnds first second) word) 48 ++ drop 48 (now (out .entry)) ⌝ }
 {
     for k in 0..8usize {
         let t = turn_one(word, k);
         let at = 3 * k;
-        channel_unsigned(t, ends[0], ends[1], ends[2], ends[3], at, out);
-        channel_unsigned(t, ends[4], ends[5], ends[6], ends[7], at + 1, out);
-        channel_unsigned(t, ends[8], ends[9], ends[10], ends[11], at + 2, out);
+        channel_unsigned(t, pair(first, second, 0), at, out);
+        channel_unsigned(t, pair(first, second, 1), at + 1, out);
+        channel_unsigned(t, pair(first, second, 2), at + 2, out);
     }
 }
 
 // .. and in signed, with how many of the values are minus infinity.
-fn paint_one_signed(ends: [u16; 12], word: u64, out: &mut [u16]) -> u16
+fn paint_one_signed(first: u64, second: u64, word: u64, out: &mut [u16]) -> u16
     requires { ⌜ 48 ≤ length (now out) ⌝ }
-    ensures { λ r. ⌜ PaintedAs (made (oneValue true ends word) 48) (now (out .entry)) r (now (out .exit)) ⌝ }
+    ensures { λ r. ⌜ PaintedAs (made (oneValue true (pairEnds first second) word) 48) (now (out .entry)) r (now (out .exit)) ⌝ }
 {
     let mut infinite = 0u16;
     for k in 0..8usize {
         let t = turn_one(word, k);
         let at = 3 * k;
-        let red = channel_signed(t, ends[0], ends[1], ends[2], ends[3], at, out);
-        let green = channel_signed(t, ends[4], ends[5], ends[6], ends[7], at + 1, out);
-        let blue = channel_signed(t, ends[8], ends[9], ends[10], ends[11], at + 2, out);
+        let red = channel_signed(t, pair(first, second, 0), at, out);
+        let green = channel_signed(t, pair(first, second, 1), at + 1, out);
+        let blue = channel_signed(t, pair(first, second, 2), at + 2, out);
         infinite = infinite + red + green + blue;
     }
     infinite
 }
 
 // In either format; how many of the values are minus infinity, which in unsigned format none is.
-pub fn paint_one(signed: bool, ends: [u16; 12], word: u64, out: &mut [u16]) -> u16
+pub fn paint_one(signed: bool, first: u64, second: u64, word: u64, out: &mut [u16]) -> u16
     requires { ⌜ 48 ≤ length (now out) ⌝ }
-    ensures { λ r. ⌜ PaintedIn signed (made (oneValue signed ends word) 48) (now (out .entry)) r (now (out .exit)) ⌝ }
+    ensures { λ r. ⌜ PaintedIn signed (made (oneValue signed (pairEnds first second) word) 48) (now (out .entry)) r (now (out .exit)) ⌝ }
 {
     if signed {
-        return paint_one_signed(ends, word, out);
+        return paint_one_signed(first, second, word, out);
     }
-    paint_one_unsigned(ends, word, out);
+    paint_one_unsigned(first, second, word, out);
     0
 }

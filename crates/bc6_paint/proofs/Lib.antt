@@ -1,3 +1,4 @@
+pub mod Chosen
 pub mod Points
 pub mod Pixels
 pub mod Link

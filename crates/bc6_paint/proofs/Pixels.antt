@@ -6,6 +6,7 @@ use Prim.Native.Nat.{ℕ, zero, suc, _+_, _-_, _*_, _/_, _%_, _^_, _≤_, _<_}
 use native.Mathlib.Nat.{add-zero, add-suc, mul-add}
 use native.Mathlib.Numerals.{add-one}
 use native.Mathlib.Omega.{arith}
+use lib.Bits.{bitXor}
 use lib.Dec.{eqb, lit<, lit≤}
 use lib.ListN.{length, getD, set, take, drop, length-set, length-drop, take-append-drop, drop-of-length-le}
 use lib.Seq.{length-take-le, take-set-le, take-set-lt, drop-set-lt, drop-set-add, drop-drop}
@@ -15,9 +16,12 @@ use Rattle.laws.specs.Bit.{bit}
 use Rattle.laws.specs.Made.{made, countOf}
 use Rattle.laws.proofs.Rows.{made-none, made-store, length-made, count-le}
 use Rattle.laws.proofs.Counts.{count-append, count-last}
+use Rattle.lanes.specs.Lanes.{lane}
+use Rattle.lanes.proofs.Laws.{lane-lt}
 use Rattle.bc6h_spec.specs.Half.{minusInfinity}
-use Rattle.bc6_paint.specs.Values.{endAt, digit, TurnOf, shadeOf, valueOf, counted, PaintedAs}
+use Rattle.bc6_paint.specs.Values.{ofChannel, channelEnds, pairEnds, Paired, digit, oneSecond, maskOf, TurnOf, shadeOf, selected, shadeIn, valueOf, counted, PaintedAs}
 use Rattle.bc6_paint.specs.declared.Turn.{Turn}
+use Rattle.bc6_paint.proofs.Chosen.{selected-is}
 
 -- ---- the two fronts
 
@@ -128,11 +132,12 @@ module _ {k : ℕ} {out : List ℕ} (t : Stores k out) where
   pub stores-on : {after : List ℕ} (i j x y : ℕ) → after ≡ set (set out i x) j y → Stores k after
   stores-on i j x y e = record { below = t .below; room = rw e (simp length-set (t .room)) }
 
-  pub first-inside : 3 * k + 24 < length out
-  first-inside = omega arith
+  -- what a channel asks: the first, and those after it
+  pub first-asks : {second : ℕ → Bool} {weight : ℕ → ℕ} {u : Turn} → TurnOf second weight k u → (u .w ≤ 64) × (u .w8 ≤ 64) × (3 * k + 24 < length out)
+  first-asks e = (e .most, e .most8, omega arith)
 
-  pub next-inside : (n : ℕ) → n ≤ 2 → 3 * k + n + 24 < length out
-  next-inside n h = omega arith
+  pub next-asks : {second : ℕ → Bool} {weight : ℕ → ℕ} {u : Turn} → TurnOf second weight k u → (n : ℕ) → n ≤ 2 → (u .w ≤ 64) × (u .w8 ≤ 64) × (3 * k + n + 24 < length out)
+  next-asks e n h = (e .most, e .most8, omega arith)
 
 -- x and y have the values of pixels k and 8 + k, channel by channel
 pub record Shades (f : ℕ → ℕ) (k : ℕ) (x y : ℕ → ℕ) : Type 0 where
@@ -194,27 +199,57 @@ module _ (ws : List ℕ) (b word half k i w : ℕ) (ei : i ≡ digit b half k) (
   weight-upper e l = weighed _ (ap (λ (n : ℕ). digit b n k) e ∙ digit-low b (word / 2 ^ (b * 8)) k l ∙ digit-high b word k)
 
 -- the map's high half, for the pixels from 8 on
-pub bit-above : (map k : ℕ) → eqb (bit (map / 2 ^ 8) k) 1 ≡ eqb (bit map (8 + k)) 1
-bit-above map k = ap (λ (n : ℕ). eqb (n % 2) 1) (shr-shr map 8 k)
+pub mask-above : (map k : ℕ) → maskOf (eqb (bit (map / 2 ^ 8) k) 1) ≡ maskOf (eqb (bit map (8 + k)) 1)
+mask-above map k = ap (λ (n : ℕ). maskOf (eqb (n % 2) 1)) (shr-shr map 8 k)
 
 -- ---- the values of a turn
 
-module _ (s : Bool) (ends : List ℕ) (second : ℕ → Bool) (weight : ℕ → ℕ) where
-  -- in a region, at a weight
-  abbrev pub valueAt : Bool → ℕ → ℕ → ℕ
-  valueAt t w c = shadeOf s (pick t (endAt ends 2 c) (endAt ends 0 c)) (pick t (endAt ends 3 c) (endAt ends 1 c)) w
+-- a channel's word has the ends that the pixels' regions ask for
+pub record Held (second : ℕ → Bool) (ends : ℕ → ℕ → ℕ) (words : ℕ → ℕ) : Type 0 where
+  pub front : (k c : ℕ) → c < 3 → pick (second k) (lane (words c) 2) (lane (words c) 0) ≡ pick (second k) (ends 2 c) (ends 0 c)
+  pub back : (k c : ℕ) → c < 3 → pick (second k) (lane (words c) 3) (lane (words c) 1) ≡ pick (second k) (ends 3 c) (ends 1 c)
 
+-- words of channels have all of them ..
+pub channels-held : (second : ℕ → Bool) (red green blue : ℕ) → Held second (channelEnds red green blue) (ofChannel red green blue)
+channels-held second red green blue = record { front = λ k c h. refl; back = λ k c h. refl }
+
+-- .. and words that were made of two endpoints those of region 0
+pub pairs-held : {first second red green blue : ℕ} → Paired first second 0 red → Paired first second 1 green → Paired first second 2 blue
+    → Held oneSecond (pairEnds first second) (ofChannel red green blue)
+pairs-held {first} {second} {red} {green} {blue} r g b =
+    record {
+      front = λ k. each (λ c. lane (ofChannel red green blue c) 0 ≡ pairEnds first second 0 c) (r .front) (g .front) (b .front);
+      back = λ k. each (λ c. lane (ofChannel red green blue c) 1 ≡ pairEnds first second 1 c) (r .back) (g .back) (b .back);
+    }
+  where
+    each : (P : ℕ → Type 0) → P 0 → P 1 → P 2 → (c : ℕ) → c < 3 → P c
+    each P x y z zero h = x
+    each P x y z (suc zero) h = y
+    each P x y z (suc (suc zero)) h = z
+    each P x y z (suc (suc (suc c))) h = absurd (omega arith)
+
+-- the values of a pixel's channels, by its mask and its weight
+abbrev pub valueAt : Bool → (ℕ → ℕ) → ℕ → ℕ → ℕ → ℕ
+valueAt s words mask w c = shadeIn s (words c) mask w
+
+module _ (s : Bool) {ends : ℕ → ℕ → ℕ} {second : ℕ → Bool} (weight : ℕ → ℕ) {words : ℕ → ℕ} (held : Held second ends words) where
   -- channel c of pixel k
-  value-is : (j k c w : ℕ) (t : Bool) → j ≡ 3 * k + c → c < 3 → t ≡ second k → w ≡ weight k → valueAt t w c ≡ valueOf s ends second weight j
-  unfolding valueOf
-  value-is j k c w t e h et ew =
+  value-is : (j k c mask w : ℕ) → j ≡ 3 * k + c → c < 3 → mask ≡ maskOf (second k) → w ≡ weight k → valueAt s words mask w c ≡ valueOf s ends second weight j
+  unfolding shadeIn valueOf
+  value-is j k c mask w e h em ew =
       let pixel : k ≡ j / 3 = omega arith in
       let channel : c ≡ j % 3 = omega arith in
-      (λ i. valueAt (et i) (ew i) c) ∙ (λ i. valueAt (second (pixel i)) (weight (pixel i)) (channel i))
+      let end : (e g : ℕ) → selected (maskOf (second k)) (lane (words c) e) (bitXor (lane (words c) e) (lane (words c) g)) ≡ pick (second k) (lane (words c) g) (lane (words c) e) =
+      λ e g. selected-is (second k) (lane (words c) e) (lane (words c) g) (lane-lt (words c) e) (lane-lt (words c) g) in
+      (λ i. valueAt s words (em i) (ew i) c)
+      ∙ (λ i. shadeOf s ((end 0 2 ∙ held .front k c h) i) ((end 1 3 ∙ held .back k c h) i) (weight k))
+      ∙ (λ i.
+      let t = second (pixel i) in
+      shadeOf s (pick t (ends 2 (channel i)) (ends 0 (channel i))) (pick t (ends 3 (channel i)) (ends 1 (channel i))) (weight (pixel i)))
 
-  pub shades-of : {k : ℕ} {t : Turn} → TurnOf second weight k t → Shades (valueOf s ends second weight) k (valueAt (t .second) (t .w)) (valueAt (t .second8) (t .w8))
+  pub shades-of : {k : ℕ} {t : Turn} → TurnOf second weight k t → Shades (valueOf s ends second weight) k (valueAt s words (t .second) (t .w)) (valueAt s words (t .second8) (t .w8))
   shades-of {k} {t} e =
       record {
-        low = λ c h. value-is (3 * k + c) k c (t .w) (t .second) refl h (e .region) (e .weighs);
-        high = λ c h. value-is (24 + (3 * k + c)) (8 + k) c (t .w8) (t .second8) (omega arith) h (e .region8) (e .weighs8);
+        low = λ c h. value-is (3 * k + c) k c (t .second) (t .w) refl h (e .region) (e .weighs);
+        high = λ c h. value-is (24 + (3 * k + c)) (8 + k) c (t .second8) (t .w8) (omega arith) h (e .region8) (e .weighs8);
       }

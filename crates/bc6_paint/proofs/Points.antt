@@ -1,18 +1,22 @@
 -- A number between two of 16 bits, and its pattern. Assumes nothing.
 use mathlib.Core.Path.{_≡_, _∙_, sym, ap, subst}
 use mathlib.Core.Bool.{Bool, true, false}
-use Prim.Native.Nat.{ℕ, _≤_, _<_}
+use Prim.Native.Nat.{ℕ, _/_, _^_, _≤_, _<_}
 use native.Mathlib.Omega.{arith}
+use lib.Bits.{bitXor, xor-lt}
 use lib.IntN.{ℤ, pos}
 use Rattle.laws.specs.Pick.{pick}
 use Rattle.laws.specs.Ranges.{InBits, Within}
+use Rattle.lanes.specs.Lanes.{lane}
+use Rattle.lanes.proofs.Laws.{lane-lt}
 use Rattle.bc6h_spec.specs.Half.{keep, interpolated, finished}
 use Rattle.bc6h_spec.proofs.Ranges.{interpolated-in, in-16}
 use Rattle.bc6_half.specs.declared.Half.{Half}
 use Rattle.bc6_half.specs.Halves.{numberAt, halfOf, marked}
 use Rattle.bc6_half.proofs.Words.{number-in, number-kept}
 use Rattle.bc6_half.proofs.Told.{half-marked}
-use Rattle.bc6_paint.specs.Values.{pointOf, shadeOf, counted}
+use Rattle.bc6_paint.specs.Values.{pointOf, shadeOf, selected, shadeIn, counted}
+use Rattle.bc6_paint.proofs.Chosen.{selected-lt, apart-lane}
 
 module _ (s : Bool) (a b w : ℕ) (ha : a < 65536) (hb : b < 65536) (hw : w ≤ 64) where
   -- what interpolating asks of two numbers
@@ -33,10 +37,37 @@ module _ (s : Bool) (a b w : ℕ) (ha : a < 65536) (hb : b < 65536) (hw : w ≤ 
   unfolding shadeOf
   half-is z h ez eh = eh ∙ ap (halfOf s) ez ∙ half-marked s (pointOf s a b w) point-in
 
--- the end of a region
-pub chosen-fits : (t : Bool) {a c : ℕ} → a < 65536 → c < 65536 → pick t c a < 65536
-chosen-fits true ha hc = hc
-chosen-fits false ha hc = ha
+-- what a channel's pixels are worked out of: two ends, and the bits in which those of region 1 lie apart from them
+pub record Drawn (ends a b ac bd : ℕ) : Type 0 where
+  pub front : a ≡ lane ends 0
+  pub back : b ≡ lane ends 1
+  pub front-apart : ac ≡ bitXor (lane ends 0) (lane ends 2)
+  pub back-apart : bd ≡ bitXor (lane ends 1) (lane ends 3)
+
+pub drawn : {ends a b ac bd : ℕ} → a ≡ lane ends 0 → b ≡ lane ends 1 → ac ≡ lane (bitXor ends (ends / 2 ^ 32)) 0 → bd ≡ lane (bitXor ends (ends / 2 ^ 32)) 1 → Drawn ends a b ac bd
+drawn {ends} ea eb eac ebd = record { front = ea; back = eb; front-apart = eac ∙ apart-lane ends 0; back-apart = ebd ∙ apart-lane ends 1 }
+
+module _ (s : Bool) {ends a b ac bd : ℕ} (d : Drawn ends a b ac bd) (mask w : ℕ) (hw : w ≤ 64) where
+  end-lt : {x y : ℕ} (e g : ℕ) → x ≡ lane ends e → y ≡ bitXor (lane ends e) (lane ends g) → selected mask x y < 65536
+  end-lt e g ex ey =
+      subst (λ (n : ℕ). n < 65536) (λ i. selected mask (sym ex i) (sym ey i))
+      (selected-lt mask (lane ends e) (bitXor (lane ends e) (lane ends g)) (lane-lt ends e) (xor-lt 16 (lane ends e) (lane ends g) (lane-lt ends e) (lane-lt ends g)))
+
+  front-lt : selected mask a ac < 65536
+  front-lt = end-lt 0 2 (d .front) (d .front-apart)
+
+  back-lt : selected mask b bd < 65536
+  back-lt = end-lt 1 3 (d .back) (d .back-apart)
+
+  -- the number of a pixel, and its half-float
+  pub drawn-in : InBits s 16 (pointOf s (selected mask a ac) (selected mask b bd) w)
+  drawn-in = point-in s _ _ w front-lt back-lt hw
+
+  pub half-drawn : (z : ℤ) (h : Half) → z ≡ pointOf s (selected mask a ac) (selected mask b bd) w → h ≡ halfOf s z → h ≡ marked (shadeIn s ends mask w)
+  unfolding shadeIn
+  half-drawn z h ez eh =
+      half-is s _ _ w front-lt back-lt hw z h ez eh
+      ∙ (λ i. marked (shadeOf s (selected mask (d .front i) (d .front-apart i)) (selected mask (d .back i) (d .back-apart i)) w))
 
 -- its pattern, and what its flag adds to a count
 pub shade : (h : Half) (v : ℕ) → h ≡ marked v → h .pattern ≡ v

@@ -3,26 +3,42 @@ use mathlib.Core.Bool.{Bool, true, false}
 use mathlib.Core.List.{List, _++_}
 use mathlib.Core.Path.{_≡_}
 use Prim.Native.Nat.{ℕ, _+_, _*_, _/_, _%_, _^_, _≤_}
+use lib.Bits.{bitAnd, bitXor}
 use lib.Dec.{eqb}
 use lib.IntN.{ℤ, pos}
 use lib.ListN.{getD, set, drop}
 use Rattle.laws.specs.Pick.{pick}
 use Rattle.laws.specs.Bit.{bit}
 use Rattle.laws.specs.Made.{countOf}
+use Rattle.lanes.specs.Lanes.{lane}
 use Rattle.bc6h_spec.specs.Half.{minusInfinity, interpolated, finished}
 use Rattle.bc6h_spec.specs.Picture.{weights8, weights16}
 use Rattle.bc6_half.specs.Halves.{numberAt}
 use Rattle.bc6_paint.specs.declared.Turn.{Turn}
 
--- channel c of endpoint e, where the four of a channel stand together
-abbrev pub endAt : List ℕ → ℕ → ℕ → ℕ
-endAt ends e c = getD ends (4 * c + e) 0
+-- ---- channel c of endpoint e
+
+-- in three words, one of a channel: an endpoint in each lane
+abbrev pub ofChannel : ℕ → ℕ → ℕ → ℕ → ℕ
+ofChannel red green blue c = pick (eqb c 0) red (pick (eqb c 1) green blue)
+
+abbrev pub channelEnds : ℕ → ℕ → ℕ → ℕ → ℕ → ℕ
+channelEnds red green blue e c = lane (ofChannel red green blue c) e
+
+-- in two words, one of an endpoint: a channel in each lane
+abbrev pub pairEnds : ℕ → ℕ → ℕ → ℕ → ℕ
+pairEnds first second e c = lane (pick (eqb e 0) first second) c
+
+-- the word of a channel out of those two, whose endpoints 2 and 3 are not asked for
+pub record Paired (first second c r : ℕ) : Type 0 where
+  pub front : lane r 0 ≡ pairEnds first second 0 c
+  pub back : lane r 1 ≡ pairEnds first second 1 c
+
+-- ---- what a pixel has: whether it lies in region 1, and its weight
 
 -- number k of those in a word, of so many bits each
 abbrev pub digit : ℕ → ℕ → ℕ → ℕ
 digit bits word k = word / 2 ^ (bits * k) % 2 ^ bits
-
--- ---- what a pixel has: whether it lies in region 1, and its weight
 
 abbrev pub oneSecond : ℕ → Bool
 oneSecond k = false
@@ -36,10 +52,14 @@ twoSecond map k = eqb (bit map k) 1
 abbrev pub twoWeight : ℕ → ℕ → ℕ
 twoWeight word k = getD weights8 (digit 3 word k) 0
 
+-- a region as a mask of 16 bits
+abbrev pub maskOf : Bool → ℕ
+maskOf second = pick second 0xFFFF 0
+
 -- pixels k and 8 + k
 pub record TurnOf (second : ℕ → Bool) (weight : ℕ → ℕ) (k : ℕ) (t : Turn) : Type 0 where
-  pub region : t .second ≡ second k
-  pub region8 : t .second8 ≡ second (8 + k)
+  pub region : t .second ≡ maskOf (second k)
+  pub region8 : t .second8 ≡ maskOf (second (8 + k))
   pub weighs : t .w ≡ weight k
   pub weighs8 : t .w8 ≡ weight (8 + k)
   pub most : t .w ≤ 64
@@ -58,35 +78,41 @@ shadeOf signed a b w = finished signed (pointOf signed a b w)
 -- ---- a block's values
 
 -- value j: between endpoints 0 and 1 in region 0, between 2 and 3 in region 1
-unfoldable pub valueOf : Bool → List ℕ → (ℕ → Bool) → (ℕ → ℕ) → ℕ → ℕ
+unfoldable pub valueOf : Bool → (ℕ → ℕ → ℕ) → (ℕ → Bool) → (ℕ → ℕ) → ℕ → ℕ
 valueOf signed ends second weight j =
     let t = second (j / 3) in
     let c = j % 3 in
-    shadeOf signed (pick t (endAt ends 2 c) (endAt ends 0 c)) (pick t (endAt ends 3 c) (endAt ends 1 c)) (weight (j / 3))
+    shadeOf signed (pick t (ends 2 c) (ends 0 c)) (pick t (ends 3 c) (ends 1 c)) (weight (j / 3))
 
 -- of a block of one region, all of it region 0, and of one of two
-abbrev pub oneValue : Bool → List ℕ → ℕ → ℕ → ℕ
+abbrev pub oneValue : Bool → (ℕ → ℕ → ℕ) → ℕ → ℕ → ℕ
 oneValue signed ends word = valueOf signed ends oneSecond (oneWeight word)
 
-abbrev pub twoValue : Bool → List ℕ → ℕ → ℕ → ℕ → ℕ
+abbrev pub twoValue : Bool → (ℕ → ℕ → ℕ) → ℕ → ℕ → ℕ → ℕ
 twoValue signed ends map word = valueOf signed ends (twoSecond map) (twoWeight word)
 
 -- ---- two values are stored, one 24 behind the other
 
-abbrev pub pairAt : Bool → Turn → ℕ → ℕ → ℕ → ℕ → ℕ → List ℕ → List ℕ
-pairAt signed t a b c d at out =
-    set (set out at (shadeOf signed (pick (t .second) c a) (pick (t .second) d b) (t .w))) (at + 24)
-    (shadeOf signed (pick (t .second8) c a) (pick (t .second8) d b) (t .w8))
+-- a number, with those bits turned over that the mask has of another
+abbrev pub selected : ℕ → ℕ → ℕ → ℕ
+selected mask a apart = bitXor a (bitAnd mask apart)
+
+-- between ends of a channel's word: of lanes 0 and 2, and of lanes 1 and 3, those that the mask selects
+unfoldable pub shadeIn : Bool → ℕ → ℕ → ℕ → ℕ
+shadeIn signed ends mask w =
+    shadeOf signed (selected mask (lane ends 0) (bitXor (lane ends 0) (lane ends 2))) (selected mask (lane ends 1) (bitXor (lane ends 1) (lane ends 3))) w
+
+abbrev pub pairAt : Bool → Turn → ℕ → ℕ → List ℕ → List ℕ
+pairAt signed t ends at out = set (set out at (shadeIn signed ends (t .second) (t .w))) (at + 24) (shadeIn signed ends (t .second8) (t .w8))
 
 -- 1 for minus infinity
 abbrev pub counted : ℕ → ℕ
 counted value = pick (eqb value minusInfinity) 1 0
 
 -- .. in signed format, with how many of them are minus infinity
-pub record Pair (t : Turn) (a b c d at : ℕ) (out : List ℕ) (infinite : ℕ) (after : List ℕ) : Type 0 where
-  pub holds : after ≡ pairAt true t a b c d at out
-  pub counts : infinite ≡ counted (shadeOf true (pick (t .second) c a) (pick (t .second) d b) (t .w))
-      + counted (shadeOf true (pick (t .second8) c a) (pick (t .second8) d b) (t .w8))
+pub record Pair (t : Turn) (ends at : ℕ) (out : List ℕ) (infinite : ℕ) (after : List ℕ) : Type 0 where
+  pub holds : after ≡ pairAt true t ends at out
+  pub counts : infinite ≡ counted (shadeIn true ends (t .second) (t .w)) + counted (shadeIn true ends (t .second8) (t .w8))
   pub few : infinite ≤ 2
 
 -- ---- what is written

@@ -6,6 +6,7 @@ use bc6_half::interpolate;
 use bc6_half::number_16;
 use bc6_half::weight_3;
 use bc6_half::weight_4;
+use lanes::lane;
 ghost use mathlib.Core.Path.{_≡_};
 ghost use mathlib.Core.Bool.{true, false};
 ghost use Prim.Native.Nat.{_+_, _/_, _%_, _^_, _≤_, _<_};
@@ -14,7 +15,8 @@ ghost use lib.IntN.{pos};
 ghost use lib.ListN.{length, getD};
 ghost use Rattle.laws.specs.Pick.{pick};
 ghost use Rattle.laws.specs.Bit.{bit};
-ghost use Rattle.bc6_paint.specs.Values.{digit, oneSecond, oneWeight, twoSecond, twoWeight, TurnOf, pointOf, pairAt, Pair};
+ghost use Rattle.lanes.specs.Lanes.{lane};
+ghost use Rattle.bc6_paint.specs.Values.{digit, oneSecond, oneWeight, twoSecond, twoWeight, maskOf, TurnOf, pointOf, selected, Paired, pairAt, Pair};
 
 // The first eight of sixteen indices in a word, pixel 0 lowest, and the other eight: of three bits ..
 fn low_24(word: u64) -> u32
@@ -56,18 +58,18 @@ fn index_4(word: u32, k: usize) -> u16
     ((word >> (4 * k)) % 16) as u16
 }
 
-// Whether a pixel lies in region 1.
-fn in_region_1(map: u16, pixel: usize) -> bool
+// All ones for a pixel of region 1, else 0.
+fn region_mask(map: u16, pixel: usize) -> u16
     requires { ⌜ pixel < 16 ⌝ }
-    ensures { λ r. ⌜ r ≡ eqb (bit map pixel) 1 ⌝ }
+    ensures { λ r. ⌜ r ≡ maskOf (eqb (bit map pixel) 1) ⌝ }
 {
-    (map >> pixel) % 2 == 1
+    ((map >> pixel) % 2) * 0xFFFF
 }
 
-// What a turn's two pixels have: whether each lies in region 1, and its weight.
+// What a turn's two pixels have: the mask of its region, and its weight.
 pub struct Turn {
-    pub second: bool,
-    pub second8: bool,
+    pub second: u16,
+    pub second8: u16,
     pub w: u16,
     pub w8: u16,
 }
@@ -78,8 +80,8 @@ pub fn turn_one(word: u64, k: usize) -> Turn
     ensures { λ r. ⌜ TurnOf oneSecond (oneWeight word) k r ⌝ }
 {
     Turn {
-        second: false,
-        second8: false,
+        second: 0,
+        second8: 0,
         w: weight_4(index_4(low_32(word), k)),
         w8: weight_4(index_4(high_32(word), k)),
     }
@@ -91,59 +93,81 @@ pub fn turn_two(word: u64, map: u16, k: usize) -> Turn
     ensures { λ r. ⌜ TurnOf (twoSecond map) (twoWeight word) k r ⌝ }
 {
     Turn {
-        second: in_region_1(map, k),
-        second8: in_region_1(map >> 8, k),
+        second: region_mask(map, k),
+        second8: region_mask(map >> 8, k),
         w: weight_3(index_3(low_24(word), k)),
         w8: weight_3(index_3(high_24(word), k)),
     }
 }
 
-// Of two numbers the one of the pixel's region.
-fn select(second: bool, a: u16, c: u16) -> u16
-    ensures { λ r. ⌜ r ≡ pick second c a ⌝ }
+// Of two numbers the one of the pixel's region: a, or a with the bits turned over in which the other lies apart.
+fn select(second: u16, a: u16, apart: u16) -> u16
+    ensures { λ r. ⌜ r ≡ selected second a apart ⌝ }
 {
-    if second { c } else { a }
+    a ^ (second & apart)
 }
 
-// The number at weight w: between a and b in region 0, between c and d in region 1.
-fn point_unsigned(second: bool, a: u16, b: u16, c: u16, d: u16, w: u16) -> u16
+// The number at weight w: between a and b in region 0, between c and d in region 1. `ac` is a ^ c, `bd` is b ^ d.
+fn point_unsigned(second: u16, a: u16, b: u16, ac: u16, bd: u16, w: u16) -> u16
     requires { ⌜ w ≤ 64 ⌝ }
-    ensures { λ r. ⌜ pos r ≡ pointOf false (pick second c a) (pick second d b) w ⌝ }
-{
-    interpolate(select(second, a, c) as i32, select(second, b, d) as i32, w) as u16
-}
-
-fn point_signed(second: bool, a: u16, b: u16, c: u16, d: u16, w: u16) -> i32
-    requires { ⌜ w ≤ 64 ⌝ }
-    ensures { λ r. ⌜ r ≡ pointOf true (pick second c a) (pick second d b) w ⌝ }
+    ensures { λ r. ⌜ pos r ≡ pointOf false (selected second a ac) (selected second b bd) w ⌝ }
 {
     interpolate(
-        number_16(select(second, a, c)),
-        number_16(select(second, b, d)),
+        select(second, a, ac) as i32,
+        select(second, b, bd) as i32,
+        w,
+    ) as u16
+}
+
+fn point_signed(second: u16, a: u16, b: u16, ac: u16, bd: u16, w: u16) -> i32
+    requires { ⌜ w ≤ 64 ⌝ }
+    ensures { λ r. ⌜ r ≡ pointOf true (selected second a ac) (selected second b bd) w ⌝ }
+{
+    interpolate(
+        number_16(select(second, a, ac)),
+        number_16(select(second, b, bd)),
         w,
     )
 }
 
-// A channel of a turn's pixels, whose values stand at `at` and 24 behind it. The signed form takes pixel k + 8 first: in the same order the
-// compiler would choose the ends of both formats before it asks for the format, and keep them on the stack.
-pub fn channel_unsigned(t: Turn, a: u16, b: u16, c: u16, d: u16, at: usize, out: &mut [u16])
+// A channel of a turn's pixels, whose values stand at `at` and 24 behind it, by the word of its four endpoints. The signed form takes pixel
+// k + 8 first: in the same order the compiler would choose the ends of both formats before it asks for the format, and keep them on the stack.
+pub fn channel_unsigned(t: Turn, ends: u64, at: usize, out: &mut [u16])
     requires { ⌜ (t .w ≤ 64) × (t .w8 ≤ 64) × (at + 24 < length (now out)) ⌝ }
-    ensures { λ _. ⌜ now (out .exit) ≡ pairAt false t a b c d at (now (out .entry)) ⌝ }
+    ensures { λ _. ⌜ now (out .exit) ≡ pairAt false t ends at (now (out .entry)) ⌝ }
 {
-    let low = finish_unsigned(point_unsigned(t.second, a, b, c, d, t.w));
+    let a = lane(ends, 0);
+    let b = lane(ends, 1);
+    let apart = ends ^ (ends >> 32);
+    let ac = lane(apart, 0);
+    let bd = lane(apart, 1);
+    let low = finish_unsigned(point_unsigned(t.second, a, b, ac, bd, t.w));
     out[at] = low.pattern;
-    let high = finish_unsigned(point_unsigned(t.second8, a, b, c, d, t.w8));
+    let high = finish_unsigned(point_unsigned(t.second8, a, b, ac, bd, t.w8));
     out[at + 24] = high.pattern;
 }
 
 // .. and how many of the two are minus infinity.
-pub fn channel_signed(t: Turn, a: u16, b: u16, c: u16, d: u16, at: usize, out: &mut [u16]) -> u16
+pub fn channel_signed(t: Turn, ends: u64, at: usize, out: &mut [u16]) -> u16
     requires { ⌜ (t .w ≤ 64) × (t .w8 ≤ 64) × (at + 24 < length (now out)) ⌝ }
-    ensures { λ r. ⌜ Pair t a b c d at (now (out .entry)) r (now (out .exit)) ⌝ }
+    ensures { λ r. ⌜ Pair t ends at (now (out .entry)) r (now (out .exit)) ⌝ }
 {
-    let high = finish_signed(point_signed(t.second8, a, b, c, d, t.w8));
+    let a = lane(ends, 0);
+    let b = lane(ends, 1);
+    let apart = ends ^ (ends >> 32);
+    let ac = lane(apart, 0);
+    let bd = lane(apart, 1);
+    let high = finish_signed(point_signed(t.second8, a, b, ac, bd, t.w8));
     out[at + 24] = high.pattern;
-    let low = finish_signed(point_signed(t.second, a, b, c, d, t.w));
+    let low = finish_signed(point_signed(t.second, a, b, ac, bd, t.w));
     out[at] = low.pattern;
     low.counted() + high.counted()
+}
+
+// Lane k of two words, as lanes 0 and 1 of one: the word of a channel, where each of the two has an endpoint's channels.
+pub fn pair(first: u64, second: u64, k: u64) -> u64
+    requires { ⌜ k < 4 ⌝ }
+    ensures { λ r. ⌜ Paired first second k r ⌝ }
+{
+    (lane(first, k) as u64) + 0x1_0000 * (lane(second, k) as u64)
 }

@@ -1,5 +1,4 @@
 pub mod Runs
-pub mod Sums
-pub mod Parts
 pub mod Partition
-pub mod Words
+pub mod Tables
+pub mod Threes

@@ -3,23 +3,15 @@ use mathlib.Core.Path.{_≡_, _∙_, refl, sym, ap, ap₂}
 use mathlib.Core.Bool.{Bool, true, false}
 use mathlib.Core.List.{List, [], _∷_}
 use Prim.Native.Nat.{ℕ, suc, _+_, _*_, _/_, _%_, _^_}
-use native.Mathlib.Nat.{div-one, add-mul, mul-comm, mul-assoc, add-comm, add-assoc, add-zero, zero-add}
+use native.Mathlib.Nat.{div-one, add-mul, mul-comm, mul-assoc, add-comm, zero-add}
 use native.Mathlib.Numerals.{add-one}
 use native.Mathlib.Omega.{arith}
 use lib.Dec.{eqb}
 use lib.Pow.{shr-shr, mod-pow-add, pow-add}
 use borrow.Author.Tests.{eqb-true}
 use Rattle.laws.specs.Pick.{pick, both}
-use Rattle.laws.specs.Made.{made}
-use Rattle.laws.proofs.Rows.{made-cong}
-use Rattle.bc6h_spec.specs.Layout.{row}
 use Rattle.bc6h_spec.specs.Fields.{gathered}
-
--- `size` bits of the block from bit `at` on, the lowest as bit `shift` of a value
-pub record Run : Type 0 where
-  pub at : ℕ
-  pub size : ℕ
-  pub shift : ℕ
+use Rattle.bc6_runs.specs.Table.{Run, part, sum}
 
 -- bit k of the block, as bit b, before the runs that follow: where the first of them goes on from it, the two are one
 abbrev joined : ℕ → ℕ → List Run → List Run
@@ -34,32 +26,7 @@ abbrev pub runs : List ℕ → ℕ → ℕ → List Run
 runs [] k p = []
 runs (c ∷ cs) k p = pick (eqb (c / 16) p) (joined k (c % 16) (runs cs (suc k) p)) (runs cs (suc k) p)
 
-abbrev part : ℕ → Run → ℕ
-part n r = n / 2 ^ r .at % 2 ^ r .size * 2 ^ r .shift
-
--- the sum of their parts, as code writes it: from the left
-abbrev more : ℕ → ℕ → List Run → ℕ
-more n x [] = x
-more n x (r ∷ rs) = more n (x + part n r) rs
-
-abbrev pub total : ℕ → List Run → ℕ
-total n [] = 0
-total n (r ∷ rs) = more n (part n r) rs
-
 -- ---- the law
-
--- the same sum from the right
-abbrev sum : ℕ → List Run → ℕ
-sum n [] = 0
-sum n (r ∷ rs) = part n r + sum n rs
-
-more-is : (n x : ℕ) (rs : List Run) → more n x rs ≡ x + sum n rs
-more-is n x [] = sym (add-zero x)
-more-is n x (r ∷ rs) = more-is n (x + part n r) rs ∙ add-assoc x (part n r) (sum n rs)
-
-total-is : (n : ℕ) (rs : List Run) → total n rs ≡ sum n rs
-total-is n [] = refl
-total-is n (r ∷ rs) = more-is n (part n r) rs
 
 halved : (n k : ℕ) → n / 2 ^ k / 2 ≡ n / 2 ^ suc k
 halved n k = shr-shr n k 1 ∙ ap (λ (y : ℕ). n / 2 ^ y) (add-one k)
@@ -103,13 +70,6 @@ runs-sum (c ∷ cs) n k p =
     runs-case n k (c % 16) (runs cs (suc k) p) (gathered cs (n / 2 ^ k / 2) p) (eqb (c / 16) p)
     (runs-sum cs n (suc k) p ∙ ap (λ (x : ℕ). gathered cs x p) (sym (halved n k)))
 
--- what the runs of a place give is what the row's codes gather there
-pub run-law : (l : List ℕ) (n p : ℕ) → total n (runs l 0 p) ≡ gathered l n p
-run-law l n p = total-is n (runs l 0 p) ∙ runs-sum l n 0 p ∙ ap (λ (x : ℕ). gathered l x p) (div-one n)
-
--- the twelve endpoint places of a row by runs; at a literal mode these are the sums that the code writes
-abbrev pub byRuns : ℕ → ℕ → List ℕ
-byRuns mode n = made (λ p. total n (runs (row mode) 0 p)) 12
-
-pub by-runs : {values : List ℕ} (mode n : ℕ) → values ≡ byRuns mode n → values ≡ made (gathered (row mode) n) 12
-by-runs mode n e = e ∙ made-cong _ _ (run-law (row mode) n) 12
+-- what the runs of a place make is what the row's codes gather there
+pub run-law : (l : List ℕ) (n p : ℕ) → sum n (runs l 0 p) ≡ gathered l n p
+run-law l n p = runs-sum l n 0 p ∙ ap (λ (x : ℕ). gathered l x p) (div-one n)

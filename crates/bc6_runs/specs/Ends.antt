@@ -1,29 +1,25 @@
--- The endpoints as a mode stores them, channel by channel, and four of them in one word. Assumes nothing.
-use mathlib.Core.List.{List}
-use Prim.Native.Nat.{ℕ, _+_, _*_, _/_, _%_, _^_}
-use lib.ListN.{getD}
-use Rattle.bc6h_spec.specs.Layout.{row}
+-- What the endpoints are read as: a mode's places, in the lanes of a few words. Assumes nothing.
+use mathlib.Core.Path.{_≡_}
+use Prim.Native.Nat.{ℕ, _+_, _*_, _<_, _≤_}
+use Rattle.lanes.specs.Lanes.{lane}
+use Rattle.bc6h_spec.specs.Layout.{row, precision}
 use Rattle.bc6h_spec.specs.Fields.{gathered}
 use Rattle.bc6_runs.specs.declared.Channels.{Channels}
+use Rattle.bc6_runs.specs.declared.Pair.{Pair}
 
--- number j: red of w, x, y and z, then green, then blue
-unfoldable pub storedEnd : ℕ → ℕ → ℕ → ℕ
-storedEnd mode n j = gathered (row mode) n (3 * (j % 4) + j / 4)
+-- two regions: a word a channel, lane e of it endpoint e
+pub record ChannelsRead (mode n : ℕ) (r : Channels) : Type 0 where
+  pub red : (e : ℕ) → e < 4 → lane (r .red) e ≡ gathered (row mode) n (3 * e)
+  pub green : (e : ℕ) → e < 4 → lane (r .green) e ≡ gathered (row mode) n (3 * e + 1)
+  pub blue : (e : ℕ) → e < 4 → lane (r .blue) e ≡ gathered (row mode) n (3 * e + 2)
 
--- four numbers of sixteen bits in one
-abbrev pub fourOf : ℕ → ℕ → ℕ → ℕ → ℕ
-fourOf w x y z = w + 0x10000 * x + 0x100000000 * y + 0x1000000000000 * z
+-- one region: a word an endpoint, lane c of it channel c
+pub record PairRead (mode n : ℕ) (r : Pair) : Type 0 where
+  pub first : (c : ℕ) → c < 3 → lane (r .first) c ≡ gathered (row mode) n c
+  pub second : (c : ℕ) → c < 3 → lane (r .second) c ≡ gathered (row mode) n (3 + c)
+  pub first-top : lane (r .first) 3 ≡ 0
+  pub second-top : lane (r .second) 3 ≡ 0
 
--- number e of them
-abbrev pub lane : ℕ → ℕ → ℕ
-lane word e = word / 2 ^ (16 * e) % 2 ^ 16
-
--- the words of the channels, of the numbers at the places
-abbrev pub channelsOf : List ℕ → Channels
-channelsOf places =
-    let at : ℕ → ℕ = λ place. getD places place 0 in
-    record {
-      red = fourOf (at 0) (at 3) (at 6) (at 9);
-      green = fourOf (at 1) (at 4) (at 7) (at 10);
-      blue = fourOf (at 2) (at 5) (at 8) (at 11);
-    }
+-- the same for the mode that has `extra` bits above the tenth
+pub record PairBy (extra n : ℕ) (r : Pair) : Type 0 where
+  pub of : (mode : ℕ) → 11 ≤ mode → mode ≤ 14 → precision mode ≡ 10 + extra → PairRead mode n r

@@ -1,2 +1,3 @@
-pub mod Part
+pub mod Table
+pub mod Threes
 pub mod Ends

@@ -1,421 +1,399 @@
-// The bits before the indices, by runs: each place of a mode is a sum of a few stretches of bits. This is what decoding reads.
-// The places are red, green and blue of the endpoints w, x, y and z; the mode and the partition are read elsewhere.
+// The endpoints of a block, as they are stored: what decoding reads. The places are red, green and blue of the endpoints w, x, y and z, in
+// lanes of sixteen bits. The mode is read elsewhere.
 use bcn_util::BitStream;
 ghost use mathlib.Core.Path.{_≡_};
-ghost use mathlib.Core.List.{_++_};
-ghost use Prim.Native.Nat.{_+_, _/_, _%_, _^_, _<_, _≤_};
-ghost use lib.ListN.{length, drop};
-ghost use Rattle.laws.specs.Made.{made};
+ghost use Prim.Native.Nat.{_+_, _*_, _/_, _%_, _^_, _≤_};
+ghost use lib.Dec.{T};
 ghost use Rattle.bcn_util.specs.Stream.{number};
-ghost use Rattle.bc6h_spec.specs.Layout.{row};
-ghost use Rattle.bc6h_spec.specs.Fields.{gathered};
-ghost use Rattle.bc6_runs.specs.Part.{Part};
-ghost use Rattle.bc6_runs.specs.Ends.{storedEnd, fourOf, lane, channelsOf};
+ghost use Rattle.bc6_runs.specs.Table.{part, sum, runOf, runsOf, readable, fits};
+ghost use Rattle.bc6_runs.specs.Threes.{threeOf, ten, turnedBit, extraBits};
+ghost use Rattle.bc6_runs.specs.Ends.{ChannelsRead, PairBy};
 
-// `count` bits from bit `at` on, the lowest as bit `shift`.
-fn run(stream: BitStream, at: u64, count: u64, shift: u64) -> u16
-    requires { ⌜ (at < 128) × (count + shift ≤ 16) ⌝ }
-    ensures { λ r. ⌜ Part (number stream) at count shift r ⌝ }
+// A run of bits, by a code of two hexadecimal digits each: from which bit on, how many, and as which bit of the word the lowest is read.
+fn run(stream: BitStream, code: u32) -> u64
+    requires { ⌜ T (readable (runOf code)) ⌝ }
+    ensures { λ r. ⌜ r ≡ part (number stream) (runOf code) ⌝ }
 {
+    let at = (code / 0x1_0000) as u64;
+    let size = ((code / 0x100) % 0x100) as u64;
+    let shift = (code % 0x100) as u64;
     let rest = stream.skip(at);
-    let read = rest.consume_bits(count);
-    (read.bits << shift) as u16
+    let read = rest.consume_bits(size);
+    read.bits << shift
 }
 
-// M10_555
-fn places_1(s: BitStream) -> [u16; 12]
-    ensures { λ r. ⌜ r ≡ made (gathered (row 1) (number s)) 12 ⌝ }
+// The runs of a table. (A caller's table is literal: the compiler writes the runs out one after the other.)
+fn word(stream: BitStream, runs: &[u32]) -> u64
+    requires { ⌜ T (fits (runsOf (now runs))) ⌝ }
+    ensures { λ r. ⌜ r ≡ sum (number stream) (runsOf (now (runs .entry))) ⌝ }
 {
-    [
-        run(s, 5, 10, 0),
-        run(s, 15, 10, 0),
-        run(s, 25, 10, 0),
-        run(s, 35, 5, 0),
-        run(s, 45, 5, 0),
-        run(s, 55, 5, 0),
-        run(s, 65, 5, 0),
-        run(s, 2, 1, 4) + run(s, 41, 4, 0),
-        run(s, 3, 1, 4) + run(s, 61, 4, 0),
-        run(s, 71, 5, 0),
-        run(s, 40, 1, 4) + run(s, 51, 4, 0),
-        run(s, 4, 1, 4) + run(s, 50, 1, 0) + run(s, 60, 1, 1) + run(s, 70, 1, 2) + run(s, 76, 1, 3),
-    ]
-}
-
-// M7_666
-fn places_2(s: BitStream) -> [u16; 12]
-    ensures { λ r. ⌜ r ≡ made (gathered (row 2) (number s)) 12 ⌝ }
-{
-    [
-        run(s, 5, 7, 0),
-        run(s, 15, 7, 0),
-        run(s, 25, 7, 0),
-        run(s, 35, 6, 0),
-        run(s, 45, 6, 0),
-        run(s, 55, 6, 0),
-        run(s, 65, 6, 0),
-        run(s, 2, 1, 5) + run(s, 24, 1, 4) + run(s, 41, 4, 0),
-        run(s, 14, 1, 4) + run(s, 22, 1, 5) + run(s, 61, 4, 0),
-        run(s, 71, 6, 0),
-        run(s, 3, 2, 4) + run(s, 51, 4, 0),
-        run(s, 12, 2, 0)
-            + run(s, 23, 1, 2)
-            + run(s, 32, 1, 3)
-            + run(s, 33, 1, 5)
-            + run(s, 34, 1, 4),
-    ]
-}
-
-// M11_544
-fn places_3(s: BitStream) -> [u16; 12]
-    ensures { λ r. ⌜ r ≡ made (gathered (row 3) (number s)) 12 ⌝ }
-{
-    [
-        run(s, 5, 10, 0) + run(s, 40, 1, 10),
-        run(s, 15, 10, 0) + run(s, 49, 1, 10),
-        run(s, 25, 10, 0) + run(s, 59, 1, 10),
-        run(s, 35, 5, 0),
-        run(s, 45, 4, 0),
-        run(s, 55, 4, 0),
-        run(s, 65, 5, 0),
-        run(s, 41, 4, 0),
-        run(s, 61, 4, 0),
-        run(s, 71, 5, 0),
-        run(s, 51, 4, 0),
-        run(s, 50, 1, 0) + run(s, 60, 1, 1) + run(s, 70, 1, 2) + run(s, 76, 1, 3),
-    ]
-}
-
-// M11_454
-fn places_4(s: BitStream) -> [u16; 12]
-    ensures { λ r. ⌜ r ≡ made (gathered (row 4) (number s)) 12 ⌝ }
-{
-    [
-        run(s, 5, 10, 0) + run(s, 39, 1, 10),
-        run(s, 15, 10, 0) + run(s, 50, 1, 10),
-        run(s, 25, 10, 0) + run(s, 59, 1, 10),
-        run(s, 35, 4, 0),
-        run(s, 45, 5, 0),
-        run(s, 55, 4, 0),
-        run(s, 65, 4, 0),
-        run(s, 41, 4, 0) + run(s, 75, 1, 4),
-        run(s, 61, 4, 0),
-        run(s, 71, 4, 0),
-        run(s, 40, 1, 4) + run(s, 51, 4, 0),
-        run(s, 60, 1, 1) + run(s, 69, 1, 0) + run(s, 70, 1, 2) + run(s, 76, 1, 3),
-    ]
-}
-
-// M11_445
-fn places_5(s: BitStream) -> [u16; 12]
-    ensures { λ r. ⌜ r ≡ made (gathered (row 5) (number s)) 12 ⌝ }
-{
-    [
-        run(s, 5, 10, 0) + run(s, 39, 1, 10),
-        run(s, 15, 10, 0) + run(s, 49, 1, 10),
-        run(s, 25, 10, 0) + run(s, 60, 1, 10),
-        run(s, 35, 4, 0),
-        run(s, 45, 4, 0),
-        run(s, 55, 5, 0),
-        run(s, 65, 4, 0),
-        run(s, 41, 4, 0),
-        run(s, 40, 1, 4) + run(s, 61, 4, 0),
-        run(s, 71, 4, 0),
-        run(s, 51, 4, 0),
-        run(s, 50, 1, 0) + run(s, 69, 2, 1) + run(s, 75, 1, 4) + run(s, 76, 1, 3),
-    ]
-}
-
-// M9_555
-fn places_6(s: BitStream) -> [u16; 12]
-    ensures { λ r. ⌜ r ≡ made (gathered (row 6) (number s)) 12 ⌝ }
-{
-    [
-        run(s, 5, 9, 0),
-        run(s, 15, 9, 0),
-        run(s, 25, 9, 0),
-        run(s, 35, 5, 0),
-        run(s, 45, 5, 0),
-        run(s, 55, 5, 0),
-        run(s, 65, 5, 0),
-        run(s, 24, 1, 4) + run(s, 41, 4, 0),
-        run(s, 14, 1, 4) + run(s, 61, 4, 0),
-        run(s, 71, 5, 0),
-        run(s, 40, 1, 4) + run(s, 51, 4, 0),
-        run(s, 34, 1, 4)
-            + run(s, 50, 1, 0)
-            + run(s, 60, 1, 1)
-            + run(s, 70, 1, 2)
-            + run(s, 76, 1, 3),
-    ]
-}
-
-// M8_655
-fn places_7(s: BitStream) -> [u16; 12]
-    ensures { λ r. ⌜ r ≡ made (gathered (row 7) (number s)) 12 ⌝ }
-{
-    [
-        run(s, 5, 8, 0),
-        run(s, 15, 8, 0),
-        run(s, 25, 8, 0),
-        run(s, 35, 6, 0),
-        run(s, 45, 5, 0),
-        run(s, 55, 5, 0),
-        run(s, 65, 6, 0),
-        run(s, 24, 1, 4) + run(s, 41, 4, 0),
-        run(s, 14, 1, 4) + run(s, 61, 4, 0),
-        run(s, 71, 6, 0),
-        run(s, 13, 1, 4) + run(s, 51, 4, 0),
-        run(s, 23, 1, 2) + run(s, 33, 2, 3) + run(s, 50, 1, 0) + run(s, 60, 1, 1),
-    ]
-}
-
-// M8_565
-fn places_8(s: BitStream) -> [u16; 12]
-    ensures { λ r. ⌜ r ≡ made (gathered (row 8) (number s)) 12 ⌝ }
-{
-    [
-        run(s, 5, 8, 0),
-        run(s, 15, 8, 0),
-        run(s, 25, 8, 0),
-        run(s, 35, 5, 0),
-        run(s, 45, 6, 0),
-        run(s, 55, 5, 0),
-        run(s, 65, 5, 0),
-        run(s, 23, 1, 5) + run(s, 24, 1, 4) + run(s, 41, 4, 0),
-        run(s, 14, 1, 4) + run(s, 61, 4, 0),
-        run(s, 71, 5, 0),
-        run(s, 33, 1, 5) + run(s, 40, 1, 4) + run(s, 51, 4, 0),
-        run(s, 13, 1, 0)
-            + run(s, 34, 1, 4)
-            + run(s, 60, 1, 1)
-            + run(s, 70, 1, 2)
-            + run(s, 76, 1, 3),
-    ]
-}
-
-// M8_556
-fn places_9(s: BitStream) -> [u16; 12]
-    ensures { λ r. ⌜ r ≡ made (gathered (row 9) (number s)) 12 ⌝ }
-{
-    [
-        run(s, 5, 8, 0),
-        run(s, 15, 8, 0),
-        run(s, 25, 8, 0),
-        run(s, 35, 5, 0),
-        run(s, 45, 5, 0),
-        run(s, 55, 6, 0),
-        run(s, 65, 5, 0),
-        run(s, 24, 1, 4) + run(s, 41, 4, 0),
-        run(s, 14, 1, 4) + run(s, 23, 1, 5) + run(s, 61, 4, 0),
-        run(s, 71, 5, 0),
-        run(s, 40, 1, 4) + run(s, 51, 4, 0),
-        run(s, 13, 1, 1)
-            + run(s, 33, 1, 5)
-            + run(s, 34, 1, 4)
-            + run(s, 50, 1, 0)
-            + run(s, 70, 1, 2)
-            + run(s, 76, 1, 3),
-    ]
-}
-
-// M6_666
-fn places_10(s: BitStream) -> [u16; 12]
-    ensures { λ r. ⌜ r ≡ made (gathered (row 10) (number s)) 12 ⌝ }
-{
-    [
-        run(s, 5, 6, 0),
-        run(s, 15, 6, 0),
-        run(s, 25, 6, 0),
-        run(s, 35, 6, 0),
-        run(s, 45, 6, 0),
-        run(s, 55, 6, 0),
-        run(s, 65, 6, 0),
-        run(s, 21, 1, 5) + run(s, 24, 1, 4) + run(s, 41, 4, 0),
-        run(s, 14, 1, 4) + run(s, 22, 1, 5) + run(s, 61, 4, 0),
-        run(s, 71, 6, 0),
-        run(s, 11, 1, 4) + run(s, 31, 1, 5) + run(s, 51, 4, 0),
-        run(s, 12, 2, 0)
-            + run(s, 23, 1, 2)
-            + run(s, 32, 1, 3)
-            + run(s, 33, 1, 5)
-            + run(s, 34, 1, 4),
-    ]
-}
-
-// M10_10
-fn places_11(s: BitStream) -> [u16; 12]
-    ensures { λ r. ⌜ r ≡ made (gathered (row 11) (number s)) 12 ⌝ }
-{
-    [
-        run(s, 5, 10, 0),
-        run(s, 15, 10, 0),
-        run(s, 25, 10, 0),
-        run(s, 35, 10, 0),
-        run(s, 45, 10, 0),
-        run(s, 55, 10, 0),
-        0,
-        0,
-        0,
-        0,
-        0,
-        0,
-    ]
-}
-
-// M11_9
-fn places_12(s: BitStream) -> [u16; 12]
-    ensures { λ r. ⌜ r ≡ made (gathered (row 12) (number s)) 12 ⌝ }
-{
-    [
-        run(s, 5, 10, 0) + run(s, 44, 1, 10),
-        run(s, 15, 10, 0) + run(s, 54, 1, 10),
-        run(s, 25, 10, 0) + run(s, 64, 1, 10),
-        run(s, 35, 9, 0),
-        run(s, 45, 9, 0),
-        run(s, 55, 9, 0),
-        0,
-        0,
-        0,
-        0,
-        0,
-        0,
-    ]
-}
-
-// M12_8
-fn places_13(s: BitStream) -> [u16; 12]
-    ensures { λ r. ⌜ r ≡ made (gathered (row 13) (number s)) 12 ⌝ }
-{
-    [
-        run(s, 5, 10, 0) + run(s, 43, 1, 11) + run(s, 44, 1, 10),
-        run(s, 15, 10, 0) + run(s, 53, 1, 11) + run(s, 54, 1, 10),
-        run(s, 25, 10, 0) + run(s, 63, 1, 11) + run(s, 64, 1, 10),
-        run(s, 35, 8, 0),
-        run(s, 45, 8, 0),
-        run(s, 55, 8, 0),
-        0,
-        0,
-        0,
-        0,
-        0,
-        0,
-    ]
-}
-
-// M16_4
-fn places_14(s: BitStream) -> [u16; 12]
-    ensures { λ r. ⌜ r ≡ made (gathered (row 14) (number s)) 12 ⌝ }
-{
-    [
-        run(s, 5, 10, 0)
-            + run(s, 39, 1, 15)
-            + run(s, 40, 1, 14)
-            + run(s, 41, 1, 13)
-            + run(s, 42, 1, 12)
-            + run(s, 43, 1, 11)
-            + run(s, 44, 1, 10),
-        run(s, 15, 10, 0)
-            + run(s, 49, 1, 15)
-            + run(s, 50, 1, 14)
-            + run(s, 51, 1, 13)
-            + run(s, 52, 1, 12)
-            + run(s, 53, 1, 11)
-            + run(s, 54, 1, 10),
-        run(s, 25, 10, 0)
-            + run(s, 59, 1, 15)
-            + run(s, 60, 1, 14)
-            + run(s, 61, 1, 13)
-            + run(s, 62, 1, 12)
-            + run(s, 63, 1, 11)
-            + run(s, 64, 1, 10),
-        run(s, 35, 4, 0),
-        run(s, 45, 4, 0),
-        run(s, 55, 4, 0),
-        0,
-        0,
-        0,
-        0,
-        0,
-        0,
-    ]
-}
-
-// A channel of the four endpoints in one word, w lowest.
-fn four(w: u16, x: u16, y: u16, z: u16) -> u64
-    ensures { λ r. ⌜ r ≡ fourOf w x y z ⌝ }
-{
-    (w as u64)
-        + 0x1_0000 * (x as u64)
-        + 0x1_0000_0000 * (y as u64)
-        + 0x1_0000_0000_0000 * (z as u64)
-}
-
-// The endpoints as they are stored, a word a channel.
-struct Channels {
-    red: u64,
-    green: u64,
-    blue: u64,
-}
-
-fn channels_of(places: [u16; 12]) -> Channels
-    ensures { λ r. ⌜ r ≡ channelsOf places ⌝ }
-{
-    Channels {
-        red: four(places[0], places[3], places[6], places[9]),
-        green: four(places[1], places[4], places[7], places[10]),
-        blue: four(places[2], places[5], places[8], places[11]),
+    let mut word = 0u64;
+    for k in 0..runs.len() {
+        word = word + run(stream, runs[k]);
     }
-}
-
-// Words, and not numbers, where the fourteen modes meet: three stay in registers.
-fn read_channels(mode: usize, stream: BitStream) -> Channels
-    requires { ⌜ (1 ≤ mode) × (mode ≤ 14) ⌝ }
-    ensures { λ r. ⌜ r ≡ channelsOf (made (gathered (row mode) (number stream)) 12) ⌝ }
-{
-    match mode {
-        1 => channels_of(places_1(stream)),
-        2 => channels_of(places_2(stream)),
-        3 => channels_of(places_3(stream)),
-        4 => channels_of(places_4(stream)),
-        5 => channels_of(places_5(stream)),
-        6 => channels_of(places_6(stream)),
-        7 => channels_of(places_7(stream)),
-        8 => channels_of(places_8(stream)),
-        9 => channels_of(places_9(stream)),
-        10 => channels_of(places_10(stream)),
-        11 => channels_of(places_11(stream)),
-        12 => channels_of(places_12(stream)),
-        13 => channels_of(places_13(stream)),
-        _ => channels_of(places_14(stream)),
-    }
-}
-
-fn write_four(word: u64, out: &mut [u16])
-    requires { ⌜ 4 ≤ length (now out) ⌝ }
-    ensures { λ _. ⌜ now (out .exit) ≡ made (lane word) 4 ++ drop 4 (now (out .entry)) ⌝ }
-{
-    out[0] = (word % 0x1_0000) as u16;
-    out[1] = ((word >> 16) % 0x1_0000) as u16;
-    out[2] = ((word >> 32) % 0x1_0000) as u16;
-    out[3] = (word >> 48) as u16;
-}
-
-// The endpoints as they are stored: red of w, x, y and z, then green, then blue. (It takes the stream's two words: a struct that is
-// handed on is stored and read back.)
-pub fn read_ends(mode: usize, lo: u64, hi: u64, out: &mut [u16])
-    requires { ⌜ (1 ≤ mode) × (mode ≤ 14) × (12 ≤ length (now out)) ⌝ }
-    ensures { λ _. ⌜ now (out .exit) ≡ made (storedEnd mode (number (record { lo = lo; hi = hi }))) 12 ++ drop 12 (now (out .entry)) ⌝ }
-{
-    let channels = read_channels(mode, BitStream { lo, hi });
-    write_four(channels.red, out);
-    write_four(channels.green, &mut out[4..]);
-    write_four(channels.blue, &mut out[8..]);
+    word
 }
 
 // The partition of a mode of two regions.
 pub fn read_partition(stream: BitStream) -> u16
     ensures { λ r. ⌜ r ≡ number stream / 2 ^ 77 % 2 ^ 5 ⌝ }
 {
-    run(stream, 77, 5, 0)
+    run(stream, 0x4D0500) as u16
+}
+
+// ---- modes of two regions
+
+// A word a channel, endpoint w in lane 0.
+pub struct Channels {
+    pub red: u64,
+    pub green: u64,
+    pub blue: u64,
+}
+
+// M10_555
+pub fn channels_1(lo: u64, hi: u64) -> Channels
+    ensures { λ r. ⌜ ChannelsRead 1 (number (record { lo = lo; hi = hi })) r ⌝ }
+{
+    let s = BitStream { lo, hi };
+    let red = [0x050A00, 0x230510, 0x410520, 0x470530];
+    let green = [0x0F0A00, 0x2D0510, 0x020124, 0x290420, 0x280134, 0x330430];
+    let blue = [
+        0x190A00,
+        0x370510,
+        0x030124,
+        0x3D0420,
+        0x040134,
+        0x320130,
+        0x3C0131,
+        0x460132,
+        0x4C0133,
+    ];
+    Channels {
+        red: word(s, &red),
+        green: word(s, &green),
+        blue: word(s, &blue),
+    }
+}
+
+// M7_666
+pub fn channels_2(lo: u64, hi: u64) -> Channels
+    ensures { λ r. ⌜ ChannelsRead 2 (number (record { lo = lo; hi = hi })) r ⌝ }
+{
+    let s = BitStream { lo, hi };
+    let red = [0x050700, 0x230610, 0x410620, 0x470630];
+    let green = [
+        0x0F0700,
+        0x2D0610,
+        0x020125,
+        0x180124,
+        0x290420,
+        0x030234,
+        0x330430,
+    ];
+    let blue = [
+        0x190700,
+        0x370610,
+        0x0E0124,
+        0x160125,
+        0x3D0420,
+        0x0C0230,
+        0x170132,
+        0x200133,
+        0x210135,
+        0x220134,
+    ];
+    Channels {
+        red: word(s, &red),
+        green: word(s, &green),
+        blue: word(s, &blue),
+    }
+}
+
+// M11_544
+pub fn channels_3(lo: u64, hi: u64) -> Channels
+    ensures { λ r. ⌜ ChannelsRead 3 (number (record { lo = lo; hi = hi })) r ⌝ }
+{
+    let s = BitStream { lo, hi };
+    let red = [0x050A00, 0x28010A, 0x230510, 0x410520, 0x470530];
+    let green = [0x0F0A00, 0x31010A, 0x2D0410, 0x290420, 0x330430];
+    let blue = [
+        0x190A00,
+        0x3B010A,
+        0x370410,
+        0x3D0420,
+        0x320130,
+        0x3C0131,
+        0x460132,
+        0x4C0133,
+    ];
+    Channels {
+        red: word(s, &red),
+        green: word(s, &green),
+        blue: word(s, &blue),
+    }
+}
+
+// M11_454
+pub fn channels_4(lo: u64, hi: u64) -> Channels
+    ensures { λ r. ⌜ ChannelsRead 4 (number (record { lo = lo; hi = hi })) r ⌝ }
+{
+    let s = BitStream { lo, hi };
+    let red = [0x050A00, 0x27010A, 0x230410, 0x410420, 0x470430];
+    let green = [
+        0x0F0A00,
+        0x32010A,
+        0x2D0510,
+        0x290420,
+        0x4B0124,
+        0x280134,
+        0x330430,
+    ];
+    let blue = [
+        0x190A00,
+        0x3B010A,
+        0x370410,
+        0x3D0420,
+        0x3C0131,
+        0x450130,
+        0x460132,
+        0x4C0133,
+    ];
+    Channels {
+        red: word(s, &red),
+        green: word(s, &green),
+        blue: word(s, &blue),
+    }
+}
+
+// M11_445
+pub fn channels_5(lo: u64, hi: u64) -> Channels
+    ensures { λ r. ⌜ ChannelsRead 5 (number (record { lo = lo; hi = hi })) r ⌝ }
+{
+    let s = BitStream { lo, hi };
+    let red = [0x050A00, 0x27010A, 0x230410, 0x410420, 0x470430];
+    let green = [0x0F0A00, 0x31010A, 0x2D0410, 0x290420, 0x330430];
+    let blue = [
+        0x190A00,
+        0x3C010A,
+        0x370510,
+        0x280124,
+        0x3D0420,
+        0x320130,
+        0x450231,
+        0x4B0134,
+        0x4C0133,
+    ];
+    Channels {
+        red: word(s, &red),
+        green: word(s, &green),
+        blue: word(s, &blue),
+    }
+}
+
+// M9_555
+pub fn channels_6(lo: u64, hi: u64) -> Channels
+    ensures { λ r. ⌜ ChannelsRead 6 (number (record { lo = lo; hi = hi })) r ⌝ }
+{
+    let s = BitStream { lo, hi };
+    let red = [0x050900, 0x230510, 0x410520, 0x470530];
+    let green = [0x0F0900, 0x2D0510, 0x180124, 0x290420, 0x280134, 0x330430];
+    let blue = [
+        0x190900,
+        0x370510,
+        0x0E0124,
+        0x3D0420,
+        0x220134,
+        0x320130,
+        0x3C0131,
+        0x460132,
+        0x4C0133,
+    ];
+    Channels {
+        red: word(s, &red),
+        green: word(s, &green),
+        blue: word(s, &blue),
+    }
+}
+
+// M8_655
+pub fn channels_7(lo: u64, hi: u64) -> Channels
+    ensures { λ r. ⌜ ChannelsRead 7 (number (record { lo = lo; hi = hi })) r ⌝ }
+{
+    let s = BitStream { lo, hi };
+    let red = [0x050800, 0x230610, 0x410620, 0x470630];
+    let green = [0x0F0800, 0x2D0510, 0x180124, 0x290420, 0x0D0134, 0x330430];
+    let blue = [
+        0x190800,
+        0x370510,
+        0x0E0124,
+        0x3D0420,
+        0x170132,
+        0x210233,
+        0x320130,
+        0x3C0131,
+    ];
+    Channels {
+        red: word(s, &red),
+        green: word(s, &green),
+        blue: word(s, &blue),
+    }
+}
+
+// M8_565
+pub fn channels_8(lo: u64, hi: u64) -> Channels
+    ensures { λ r. ⌜ ChannelsRead 8 (number (record { lo = lo; hi = hi })) r ⌝ }
+{
+    let s = BitStream { lo, hi };
+    let red = [0x050800, 0x230510, 0x410520, 0x470530];
+    let green = [
+        0x0F0800,
+        0x2D0610,
+        0x170125,
+        0x180124,
+        0x290420,
+        0x210135,
+        0x280134,
+        0x330430,
+    ];
+    let blue = [
+        0x190800,
+        0x370510,
+        0x0E0124,
+        0x3D0420,
+        0x0D0130,
+        0x220134,
+        0x3C0131,
+        0x460132,
+        0x4C0133,
+    ];
+    Channels {
+        red: word(s, &red),
+        green: word(s, &green),
+        blue: word(s, &blue),
+    }
+}
+
+// M8_556
+pub fn channels_9(lo: u64, hi: u64) -> Channels
+    ensures { λ r. ⌜ ChannelsRead 9 (number (record { lo = lo; hi = hi })) r ⌝ }
+{
+    let s = BitStream { lo, hi };
+    let red = [0x050800, 0x230510, 0x410520, 0x470530];
+    let green = [0x0F0800, 0x2D0510, 0x180124, 0x290420, 0x280134, 0x330430];
+    let blue = [
+        0x190800,
+        0x370610,
+        0x0E0124,
+        0x170125,
+        0x3D0420,
+        0x0D0131,
+        0x210135,
+        0x220134,
+        0x320130,
+        0x460132,
+        0x4C0133,
+    ];
+    Channels {
+        red: word(s, &red),
+        green: word(s, &green),
+        blue: word(s, &blue),
+    }
+}
+
+// M6_666
+pub fn channels_10(lo: u64, hi: u64) -> Channels
+    ensures { λ r. ⌜ ChannelsRead 10 (number (record { lo = lo; hi = hi })) r ⌝ }
+{
+    let s = BitStream { lo, hi };
+    let red = [0x050600, 0x230610, 0x410620, 0x470630];
+    let green = [
+        0x0F0600,
+        0x2D0610,
+        0x150125,
+        0x180124,
+        0x290420,
+        0x0B0134,
+        0x1F0135,
+        0x330430,
+    ];
+    let blue = [
+        0x190600,
+        0x370610,
+        0x0E0124,
+        0x160125,
+        0x3D0420,
+        0x0C0230,
+        0x170132,
+        0x200133,
+        0x210135,
+        0x220134,
+    ];
+    Channels {
+        red: word(s, &red),
+        green: word(s, &green),
+        blue: word(s, &blue),
+    }
+}
+
+// ---- modes of one region
+
+// A word an endpoint, red in lane 0 and nothing in the last.
+pub struct Pair {
+    pub first: u64,
+    pub second: u64,
+}
+
+// A one in each of three lanes.
+const THREE: u64 = 0x1_0001_0001;
+
+// Three fields of ten bits, the lowest of a word, a lane each.
+fn tens(word: u64) -> u64
+    ensures { λ r. ⌜ r ≡ threeOf (ten word) ⌝ }
+{
+    (word & 0x3FF) + ((word & 0xF_FC00) << 6) + ((word & 0x3FF0_0000) << 12)
+}
+
+fn firsts(lo: u64) -> u64
+    ensures { λ r. ⌜ r ≡ threeOf (ten (lo / 2 ^ 5)) ⌝ }
+{
+    tens(lo >> 5)
+}
+
+// The second three, whose last bit is the first of the high word.
+fn seconds(lo: u64, hi: u64) -> u64
+    ensures { λ r. ⌜ r ≡ threeOf (ten (number (record { lo = lo; hi = hi }) / 2 ^ 35)) ⌝ }
+{
+    tens((lo >> 35) + ((hi % 2) << 29))
+}
+
+// Bit `at` of each lane as bit 19 - at.
+fn turned(f: u64, at: u64) -> u64
+    requires { ⌜ (4 ≤ at) × (at ≤ 9) ⌝ }
+    ensures { λ r. ⌜ r ≡ threeOf (turnedBit f at) ⌝ }
+{
+    (f & (THREE << at)) << (19 - 2 * at)
+}
+
+// The bits above the tenth of the first endpoint, which are stored highest first.
+fn extra_bits(f: u64, extra: u64) -> u64
+    requires { ⌜ extra ≤ 6 ⌝ }
+    ensures { λ r. ⌜ r ≡ threeOf (extraBits f extra) ⌝ }
+{
+    let mut above = 0u64;
+    for k in 0..extra {
+        above = above + turned(f, 9 - k);
+    }
+    above
+}
+
+// The endpoints w and x of the mode that has `extra` bits above the tenth: 0 in M10_10, 1 in M11_9, 2 in M12_8, 6 in M16_4.
+pub fn read_pair(lo: u64, hi: u64, extra: u64) -> Pair
+    requires { ⌜ extra ≤ 6 ⌝ }
+    ensures { λ r. ⌜ PairBy extra (number (record { lo = lo; hi = hi })) r ⌝ }
+{
+    let f = seconds(lo, hi);
+    Pair {
+        first: firsts(lo) + extra_bits(f, extra),
+        second: f & ((THREE << (10 - extra)) - THREE),
+    }
 }

@@ -1,19 +1,24 @@
 -- What a block shows, pixel by pixel. Assumes nothing.
-use mathlib.Core.Path.{_≡_, _∙_, ap}
+use mathlib.Core.Path.{_≡_, _∙_, refl, ap}
 use mathlib.Core.Bool.{Bool}
 use mathlib.Core.List.{List}
 use Prim.Native.Nat.{ℕ, _+_, _*_, _/_, _%_, _≤_, _<_}
 use native.Mathlib.Omega.{arith}
-use lib.ListN.{getD}
+use lib.ListN.{getD, replicate}
 use borrow.Author.Tests.{ne-eqb}
 use Rattle.laws.proofs.Rows.{getD-made}
 use Rattle.bc6h_spec.specs.declared.Fields.{Fields}
 use Rattle.bc6h_spec.specs.Regions.{regionOf}
 use Rattle.bc6h_spec.specs.Fields.{modeOf, fieldsOf, indexOf}
-use Rattle.bc6h_spec.specs.Picture.{endpoint, palette, value, pictureAs, isSigned, picture}
+use Rattle.bc6h_spec.specs.Picture.{valueCount, endpoint, palette, value, pictureAs, isSigned, picture}
 use Rattle.bc6h_spec.specs.Block.{formatNumber, fieldsIn, pixelsOf}
 use Rattle.bc6h_spec.proofs.Formats.{signed-again, number-again}
 use Rattle.bc6h_spec.proofs.Reading.{fields-format}
+
+-- "Reserved: mode 0, all triples zero"
+pub pixels-none : (signed : Bool) (block : List ℕ) → modeOf block ≡ 0 → pixelsOf signed block ≡ replicate valueCount 0
+unfolding pixelsOf
+pixels-none signed block z = rw z refl
 
 -- an unreserved block shows the picture of its fields, in their own format
 pub block-shows : (signed : Bool) (block : List ℕ) → 1 ≤ modeOf block → pixelsOf signed block ≡ picture (fieldsIn signed block)

@@ -43,6 +43,9 @@ weight-le m i = go (twoRegions m)
     go true = light weights8 8 tt (lit≤ tt) i
     go false = light weights16 16 tt (lit≤ tt) i
 
+pub weight-below : (m i : ℕ) → Below 65 (pos (getD (weights m) i 0))
+weight-below m i = record { nonneg = tt; below = (let h : getD (weights m) i 0 ≤ 64 = weight-le m i in omega arith) }
+
 pub region-lt : (m p k : ℕ) → regionOf m p k < 2
 unfolding regionOf
 region-lt m p k = go (twoRegions m)
@@ -74,7 +77,7 @@ module _ (s : Bool) (f : Fields) (v : Valid f) where
 
   pub mixed-in : (r c i : ℕ) → r < 2 → c < 3 → InBits s 16 (mixed r c i)
   mixed-in r c i hr hc =
-      interpolated-in s _ _ (pos (getD (weights (f .mode)) i 0)) (record { nonneg = tt; below = (let h : getD (weights (f .mode)) i 0 ≤ 64 = weight-le (f .mode) i in omega arith) })
+      interpolated-in s _ _ (pos (getD (weights (f .mode)) i 0)) (weight-below (f .mode) i)
       (unquantized-in s p _ (known f v .most) (endpoint-in (2 * r) c (omega arith) hc))
       (unquantized-in s p _ (known f v .most) (endpoint-in (2 * r + 1) c (omega arith) hc))
 

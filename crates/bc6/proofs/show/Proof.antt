@@ -2,9 +2,7 @@
 use borrow.Author.Needs.{needs}
 use mathlib.Core.Path.{_∙_, sym}
 use mathlib.Core.Bool.{true, false}
-use native.Mathlib.Omega.{arith}
-use Rattle.bc6h_spec.proofs.Modes.{mode-range}
-use Rattle.bc6.proofs.Whole.{shown-black, shown-picture}
+use Rattle.bc6.proofs.Whole.{shown-black, shown-picture, some-mode}
 use Rattle.bc6.proofs.show.Statement.{statement}
 use Rattle.bc6.proofs.show.Tie as tie
 
@@ -19,7 +17,7 @@ show-signed-requires : tie.Need-show-signed-requires
 show-signed-requires c κs =
     let else = c .before .before in
     let s = else .before .before in
-    ((omega (arith, else .if1 .left), rw (s .pre .0) (mode-range _)), s .pre .1)
+    (rw (s .pre .0) at (some-mode _ (else .if1 .left)), s .pre .1)
 
 returns-2 : tie.Need-returns-2
 returns-2 c =
@@ -27,13 +25,13 @@ returns-2 c =
     let then = shown .before .before in
     let else = then .before in
     let s = else .before .before in
-    shown-picture (s .args .signed) true _ _ (then .if2 .taken) (s .pre .0) (else .if1 .left) (shown .show-signed .ensures)
+    shown-picture (s .args .signed) true _ (then .if2 .taken) (rw (s .pre .0) at (some-mode _ (else .if1 .left))) (shown .show-signed .ensures)
 
 show-unsigned-requires : tie.Need-show-unsigned-requires
 show-unsigned-requires c κs =
     let else = c .before .before in
     let s = else .before .before in
-    ((omega (arith, else .if1 .left), rw (s .pre .0) (mode-range _)), s .pre .1)
+    (rw (s .pre .0) at (some-mode _ (else .if1 .left)), s .pre .1)
 
 returns-3 : tie.Need-returns-3
 returns-3 c =
@@ -41,7 +39,7 @@ returns-3 c =
     let then = shown .before .before in
     let else = then .before in
     let s = else .before .before in
-    shown-picture (s .args .signed) false _ _ (then .if2 .left) (s .pre .0) (else .if1 .left) (shown .show-unsigned .ensures)
+    shown-picture (s .args .signed) false _ (then .if2 .left) (rw (s .pre .0) at (some-mode _ (else .if1 .left))) (shown .show-unsigned .ensures)
 
 pub show-spec : {M : Type 1} → statement M
 show-spec =

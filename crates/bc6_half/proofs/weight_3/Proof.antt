@@ -9,4 +9,4 @@ returns : tie.Need-returns
 returns c = (three (c .args .i) (c .pre), omega arith)
 
 pub weight-3-spec : {M : Type 1} → statement M
-weight-3-spec = tie.close (tie.spec (λ c. search needs) (λ c. search needs) returns)
+weight-3-spec = tie.close (tie.spec (λ c. search needs) returns)

@@ -9,4 +9,4 @@ returns : tie.Need-returns
 returns c = (four (c .args .i) (c .pre), omega arith)
 
 pub weight-4-spec : {M : Type 1} → statement M
-weight-4-spec = tie.close (tie.spec (λ c. search needs) (λ c. search needs) (λ c. search needs) returns)
+weight-4-spec = tie.close (tie.spec (λ c. search needs) (λ c. search needs) returns)

@@ -2,7 +2,7 @@
 use borrow.Author.Needs.{needs}
 use mathlib.Core.Path.{_∙_}
 use Rattle.bc6h_spec.specs.Picture.{weights8}
-use Rattle.bc6_paint.proofs.Pixels.{weight-low, weight-upper, bit-above}
+use Rattle.bc6_paint.proofs.Pixels.{weight-low, weight-upper, mask-above}
 use Rattle.bc6_paint.proofs.turn_two.Statement.{statement}
 use Rattle.bc6_paint.proofs.turn_two.Tie as tie
 
@@ -17,8 +17,8 @@ returns c =
     let r = r8 .before in
     let s = r .before in
     record {
-      region = r .in-region-1 .ensures;
-      region8 = r8 .in-region-12 .ensures ∙ bit-above (s .args .map) (s .args .k);
+      region = r .region-mask .ensures;
+      region8 = r8 .region-mask2 .ensures ∙ mask-above (s .args .map) (s .args .k);
       weighs = weight-low weights8 3 (s .args .word) _ (s .args .k) _ _ (i .index-3 .ensures .0) (w .weight-3 .ensures .0) (l .low-24 .ensures) (s .pre);
       weighs8 = weight-upper weights8 3 (s .args .word) _ (s .args .k) _ _ (i8 .index-32 .ensures .0) (c .weight-32 .ensures .0) (h .high-24 .ensures) (s .pre);
       most = w .weight-3 .ensures .1;

@@ -1,19 +1,19 @@
--- `bc6_two_regions::paint_two_signed` meets its contract: pixels k and 8 + k a turn, a channel of both after the other, and two flags each. Assumes nothing.
-use mathlib.Core.Bool.{Bool, true}
-use Prim.Native.Nat.{ℕ, _+_, _-_, _*_, _<_, _≤_}
+-- `bc6_two_regions::paint_two_signed` meets its contract: pixels k and 8 + k a turn, a channel of both after the other. Assumes nothing.
+use mathlib.Core.Bool.{true}
+use Prim.Native.Nat.{ℕ, _-_, _*_, _<_}
 use native.Mathlib.Numerals.{add-one-dec}
 use native.Mathlib.Omega.{arith}
-use lib.Dec.{lit<, lit≤}
-use Rattle.bc6_paint.specs.Values.{twoSecond, twoWeight, twoValue}
-use Rattle.bc6_paint.proofs.Pixels.{Fronts, none-painted, Stores, stores-of, stores-on, first-inside, next-inside, Shades, valueAt, shades-of, turn-painted, Counts, none-counted, few-counted, turn-counted, all-counted}
+use lib.Dec.{lit≤}
+use Rattle.bc6_paint.specs.Values.{channelEnds, ofChannel, twoSecond, twoWeight, twoValue}
+use Rattle.bc6_paint.proofs.Pixels.{Fronts, none-painted, all-painted, Stores, stores-of, stores-on, first-asks, next-asks, Shades, channels-held, valueAt, shades-of, turn-painted}
 use Rattle.bc6_two_regions.proofs.paint_two_signed.Statement.{statement}
 use Rattle.bc6_two_regions.proofs.paint_two_signed.Tie as tie
 
 abbrev Inv-loop : tie.InvT-loop
-Inv-loop map word out₀ ends infinite₀ k₀ out infinite k = Fronts (twoValue true ends map word) (3 * k) out₀ out × Counts (twoValue true ends map word) (3 * k) infinite
+Inv-loop red green blue map word out₀ k₀ out k = Fronts (twoValue true (channelEnds red green blue) map word) (3 * k) out₀ out
 
 abbrev μ-loop : tie.MeasureT-loop
-μ-loop map word out₀ ends infinite₀ k₀ out infinite k = 8 - k
+μ-loop red green blue map word out₀ k₀ out k = 8 - k
 
 -- where a turn stands before its stores
 module _ (c : tie.After-turn-two Inv-loop μ-loop) where
@@ -23,45 +23,42 @@ module _ (c : tie.After-turn-two Inv-loop μ-loop) where
   abbrev start : tie.Start Inv-loop μ-loop
   start = at .before .before
 
+  abbrev words : ℕ → ℕ
+  words = ofChannel (start .args .red) (start .args .green) (start .args .blue)
+
   abbrev k : ℕ
   k = at .loop .k
 
   below : k < 8
   below = c .before .loop-test .taken
 
-  abbrev shade : Bool → ℕ → ℕ → ℕ
-  shade = valueAt true (start .args .t1) (twoSecond (start .args .map)) (twoWeight (start .args .word))
+  abbrev shade : ℕ → ℕ → ℕ → ℕ
+  shade = valueAt true words
 
-  shades : Shades (twoValue true (start .args .t1) (start .args .map) (start .args .word)) k (shade (c .turn-two .result .second) (c .turn-two .result .w)) (shade (c .turn-two .result .second8) (c .turn-two .result .w8))
-  shades = shades-of true (start .args .t1) (twoSecond (start .args .map)) (twoWeight (start .args .word)) (c .turn-two .ensures)
+  shades : Shades (twoValue true (channelEnds (start .args .red) (start .args .green) (start .args .blue)) (start .args .map) (start .args .word)) k (shade (c .turn-two .result .second) (c .turn-two .result .w)) (shade (c .turn-two .result .second8) (c .turn-two .result .w8))
+  shades = shades-of true (twoWeight (start .args .word)) (channels-held (twoSecond (start .args .map)) _ _ _) (c .turn-two .ensures)
 
   first : Stores k (at .loop .out)
-  first = stores-of (at .loop .inv .0) below
+  first = stores-of (at .loop .inv) below
 
 -- .. after one channel, and after two
-second : (c : tie.After-channel-signed Inv-loop μ-loop) → Stores (k (c .before .before)) (c .channel-signed .last .1 .1 .1 .1 .1 .1 .0)
+second : (c : tie.After-channel-signed Inv-loop μ-loop) → Stores (k (c .before .before)) (c .channel-signed .last .1 .1 .1 .0)
 second c = stores-on (first (c .before .before)) _ _ _ _ (c .channel-signed .ensures .holds)
 
 abbrev two : tie.After-channel-signed2 Inv-loop μ-loop → tie.After-channel-signed Inv-loop μ-loop
 two c = c .before .before .before .before
 
-third : (c : tie.After-channel-signed2 Inv-loop μ-loop) → Stores (k (two c .before .before)) (c .channel-signed2 .last .1 .1 .1 .1 .1 .1 .0)
+third : (c : tie.After-channel-signed2 Inv-loop μ-loop) → Stores (k (two c .before .before)) (c .channel-signed2 .last .1 .1 .1 .0)
 third c = stores-on (second (two c)) _ _ _ _ (c .channel-signed2 .ensures .holds)
 
 channel-signed-requires : tie.Need-channel-signed-requires Inv-loop μ-loop
-channel-signed-requires c κs = let r = c .before in (r .turn-two .ensures .most, r .turn-two .ensures .most8, first-inside (first r))
+channel-signed-requires c κs = let r = c .before in first-asks (first r) (r .turn-two .ensures)
 
 channel-signed-requires-2 : tie.Need-channel-signed-requires-2 Inv-loop μ-loop
-channel-signed-requires-2 c κs =
-    let o = c .before .before .before in
-    let r = o .before .before in
-    (r .turn-two .ensures .most, r .turn-two .ensures .most8, next-inside (second o) 1 (lit≤ tt))
+channel-signed-requires-2 c κs = let o = c .before .before .before in next-asks (second o) (o .before .before .turn-two .ensures) 1 (lit≤ tt)
 
 channel-signed-requires-3 : tie.Need-channel-signed-requires-3 Inv-loop μ-loop
-channel-signed-requires-3 c κs =
-    let o = c .before .before .before in
-    let r = two o .before .before in
-    (r .turn-two .ensures .most, r .turn-two .ensures .most8, next-inside (third o) 2 (lit≤ tt))
+channel-signed-requires-3 c κs = let o = c .before .before .before in next-asks (third o) (two o .before .before .turn-two .ensures) 2 (lit≤ tt)
 
 -- the whole turn
 module _ (c : tie.After-slice-known4 Inv-loop μ-loop) where
@@ -77,23 +74,13 @@ module _ (c : tie.After-slice-known4 Inv-loop μ-loop) where
   abbrev ready : tie.After-turn-two Inv-loop μ-loop
   ready = o₁ .before .before
 
-  few : at ready .loop .infinite + o₁ .channel-signed .result + o₂ .channel-signed2 .result + o₃ .channel-signed3 .result ≤ 54
-  few =
-      let n = few-counted (at ready .loop .inv .1) (at ready .loop .inv .0 .upto) in
-      omega (arith, n, o₁ .channel-signed .ensures .few, o₂ .channel-signed2 .ensures .few, o₃ .channel-signed3 .ensures .few)
-
 loop-again : tie.Need-loop-again Inv-loop μ-loop
 loop-again c =
     let r = ready c in
-    let x = o₁ c .channel-signed .ensures in
-    let y = o₂ c .channel-signed2 .ensures in
-    let z = o₃ c .channel-signed3 .ensures in (
-      turn-painted (shades r) (at r .loop .inv .0) (below r) (x .holds) (y .holds) (z .holds),
-      turn-counted (shades r) (at r .loop .inv .1) (x .counts) (y .counts) (z .counts),
-    )
+    turn-painted (shades r) (at r .loop .inv) (below r) (o₁ c .channel-signed .ensures .holds) (o₂ c .channel-signed2 .ensures .holds) (o₃ c .channel-signed3 .ensures .holds)
 
 returns : tie.Need-returns Inv-loop μ-loop
-returns c = let left = c .loop-test .left in let l = c .before .loop .inv in all-counted (l .0) (l .1) (omega arith)
+returns c = let left = c .loop-test .left in all-painted (c .before .loop .inv) (omega arith)
 
 pub paint-two-signed-spec : {M : Type 1} → statement M
 paint-two-signed-spec =
@@ -101,31 +88,16 @@ paint-two-signed-spec =
     (tie.spec
     Inv-loop
     μ-loop
-    (λ c. (none-painted _ _ (c .before .pre), none-counted _))
+    (λ c. none-painted _ _ (c .before .pre))
     (λ c κs. c .loop-test .taken)
     (λ c. let h = below c in record { fits = omega arith })
-    (λ c. lit< tt)
-    (λ c. lit< tt)
-    (λ c. lit< tt)
-    (λ c. lit< tt)
     channel-signed-requires
-    (λ c. lit< tt)
-    (λ c. lit< tt)
-    (λ c. lit< tt)
-    (λ c. lit< tt)
     (λ c. let h = below (c .before .before .before .before) in record { fits = omega arith })
     channel-signed-requires-2
-    (λ c. lit< tt)
-    (λ c. lit< tt)
-    (λ c. lit< tt)
-    (λ c. lit< tt)
     (λ c. let h = below (two (c .before .before) .before .before) in record { fits = omega arith })
     channel-signed-requires-3
-    (λ c. let h = few c in record { fits = omega arith })
-    (λ c. let h = few c in record { fits = omega arith })
-    (λ c. let h = few c in record { fits = omega arith })
     (λ c. let h = below (ready c) in record { fits = omega arith })
     (λ c. add-one-dec 8 _ (below (ready c)))
     loop-again
-    (λ c. c .before .loop .inv .0 .long)
+    (λ c. c .before .loop .inv .long)
     returns)

@@ -1,19 +1,19 @@
 -- `bc6_two_regions::paint_two_unsigned` meets its contract: pixels k and 8 + k a turn, a channel of both after the other. Assumes nothing.
-use mathlib.Core.Bool.{Bool, false}
+use mathlib.Core.Bool.{false}
 use Prim.Native.Nat.{ℕ, _-_, _*_, _<_}
 use native.Mathlib.Numerals.{add-one-dec}
 use native.Mathlib.Omega.{arith}
-use lib.Dec.{lit<, lit≤}
-use Rattle.bc6_paint.specs.Values.{twoSecond, twoWeight, twoValue}
-use Rattle.bc6_paint.proofs.Pixels.{Fronts, none-painted, all-painted, Stores, stores-of, stores-on, first-inside, next-inside, Shades, valueAt, shades-of, turn-painted}
+use lib.Dec.{lit≤}
+use Rattle.bc6_paint.specs.Values.{channelEnds, ofChannel, twoSecond, twoWeight, twoValue}
+use Rattle.bc6_paint.proofs.Pixels.{Fronts, none-painted, all-painted, Stores, stores-of, stores-on, first-asks, next-asks, Shades, channels-held, valueAt, shades-of, turn-painted}
 use Rattle.bc6_two_regions.proofs.paint_two_unsigned.Statement.{statement}
 use Rattle.bc6_two_regions.proofs.paint_two_unsigned.Tie as tie
 
 abbrev Inv-loop : tie.InvT-loop
-Inv-loop map word out₀ ends k₀ out k = Fronts (twoValue false ends map word) (3 * k) out₀ out
+Inv-loop red green blue map word out₀ k₀ out k = Fronts (twoValue false (channelEnds red green blue) map word) (3 * k) out₀ out
 
 abbrev μ-loop : tie.MeasureT-loop
-μ-loop map word out₀ ends k₀ out k = 8 - k
+μ-loop red green blue map word out₀ k₀ out k = 8 - k
 
 -- where a turn stands before its stores
 module _ (c : tie.After-turn-two Inv-loop μ-loop) where
@@ -23,45 +23,42 @@ module _ (c : tie.After-turn-two Inv-loop μ-loop) where
   abbrev start : tie.Start Inv-loop μ-loop
   start = at .before .before
 
+  abbrev words : ℕ → ℕ
+  words = ofChannel (start .args .red) (start .args .green) (start .args .blue)
+
   abbrev k : ℕ
   k = at .loop .k
 
   below : k < 8
   below = c .before .loop-test .taken
 
-  abbrev shade : Bool → ℕ → ℕ → ℕ
-  shade = valueAt false (start .args .t1) (twoSecond (start .args .map)) (twoWeight (start .args .word))
+  abbrev shade : ℕ → ℕ → ℕ → ℕ
+  shade = valueAt false words
 
-  shades : Shades (twoValue false (start .args .t1) (start .args .map) (start .args .word)) k (shade (c .turn-two .result .second) (c .turn-two .result .w)) (shade (c .turn-two .result .second8) (c .turn-two .result .w8))
-  shades = shades-of false (start .args .t1) (twoSecond (start .args .map)) (twoWeight (start .args .word)) (c .turn-two .ensures)
+  shades : Shades (twoValue false (channelEnds (start .args .red) (start .args .green) (start .args .blue)) (start .args .map) (start .args .word)) k (shade (c .turn-two .result .second) (c .turn-two .result .w)) (shade (c .turn-two .result .second8) (c .turn-two .result .w8))
+  shades = shades-of false (twoWeight (start .args .word)) (channels-held (twoSecond (start .args .map)) _ _ _) (c .turn-two .ensures)
 
   first : Stores k (at .loop .out)
   first = stores-of (at .loop .inv) below
 
 -- .. after one channel, and after two
-second : (c : tie.After-channel-unsigned Inv-loop μ-loop) → Stores (k (c .before .before)) (c .channel-unsigned .last .1 .1 .1 .1 .1 .1 .0)
+second : (c : tie.After-channel-unsigned Inv-loop μ-loop) → Stores (k (c .before .before)) (c .channel-unsigned .last .1 .1 .1 .0)
 second c = stores-on (first (c .before .before)) _ _ _ _ (c .channel-unsigned .ensures)
 
 abbrev two : tie.After-channel-unsigned2 Inv-loop μ-loop → tie.After-channel-unsigned Inv-loop μ-loop
 two c = c .before .before .before .before
 
-third : (c : tie.After-channel-unsigned2 Inv-loop μ-loop) → Stores (k (two c .before .before)) (c .channel-unsigned2 .last .1 .1 .1 .1 .1 .1 .0)
+third : (c : tie.After-channel-unsigned2 Inv-loop μ-loop) → Stores (k (two c .before .before)) (c .channel-unsigned2 .last .1 .1 .1 .0)
 third c = stores-on (second (two c)) _ _ _ _ (c .channel-unsigned2 .ensures)
 
 channel-unsigned-requires : tie.Need-channel-unsigned-requires Inv-loop μ-loop
-channel-unsigned-requires c κs = let r = c .before in (r .turn-two .ensures .most, r .turn-two .ensures .most8, first-inside (first r))
+channel-unsigned-requires c κs = let r = c .before in first-asks (first r) (r .turn-two .ensures)
 
 channel-unsigned-requires-2 : tie.Need-channel-unsigned-requires-2 Inv-loop μ-loop
-channel-unsigned-requires-2 c κs =
-    let o = c .before .before .before in
-    let r = o .before .before in
-    (r .turn-two .ensures .most, r .turn-two .ensures .most8, next-inside (second o) 1 (lit≤ tt))
+channel-unsigned-requires-2 c κs = let o = c .before .before .before in next-asks (second o) (o .before .before .turn-two .ensures) 1 (lit≤ tt)
 
 channel-unsigned-requires-3 : tie.Need-channel-unsigned-requires-3 Inv-loop μ-loop
-channel-unsigned-requires-3 c κs =
-    let o = c .before .before .before in
-    let r = two o .before .before in
-    (r .turn-two .ensures .most, r .turn-two .ensures .most8, next-inside (third o) 2 (lit≤ tt))
+channel-unsigned-requires-3 c κs = let o = c .before .before .before in next-asks (third o) (two o .before .before .turn-two .ensures) 2 (lit≤ tt)
 
 -- the whole turn
 module _ (c : tie.After-slice-known4 Inv-loop μ-loop) where
@@ -94,21 +91,9 @@ paint-two-unsigned-spec =
     (λ c. none-painted _ _ (c .before .pre))
     (λ c κs. c .loop-test .taken)
     (λ c. let h = below c in record { fits = omega arith })
-    (λ c. lit< tt)
-    (λ c. lit< tt)
-    (λ c. lit< tt)
-    (λ c. lit< tt)
     channel-unsigned-requires
-    (λ c. lit< tt)
-    (λ c. lit< tt)
-    (λ c. lit< tt)
-    (λ c. lit< tt)
     (λ c. let h = below (c .before .before .before .before) in record { fits = omega arith })
     channel-unsigned-requires-2
-    (λ c. lit< tt)
-    (λ c. lit< tt)
-    (λ c. lit< tt)
-    (λ c. lit< tt)
     (λ c. let h = below (two (c .before .before) .before .before) in record { fits = omega arith })
     channel-unsigned-requires-3
     (λ c. let h = below (ready c) in record { fits = omega arith })

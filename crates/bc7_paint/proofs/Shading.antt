@@ -2,11 +2,12 @@
 use mathlib.Core.Path.{_≡_, _∙_, refl, sym, ap, ap₂, subst}
 use mathlib.Core.Bool.{Bool, true, false}
 use mathlib.Core.List.{List, _++_}
-use Prim.Native.Nat.{ℕ, zero, suc, _+_, _-_, _*_, _/_, _%_, _<_, _≤_}
-use native.Mathlib.Nat.{mul-le-mul, add-zero}
+use Prim.Native.Nat.{ℕ, zero, suc, _+_, _-_, _*_, _/_, _%_, _^_, _<_, _≤_}
+use native.Mathlib.Nat.{mul-le-mul, add-zero, zero-div}
 use native.Mathlib.Omega.{arith}
 use lib.Dec.{eqb}
 use lib.ListN.{length, getD, set, drop}
+use lib.Pow.{shr-shr}
 use Rattle.laws.specs.Pick.{pick}
 use Rattle.laws.specs.Bit.{bit}
 use Rattle.laws.specs.Made.{made}
@@ -76,6 +77,20 @@ module _ (f : ℕ → ℕ) where
   alpha-turned (suc (suc (suc zero))) h = refl
   alpha-turned (suc (suc (suc (suc n)))) h = absurd (too-far n h)
 
+-- ---- the maps
+
+-- no pixel lies in the region of the map 0
+pub unmarked : (k : ℕ) → false ≡ eqb (bit 0 k) 1
+unmarked k = sym (ap (λ (x : ℕ). eqb (x % 2) 1) (zero-div (2 ^ k)))
+
+-- a map without its first k pixels: the map without j more, and whether pixel k + j lies in its region
+module _ (map left k : ℕ) (e : left ≡ map / 2 ^ k) (j i : ℕ) (s : k + j ≡ i) where
+  pub left-on : left / 2 ^ j ≡ map / 2 ^ i
+  left-on = ap (λ (x : ℕ). x / 2 ^ j) e ∙ shr-shr map k j ∙ ap (λ (x : ℕ). map / 2 ^ x) s
+
+  pub marked-left : (b : Bool) → b ≡ eqb (bit left j) 1 → b ≡ eqb (bit map i) 1
+  marked-left b h = h ∙ ap (λ (x : ℕ). eqb (x % 2) 1) left-on
+
 -- ---- a turn of the loop
 
 -- out has the first n bytes of f, and from there on it is l
@@ -100,3 +115,17 @@ module _ (ends : List ℕ) (ones twos rotation : ℕ) (colours alphas : List ℕ
       → w ≡ pick (eqb c 3) (getD alphas k 0) (getD colours k 0) → s ≡ at c
   unfolding channelAt
   shaded c w s one two e eo et ew = e ∙ ap₂ (λ (r v : ℕ). shadeAt ends c r v) (ap₂ regionBy eo et) ew
+
+-- .. and where there is one index set and no rotation
+one-weight : (alpha : Bool) (w : ℕ) → w ≡ pick alpha w w
+one-weight true w = refl
+one-weight false w = refl
+
+module _ (ends : List ℕ) (ones twos : ℕ) (weights : List ℕ) (k : ℕ) where
+  pub shown : (c i s : ℕ) (one two : Bool) → s ≡ shadeAt ends c (regionBy one two) (getD weights k 0) → one ≡ eqb (bit ones k) 1 → two ≡ eqb (bit twos k) 1
+      → c < 4 → 4 * k + c ≡ i → s ≡ byteAt ends ones twos 0 weights weights i
+  unfolding turned
+  shown c i s one two e eo et h n =
+      shaded ends ones twos 0 weights weights k c _ s one two e eo et (one-weight (eqb c 3) (getD weights k 0))
+      ∙ byte-of ends ones twos 0 weights weights k c h
+      ∙ ap (byteAt ends ones twos 0 weights weights) n

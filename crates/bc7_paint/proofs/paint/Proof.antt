@@ -1,84 +1,87 @@
--- `bc7_paint::paint` meets its contract: four stores a turn, of pixel k. Assumes nothing.
+-- `bc7_paint::paint` meets its contract: eight stores a turn, of pixels 2 p and 2 p + 1. Assumes nothing.
 use borrow.Author.Needs.{needs}
-use mathlib.Core.Path.{_≡_, _∙_, refl, sym, ap, ap₂}
-use Prim.Native.Nat.{ℕ, _+_, _-_, _*_, _<_, _≤_}
+use mathlib.Core.Path.{_≡_, _∙_, refl, sym, ap}
+use mathlib.Core.Bool.{Bool}
+use Prim.Native.Nat.{ℕ, _+_, _-_, _*_, _/_, _^_, _<_, _≤_}
+use native.Mathlib.Nat.{add-zero}
 use native.Mathlib.Omega.{arith}
 use lib.Dec.{eqb, lit<}
-use lib.ListN.{length, length-set}
-use Rattle.laws.specs.Pick.{pick}
+use lib.ListN.{length, getD, length-set}
+use Rattle.laws.specs.Bit.{bit}
 use Rattle.laws.proofs.Rows.{made-none, made-four, made-upto}
-use Rattle.bc7_spec.specs.Bytes.{turned}
-use Rattle.bc7_paint.specs.Shades.{byteAt, channelAt, turnedTo, Paintable}
-use Rattle.bc7_paint.proofs.Shading.{Made, byte-of, shaded, red-turned, green-turned, blue-turned, alpha-turned}
+use Rattle.bc7_paint.specs.Shades.{regionBy, shadeAt, byteAt, Paintable}
+use Rattle.bc7_paint.proofs.Shading.{Made, marked-left, left-on, shown}
 use Rattle.bc7_paint.proofs.paint.Statement.{statement}
 use Rattle.bc7_paint.proofs.paint.Tie as tie
 
 abbrev Inv-loop : tie.InvT-loop
-Inv-loop ends ones twos rotation out₀ colours alphas k₀ out k =
-    (k ≤ 16) × Made (byteAt ends ones twos rotation colours alphas) (4 * k) out₀ out × (length out ≡ length out₀)
+Inv-loop ends ones twos out₀ weights ones-left₀ twos-left₀ p₀ out ones-left twos-left p =
+    (p ≤ 8) × (ones-left ≡ ones / 2 ^ (2 * p)) × (twos-left ≡ twos / 2 ^ (2 * p)) × Made (byteAt ends ones twos 0 weights weights) (4 * (2 * p)) out₀ out × (length out ≡ length out₀)
 
 abbrev μ-loop : tie.MeasureT-loop
-μ-loop ends ones twos rotation out₀ colours alphas k₀ out k = 16 - k
+μ-loop ends ones twos out₀ weights ones-left₀ twos-left₀ p₀ out ones-left twos-left p = 8 - p
 
--- the four channels are worked out
-module _ (c : tie.After-shade4 Inv-loop μ-loop) where
+-- the regions of the two pixels are known
+module _ (c : tie.After-in-region4 Inv-loop μ-loop) where
   abbrev inside : tie.In-loop Inv-loop μ-loop
-  inside = c .before .before .before .before .before .before
+  inside = c .before .before .before .before
 
   abbrev begun : tie.Start Inv-loop μ-loop
   begun = inside .before .before .before
 
-  abbrev k : ℕ
-  k = inside .before .loop .k
+  abbrev p : ℕ
+  p = inside .before .loop .p
 
   abbrev f : ℕ → ℕ
-  f = channelAt (begun .args .ends) (begun .args .ones) (begun .args .twos) (begun .args .t5) (begun .args .t6) k
+  f = byteAt (begun .args .ends) (begun .args .ones) (begun .args .twos) 0 (begun .args .t4) (begun .args .t4)
 
-  red : c .before .before .before .shade .result ≡ f 0
-  red = shaded _ _ _ (begun .args .rotation) _ _ k 0 _ _ _ _ (c .before .before .before .shade .ensures) (c .before .before .before .before .before .in-region .ensures) (c .before .before .before .before .in-region2 .ensures) refl
+  fits : 4 * (2 * p + 1) + 3 < length (inside .before .loop .out)
+  fits = omega (arith, begun .pre .room, inside .before .loop .inv .4)
 
-  green : c .before .before .shade2 .result ≡ f 1
-  green = shaded _ _ _ (begun .args .rotation) _ _ k 1 _ _ _ _ (c .before .before .shade2 .ensures) (c .before .before .before .before .before .in-region .ensures) (c .before .before .before .before .in-region2 .ensures) refl
+  -- byte j of a pixel, from what `shade` answers
+  of-k : (j i s : ℕ) → s ≡ shadeAt (begun .args .ends) j (regionBy (c .before .before .before .in-region .result) (c .before .before .in-region2 .result)) (getD (begun .args .t4) (2 * p) 0)
+      → j < 4 → 4 * (2 * p) + j ≡ i → s ≡ f i
+  of-k j i s e =
+      let n = add-zero (2 * p) in
+      shown _ _ _ _ (2 * p) j i s _ _ e
+      (marked-left _ _ (2 * p) (inside .before .loop .inv .1) 0 (2 * p) n _ (c .before .before .before .in-region .ensures))
+      (marked-left _ _ (2 * p) (inside .before .loop .inv .2) 0 (2 * p) n _ (c .before .before .in-region2 .ensures))
 
-  blue : c .before .shade3 .result ≡ f 2
-  blue = shaded _ _ _ (begun .args .rotation) _ _ k 2 _ _ _ _ (c .before .shade3 .ensures) (c .before .before .before .before .before .in-region .ensures) (c .before .before .before .before .in-region2 .ensures) refl
-
-  alpha : c .shade4 .result ≡ f 3
-  alpha = shaded _ _ _ (begun .args .rotation) _ _ k 3 _ _ _ _ (c .shade4 .ensures) (c .before .before .before .before .before .in-region .ensures) (c .before .before .before .before .in-region2 .ensures) refl
-
--- byte 4 k + d, from what rotation makes of the four channels
-module _ (c : tie.After-shade4 Inv-loop μ-loop) where
-  of-byte : (d x : ℕ) → d < 4 → x ≡ f c (turned (begun c .args .rotation) d) → x ≡ byteAt (begun c .args .ends) (begun c .args .ones) (begun c .args .twos) (begun c .args .rotation) (begun c .args .t5) (begun c .args .t6) (4 * k c + d)
-  of-byte d x h e = e ∙ byte-of (begun c .args .ends) (begun c .args .ones) (begun c .args .twos) (begun c .args .rotation) (begun c .args .t5) (begun c .args .t6) (k c) d h
+  of-l : (j i s : ℕ) → s ≡ shadeAt (begun .args .ends) j (regionBy (c .before .in-region3 .result) (c .in-region4 .result)) (getD (begun .args .t4) (2 * p + 1) 0)
+      → j < 4 → 4 * (2 * p + 1) + j ≡ i → s ≡ f i
+  of-l j i s e =
+      shown _ _ _ _ (2 * p + 1) j i s _ _ e
+      (marked-left _ _ (2 * p) (inside .before .loop .inv .1) 1 (2 * p + 1) refl _ (c .before .in-region3 .ensures))
+      (marked-left _ _ (2 * p) (inside .before .loop .inv .2) 1 (2 * p + 1) refl _ (c .in-region4 .ensures))
 
 loop-again : tie.Need-loop-again Inv-loop μ-loop
 loop-again c =
-    let s = c .before .before .before .before in
-    let n = k s in
-    let rot = begun s .args .rotation in
-    let t = begun s .pre .turns in
+    let s = c .before .before .before .before .before .before .before .before in
+    let n = p s in
     let l = inside s .before .loop in
-    let none : 4 * n + 0 ≡ 4 * n = omega arith in
-    let g = byteAt (begun s .args .ends) (begun s .args .ones) (begun s .args .twos) rot (begun s .args .t5) (begun s .args .t6) in
-    let x =
-    of-byte s 0 _ (lit< tt)
-    (c .before .before .before .select-byte .ensures ∙ ap₂ (λ (p q : ℕ). pick (eqb rot 1) p q) (alpha s) (red s) ∙ red-turned (f s) rot t)
-    ∙ ap g none in
-    let y =
-    of-byte s 1 _ (lit< tt)
-    (c .before .before .select-byte2 .ensures ∙ ap₂ (λ (p q : ℕ). pick (eqb rot 2) p q) (alpha s) (green s) ∙ green-turned (f s) rot t) in
-    let z =
-    of-byte s 2 _ (lit< tt)
-    (c .before .select-byte3 .ensures ∙ ap₂ (λ (p q : ℕ). pick (eqb rot 3) p q) (alpha s) (blue s) ∙ blue-turned (f s) rot t) in
-    let e1 = ap₂ (λ (p q : ℕ). turnedTo rot p q (c .before .before .before .before .before .shade3 .result) (s .shade4 .result)) (red s) (green s) in
-    let e2 = ap₂ (λ (p q : ℕ). turnedTo rot (f s 0) (f s 1) p q) (blue s) (alpha s) in
-    let u = of-byte s 3 _ (lit< tt) (c .fourth .ensures ∙ e1 ∙ e2 ∙ alpha-turned (f s) rot t) in
-    (search needs, made-four g _ (l .out) n _ _ _ _ (l .inv .1) x y z u (omega (arith, begun s .pre .room)), simp length-set (l .inv .2))
+    let room = begun s .pre .room in
+    let on : 2 * n + 2 ≡ 2 * (n + 1) = omega arith in
+    let end : 4 * (2 * n + 1 + 1) ≡ 4 * (2 * (n + 1)) = omega arith in
+    let first =
+    made-four (f s) _ (l .out) (2 * n) _ _ _ _ (l .inv .3)
+    (of-k s 0 _ _ (c .before .before .before .before .before .before .before .shade .ensures) (lit< tt) (add-zero _))
+    (of-k s 1 _ _ (c .before .before .before .before .before .before .shade2 .ensures) (lit< tt) refl)
+    (of-k s 2 _ _ (c .before .before .before .before .before .shade3 .ensures) (lit< tt) refl)
+    (of-k s 3 _ _ (c .before .before .before .before .shade4 .ensures) (lit< tt) refl)
+    (omega (arith, room)) in
+    let second =
+    made-four (f s) _ _ (2 * n + 1) _ _ _ _ first
+    (of-l s 0 _ _ (c .before .before .before .shade5 .ensures) (lit< tt) (add-zero _))
+    (of-l s 1 _ _ (c .before .before .shade6 .ensures) (lit< tt) refl)
+    (of-l s 2 _ _ (c .before .shade7 .ensures) (lit< tt) refl)
+    (of-l s 3 _ _ (c .shade8 .ensures) (lit< tt) refl)
+    (omega (arith, room)) in
+    (search needs, left-on _ _ (2 * n) (l .inv .1) 2 _ on, left-on _ _ (2 * n) (l .inv .2) 2 _ on, rw end at second, simp length-set (l .inv .4))
 
 returns : tie.Need-returns Inv-loop μ-loop
 returns c =
     let l = c .before .loop in
-    made-upto _ _ _ 64 (4 * l .k) (l .inv .1) (omega (arith, l .inv .0)) (omega (arith, c .loop-test .left))
+    made-upto _ _ _ 64 (4 * (2 * l .p)) (l .inv .3) (omega (arith, l .inv .0)) (omega (arith, c .loop-test .left))
 
 pub paint-spec : {M : Type 1} → statement M
 paint-spec =
@@ -86,33 +89,41 @@ paint-spec =
     (tie.spec
     Inv-loop
     μ-loop
-    (λ c. (search needs, made-none _ _, refl))
+    (λ c. (search needs, search needs, search needs, made-none _ _, refl))
+    (λ c. search needs)
+    (λ c. search needs)
+    (λ c κs. search needs)
+    (λ c κs. search needs)
     (λ c κs. search needs)
     (λ c κs. search needs)
     (λ c. search needs)
     (λ c. search needs)
-    (λ c κs. (lit< tt, c .before .before .before .before .before .pre .colour-weights .small _, c .before .before .before .before .before .pre .bytes))
     (λ c. search needs)
-    (λ c. search needs)
-    (λ c κs. (lit< tt, c .before .before .before .before .before .before .pre .colour-weights .small _, c .before .before .before .before .before .before .pre .bytes))
     (λ c. search needs)
     (λ c. search needs)
     (λ c κs. (lit< tt, c .before .before .before .before .before .before .before .pre .colour-weights .small _, c .before .before .before .before .before .before .before .pre .bytes))
     (λ c. search needs)
-    (λ c. search needs)
-    (λ c κs. (lit< tt, c .before .before .before .before .before .before .before .before .pre .alpha-weights .small _, c .before .before .before .before .before .before .before .before .pre .bytes))
-    (λ c. search needs)
-    (λ c κs. search needs)
-    (λ c. search needs)
-    (λ c κs. search needs)
+    (λ c κs. (lit< tt, c .before .before .before .before .before .before .before .before .pre .colour-weights .small _, c .before .before .before .before .before .before .before .before .pre .bytes))
     (λ c. search needs)
     (λ c. simp length-set (omega arith))
-    (λ c κs. search needs)
+    (λ c κs. (lit< tt, c .before .before .before .before .before .before .before .before .before .pre .colour-weights .small _, c .before .before .before .before .before .before .before .before .before .pre .bytes))
     (λ c. search needs)
     (λ c. simp length-set (omega arith))
-    (λ c κs. search needs)
+    (λ c κs. (lit< tt, c .before .before .before .before .before .before .before .before .before .before .pre .colour-weights .small _, c .before .before .before .before .before .before .before .before .before .before .pre .bytes))
     (λ c. search needs)
     (λ c. simp length-set (omega arith))
+    (λ c. search needs)
+    (λ c κs. (lit< tt, c .before .before .before .before .before .before .before .before .before .before .before .pre .colour-weights .small _, c .before .before .before .before .before .before .before .before .before .before .before .pre .bytes))
+    (λ c. simp length-set (omega arith))
+    (λ c κs. (lit< tt, c .before .before .before .before .before .before .before .before .before .before .before .before .pre .colour-weights .small _, c .before .before .before .before .before .before .before .before .before .before .before .before .pre .bytes))
+    (λ c. search needs)
+    (λ c. simp length-set (omega arith))
+    (λ c κs. (lit< tt, c .before .before .before .before .before .before .before .before .before .before .before .before .before .pre .colour-weights .small _, c .before .before .before .before .before .before .before .before .before .before .before .before .before .pre .bytes))
+    (λ c. search needs)
+    (λ c. simp length-set (omega arith))
+    (λ c κs. (lit< tt, c .before .before .before .before .before .before .before .before .before .before .before .before .before .before .pre .colour-weights .small _, c .before .before .before .before .before .before .before .before .before .before .before .before .before .before .pre .bytes))
+    (λ c. search needs)
+    (λ c. simp length-set (omega (arith, fits (c .before .before .before .before .before .before .before .before))))
     (λ c. search needs)
     (λ c. search needs)
     loop-again

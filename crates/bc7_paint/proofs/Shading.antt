@@ -12,7 +12,7 @@ use Rattle.laws.specs.Pick.{pick}
 use Rattle.laws.specs.Bit.{bit}
 use Rattle.laws.specs.Made.{made}
 use Rattle.bc7_spec.specs.Bytes.{turned}
-use Rattle.bc7_paint.specs.Shades.{regionBy, regionAt, shadeAt, channelAt, byteAt, turnedTo}
+use Rattle.bc7_paint.specs.Shades.{regionBy, regionAt, shadeAt, channelAt, byteAt, turnedTo, soloAt}
 
 -- ---- between two bytes
 
@@ -110,13 +110,7 @@ module _ (ends : List ℕ) (ones twos rotation : ℕ) (colours alphas : List ℕ
       let m : (4 * k + c) % 4 ≡ c = omega arith in
       sym (ap₂ (λ (p q : ℕ). channelAt ends ones twos colours alphas p (turned rotation q)) d m)
 
-  -- what `shade` answers, with the tests of the two maps
-  pub shaded : (c w s : ℕ) (one two : Bool) → s ≡ shadeAt ends c (regionBy one two) w → one ≡ eqb (bit ones k) 1 → two ≡ eqb (bit twos k) 1
-      → w ≡ pick (eqb c 3) (getD alphas k 0) (getD colours k 0) → s ≡ at c
-  unfolding channelAt
-  shaded c w s one two e eo et ew = e ∙ ap₂ (λ (r v : ℕ). shadeAt ends c r v) (ap₂ regionBy eo et) ew
-
--- .. and where there is one index set and no rotation
+-- a tile of one index set, from what `shade` answers and the tests of the two maps
 one-weight : (alpha : Bool) (w : ℕ) → w ≡ pick alpha w w
 one-weight true w = refl
 one-weight false w = refl
@@ -124,8 +118,16 @@ one-weight false w = refl
 module _ (ends : List ℕ) (ones twos : ℕ) (weights : List ℕ) (k : ℕ) where
   pub shown : (c i s : ℕ) (one two : Bool) → s ≡ shadeAt ends c (regionBy one two) (getD weights k 0) → one ≡ eqb (bit ones k) 1 → two ≡ eqb (bit twos k) 1
       → c < 4 → 4 * k + c ≡ i → s ≡ byteAt ends ones twos 0 weights weights i
-  unfolding turned
+  unfolding turned channelAt
   shown c i s one two e eo et h n =
-      shaded ends ones twos 0 weights weights k c _ s one two e eo et (one-weight (eqb c 3) (getD weights k 0))
+      e ∙ ap₂ (λ (r w : ℕ). shadeAt ends c r w) (ap₂ regionBy eo et) (one-weight (eqb c 3) (getD weights k 0))
       ∙ byte-of ends ones twos 0 weights weights k c h
       ∙ ap (byteAt ends ones twos 0 weights weights) n
+
+-- a tile of one region
+pub solo-byte : (ends : List ℕ) (rotation : ℕ) (colours alphas : List ℕ) (k c : ℕ) → c < 4
+    → soloAt ends rotation (getD colours k 0) (getD alphas k 0) c ≡ byteAt ends 0 0 rotation colours alphas (4 * k + c)
+unfolding soloAt channelAt
+solo-byte ends rotation colours alphas k c h =
+    ap₂ (λ (one two : Bool). shadeAt ends (turned rotation c) (regionBy one two) (pick (eqb (turned rotation c) 3) (getD alphas k 0) (getD colours k 0))) (unmarked k) (unmarked k)
+    ∙ byte-of ends 0 0 rotation colours alphas k c h

@@ -1,4 +1,4 @@
--- `bc7_paint::paint` meets its contract: eight stores a turn, of pixels 2 p and 2 p + 1. Assumes nothing.
+-- `bc7_paint::paint_regions` meets its contract: eight stores a turn, of pixels 2 p and 2 p + 1. Assumes nothing.
 use borrow.Author.Needs.{needs}
 use mathlib.Core.Path.{_≡_, _∙_, refl, sym, ap}
 use mathlib.Core.Bool.{Bool}
@@ -11,8 +11,8 @@ use Rattle.laws.specs.Bit.{bit}
 use Rattle.laws.proofs.Rows.{made-none, made-four, made-upto}
 use Rattle.bc7_paint.specs.Shades.{regionBy, shadeAt, byteAt, Paintable}
 use Rattle.bc7_paint.proofs.Shading.{Made, marked-left, left-on, shown}
-use Rattle.bc7_paint.proofs.paint.Statement.{statement}
-use Rattle.bc7_paint.proofs.paint.Tie as tie
+use Rattle.bc7_paint.proofs.paint_regions.Statement.{statement}
+use Rattle.bc7_paint.proofs.paint_regions.Tie as tie
 
 abbrev Inv-loop : tie.InvT-loop
 Inv-loop ends ones twos out₀ weights ones-left₀ twos-left₀ p₀ out ones-left twos-left p =
@@ -83,8 +83,8 @@ returns c =
     let l = c .before .loop in
     made-upto _ _ _ 64 (4 * (2 * l .p)) (l .inv .3) (omega (arith, l .inv .0)) (omega (arith, c .loop-test .left))
 
-pub paint-spec : {M : Type 1} → statement M
-paint-spec =
+pub paint-regions-spec : {M : Type 1} → statement M
+paint-regions-spec =
     tie.close
     (tie.spec
     Inv-loop

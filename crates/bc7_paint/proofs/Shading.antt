@@ -1,18 +1,18 @@
 -- A tile's bytes, one law for each step of `paint`. Assumes nothing.
-use mathlib.Core.Path.{_≡_, _∙_, refl, sym, ap, ap₂, subst}
+use mathlib.Core.Path.{_≡_, _∙_, refl, sym, ap, ap₂}
 use mathlib.Core.Bool.{Bool, true, false}
 use mathlib.Core.List.{List, _++_}
 use Prim.Native.Nat.{ℕ, zero, suc, _+_, _-_, _*_, _/_, _%_, _^_, _<_, _≤_}
 use native.Mathlib.Nat.{mul-le-mul, add-zero, zero-div}
 use native.Mathlib.Omega.{arith}
 use lib.Dec.{eqb}
-use lib.ListN.{length, getD, set, drop}
+use lib.ListN.{getD, drop}
 use lib.Pow.{shr-shr}
 use Rattle.laws.specs.Pick.{pick}
 use Rattle.laws.specs.Bit.{bit}
 use Rattle.laws.specs.Made.{made}
 use Rattle.bc7_spec.specs.Bytes.{turned}
-use Rattle.bc7_paint.specs.Shades.{regionBy, regionAt, shadeAt, channelAt, byteAt, turnedTo, soloAt}
+use Rattle.bc7_paint.specs.Shades.{regionBy, shadeAt, channelAt, byteAt, turnedTo, soloAt}
 
 -- ---- between two bytes
 

@@ -5,7 +5,7 @@ use mathlib.Core.List.{List}
 use Prim.Native.Nat.{ℕ, _+_, _-_, _*_, _<_, _≤_}
 use native.Mathlib.Omega.{arith}
 use lib.ListN.{length, getD}
-use Rattle.bc7_paint.specs.Shades.{byteAt, soloAt, Paintable}
+use Rattle.bc7_paint.specs.Shades.{byteAt, soloAt}
 use Rattle.bc7_paint.proofs.Shading.{solo-byte}
 use Rattle.bc7_paint.proofs.Halves.{Halves, room-after, none-painted, turn-painted, all-painted}
 use Rattle.bc7_paint.proofs.paint_one.Statement.{statement}

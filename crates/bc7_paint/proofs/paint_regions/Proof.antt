@@ -1,15 +1,13 @@
 -- `bc7_paint::paint_regions` meets its contract: eight stores a turn, of pixels 2 p and 2 p + 1. Assumes nothing.
 use borrow.Author.Needs.{needs}
-use mathlib.Core.Path.{_≡_, _∙_, refl, sym, ap}
-use mathlib.Core.Bool.{Bool}
+use mathlib.Core.Path.{_≡_, refl}
 use Prim.Native.Nat.{ℕ, _+_, _-_, _*_, _/_, _^_, _<_, _≤_}
 use native.Mathlib.Nat.{add-zero}
 use native.Mathlib.Omega.{arith}
-use lib.Dec.{eqb, lit<}
+use lib.Dec.{lit<}
 use lib.ListN.{length, getD, length-set}
-use Rattle.laws.specs.Bit.{bit}
 use Rattle.laws.proofs.Rows.{made-none, made-four, made-upto}
-use Rattle.bc7_paint.specs.Shades.{regionBy, shadeAt, byteAt, Paintable}
+use Rattle.bc7_paint.specs.Shades.{regionBy, shadeAt, byteAt}
 use Rattle.bc7_paint.proofs.Shading.{Made, marked-left, left-on, shown}
 use Rattle.bc7_paint.proofs.paint_regions.Statement.{statement}
 use Rattle.bc7_paint.proofs.paint_regions.Tie as tie

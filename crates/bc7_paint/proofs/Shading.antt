@@ -1,4 +1,4 @@
--- A tile's bytes, one law for each step of `paint`. Assumes nothing.
+-- A tile's bytes, one law for each step of the painters. Assumes nothing.
 use mathlib.Core.Path.{_≡_, _∙_, refl, sym, ap, ap₂}
 use mathlib.Core.Bool.{Bool, true, false}
 use mathlib.Core.List.{List, _++_}

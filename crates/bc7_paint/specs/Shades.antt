@@ -34,7 +34,7 @@ channelAt ends ones twos colours alphas k c = shadeAt ends c (regionAt ones twos
 unfoldable pub byteAt : List ℕ → ℕ → ℕ → ℕ → List ℕ → List ℕ → ℕ → ℕ
 byteAt ends ones twos rotation colours alphas j = channelAt ends ones twos colours alphas (j / 4) (turned rotation (j % 4))
 
--- what `paint` is given
+-- what a painter is given
 pub record Paintable (ends colours alphas : List ℕ) (rotation : ℕ) (out : List ℕ) : Type 0 where
   pub bytes : AllBelow 256 ends
   pub colour-weights : AllBelow 65 colours

@@ -333,7 +333,7 @@ bool knot_is_trusted(const uint8_t *block, size_t block_length, uint8_t format);
  * Answers the number in the low byte and the mode in the next: 0 to 7, or KNOT_BC7_RESERVED for a reserved block, which is done and shows 64
  * zeros, alpha too. Refusals: 2, 3 (fewer than 64 bytes of room), in this order, with mode 0.
  *
- * Stack: 600 bytes.
+ * Stack: 300 bytes.
  */
 uint32_t knot_bc7_pixels(const uint8_t *block, size_t block_length, uint8_t *out, size_t out_length);
 
@@ -345,7 +345,7 @@ enum { KNOT_BC7_BYTES = 64, KNOT_BC7_RESERVED = 8 };
  * Answers the number; *done becomes the number of blocks, which may be 0. Refusals: 9, 3 (fewer than 64 bytes of room a block), in this order;
  * nothing is written, not even the first block's bytes, and *done becomes 0.
  *
- * Stack: 650 bytes.
+ * Stack: 400 bytes.
  */
 uint64_t knot_bc7_blocks_pixels(const uint8_t *blocks, size_t blocks_length, uint8_t *out, size_t out_length, size_t *done);
 

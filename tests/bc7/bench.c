@@ -1,6 +1,6 @@
 /* What a BC7 block costs, beside the plain decoder: processor time of the process, the two in turns, the best of 25, in nanoseconds a block.
  * First 4,096 blocks in cache, all modes at random and each by itself; then 1,048,576 blocks in runs of 64 to all of them
- * in one call.
+ * in one call. With a word, the blocks of standard input alone.
  */
 #define _POSIX_C_SOURCE 199309L
 #include "knotpasture.h"
@@ -74,13 +74,19 @@ static void fill(size_t count, int mode)
     }
 }
 
-int main(void)
+int main(int argc, char **argv)
 {
     blocks = malloc(16 * (size_t)MOST);
     out = malloc(64 * (size_t)MOST);
     if (!blocks || !out) return 2;
-    fill(MOST, 9);
     for (size_t k = 0; k < 64 * (size_t)MOST; k++) out[k] = 0;
+    if (argc > 1) {
+        size_t count = fread(blocks, 16, MOST, stdin);
+        if (count == 0) return 2;
+        beside(argv[1], count);
+        return sink == 1;
+    }
+    fill(MOST, 9);
     beside("every mode", CACHED);
     for (size_t count = 64; count <= MOST; count *= 4) run(count);
     for (int mode = 0; mode < 9; mode++) {

@@ -1,1 +1,2 @@
 pub mod Shading
+pub mod Halves

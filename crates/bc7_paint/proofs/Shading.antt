@@ -1,17 +1,18 @@
--- A tile's bytes, one law for each step of `paint`. Assumes nothing.
-use mathlib.Core.Path.{_≡_, _∙_, refl, sym, ap, ap₂, subst}
+-- A tile's bytes, one law for each step of the painters. Assumes nothing.
+use mathlib.Core.Path.{_≡_, _∙_, refl, sym, ap, ap₂}
 use mathlib.Core.Bool.{Bool, true, false}
 use mathlib.Core.List.{List, _++_}
-use Prim.Native.Nat.{ℕ, zero, suc, _+_, _-_, _*_, _/_, _%_, _<_, _≤_}
-use native.Mathlib.Nat.{mul-le-mul, add-zero}
+use Prim.Native.Nat.{ℕ, zero, suc, _+_, _-_, _*_, _/_, _%_, _^_, _<_, _≤_}
+use native.Mathlib.Nat.{mul-le-mul, add-zero, zero-div}
 use native.Mathlib.Omega.{arith}
 use lib.Dec.{eqb}
-use lib.ListN.{length, getD, set, drop}
+use lib.ListN.{getD, drop}
+use lib.Pow.{shr-shr}
 use Rattle.laws.specs.Pick.{pick}
 use Rattle.laws.specs.Bit.{bit}
 use Rattle.laws.specs.Made.{made}
 use Rattle.bc7_spec.specs.Bytes.{turned}
-use Rattle.bc7_paint.specs.Shades.{regionBy, regionAt, shadeAt, channelAt, byteAt, turnedTo}
+use Rattle.bc7_paint.specs.Shades.{regionBy, shadeAt, channelAt, byteAt, turnedTo, soloAt}
 
 -- ---- between two bytes
 
@@ -76,6 +77,20 @@ module _ (f : ℕ → ℕ) where
   alpha-turned (suc (suc (suc zero))) h = refl
   alpha-turned (suc (suc (suc (suc n)))) h = absurd (too-far n h)
 
+-- ---- the maps
+
+-- no pixel lies in the region of the map 0
+pub unmarked : (k : ℕ) → false ≡ eqb (bit 0 k) 1
+unmarked k = sym (ap (λ (x : ℕ). eqb (x % 2) 1) (zero-div (2 ^ k)))
+
+-- a map without its first k pixels: the map without j more, and whether pixel k + j lies in its region
+module _ (map left k : ℕ) (e : left ≡ map / 2 ^ k) (j i : ℕ) (s : k + j ≡ i) where
+  pub left-on : left / 2 ^ j ≡ map / 2 ^ i
+  left-on = ap (λ (x : ℕ). x / 2 ^ j) e ∙ shr-shr map k j ∙ ap (λ (x : ℕ). map / 2 ^ x) s
+
+  pub marked-left : (b : Bool) → b ≡ eqb (bit left j) 1 → b ≡ eqb (bit map i) 1
+  marked-left b h = h ∙ ap (λ (x : ℕ). eqb (x % 2) 1) left-on
+
 -- ---- a turn of the loop
 
 -- out has the first n bytes of f, and from there on it is l
@@ -95,8 +110,24 @@ module _ (ends : List ℕ) (ones twos rotation : ℕ) (colours alphas : List ℕ
       let m : (4 * k + c) % 4 ≡ c = omega arith in
       sym (ap₂ (λ (p q : ℕ). channelAt ends ones twos colours alphas p (turned rotation q)) d m)
 
-  -- what `shade` answers, with the tests of the two maps
-  pub shaded : (c w s : ℕ) (one two : Bool) → s ≡ shadeAt ends c (regionBy one two) w → one ≡ eqb (bit ones k) 1 → two ≡ eqb (bit twos k) 1
-      → w ≡ pick (eqb c 3) (getD alphas k 0) (getD colours k 0) → s ≡ at c
-  unfolding channelAt
-  shaded c w s one two e eo et ew = e ∙ ap₂ (λ (r v : ℕ). shadeAt ends c r v) (ap₂ regionBy eo et) ew
+-- a tile of one index set, from what `shade` answers and the tests of the two maps
+one-weight : (alpha : Bool) (w : ℕ) → w ≡ pick alpha w w
+one-weight true w = refl
+one-weight false w = refl
+
+module _ (ends : List ℕ) (ones twos : ℕ) (weights : List ℕ) (k : ℕ) where
+  pub shown : (c i s : ℕ) (one two : Bool) → s ≡ shadeAt ends c (regionBy one two) (getD weights k 0) → one ≡ eqb (bit ones k) 1 → two ≡ eqb (bit twos k) 1
+      → c < 4 → 4 * k + c ≡ i → s ≡ byteAt ends ones twos 0 weights weights i
+  unfolding turned channelAt
+  shown c i s one two e eo et h n =
+      e ∙ ap₂ (λ (r w : ℕ). shadeAt ends c r w) (ap₂ regionBy eo et) (one-weight (eqb c 3) (getD weights k 0))
+      ∙ byte-of ends ones twos 0 weights weights k c h
+      ∙ ap (byteAt ends ones twos 0 weights weights) n
+
+-- a tile of one region
+pub solo-byte : (ends : List ℕ) (rotation : ℕ) (colours alphas : List ℕ) (k c : ℕ) → c < 4
+    → soloAt ends rotation (getD colours k 0) (getD alphas k 0) c ≡ byteAt ends 0 0 rotation colours alphas (4 * k + c)
+unfolding soloAt channelAt
+solo-byte ends rotation colours alphas k c h =
+    ap₂ (λ (one two : Bool). shadeAt ends (turned rotation c) (regionBy one two) (pick (eqb (turned rotation c) 3) (getD alphas k 0) (getD colours k 0))) (unmarked k) (unmarked k)
+    ∙ byte-of ends 0 0 rotation colours alphas k c h

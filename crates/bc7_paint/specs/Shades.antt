@@ -4,7 +4,7 @@ use mathlib.Core.Bool.{Bool}
 use mathlib.Core.List.{List}
 use Prim.Native.Nat.{ℕ, _+_, _*_, _/_, _%_, _<_, _≤_}
 use lib.Dec.{eqb}
-use lib.ListN.{length, getD}
+use lib.ListN.{length, getD, set}
 use Rattle.laws.specs.Pick.{pick}
 use Rattle.laws.specs.Bit.{bit}
 use Rattle.laws.specs.Ranges.{AllBelow}
@@ -34,7 +34,7 @@ channelAt ends ones twos colours alphas k c = shadeAt ends c (regionAt ones twos
 unfoldable pub byteAt : List ℕ → ℕ → ℕ → ℕ → List ℕ → List ℕ → ℕ → ℕ
 byteAt ends ones twos rotation colours alphas j = channelAt ends ones twos colours alphas (j / 4) (turned rotation (j % 4))
 
--- what `paint` is given
+-- what a painter is given
 pub record Paintable (ends colours alphas : List ℕ) (rotation : ℕ) (out : List ℕ) : Type 0 where
   pub bytes : AllBelow 256 ends
   pub colour-weights : AllBelow 65 colours
@@ -45,3 +45,11 @@ pub record Paintable (ends colours alphas : List ℕ) (rotation : ℕ) (out : Li
 -- what alpha shows after the rotation
 abbrev pub turnedTo : ℕ → ℕ → ℕ → ℕ → ℕ → ℕ
 turnedTo rotation r g b a = pick (eqb rotation 3) b (pick (eqb rotation 2) g (pick (eqb rotation 1) r a))
+
+-- byte c of a pixel in a tile of one region, from its weight and that of its alpha
+unfoldable pub soloAt : List ℕ → ℕ → ℕ → ℕ → ℕ → ℕ
+soloAt ends rotation colour alpha c = shadeAt ends (turned rotation c) 0 (pick (eqb (turned rotation c) 3) alpha colour)
+
+-- the bytes with g 0 to g 3 for those of pixel k
+abbrev pub put : (ℕ → ℕ) → ℕ → List ℕ → List ℕ
+put g k l = set (set (set (set l (4 * k) (g 0)) (4 * k + 1) (g 1)) (4 * k + 2) (g 2)) (4 * k + 3) (g 3)

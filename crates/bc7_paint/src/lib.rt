@@ -12,7 +12,7 @@ ghost use Rattle.laws.specs.Made.{made};
 ghost use Rattle.laws.specs.Ranges.{AllBelow};
 ghost use Rattle.bc7_spec.specs.Bytes.{turned};
 ghost use Rattle.bc7_spec.specs.Bytes as spec;
-ghost use Rattle.bc7_paint.specs.Shades.{regionBy, shadeAt, byteAt, turnedTo, Paintable};
+ghost use Rattle.bc7_paint.specs.Shades.{regionBy, shadeAt, byteAt, turnedTo, soloAt, put, Paintable};
 
 fn select(second: bool, a: u16, b: u16) -> u16
     ensures { λ r. ⌜ r ≡ pick second b a ⌝ }
@@ -63,30 +63,69 @@ fn fourth(rotation: u32, r: u8, g: u8, b: u8, a: u8) -> u8
     )
 }
 
-// One pixel a turn. `ones` and `twos` are the maps of regions 1 and 2.
-pub fn paint(
+// A tile of two or three regions: two pixels a turn, k and l. `ones` and `twos` are the maps of regions 1 and 2. (What is left of the
+// maps is carried from turn to turn, which keeps the compiler from working out a channel of all sixteen pixels at a time, whose
+// vectors would go to the stack; of a turn it makes one vector, the eight bytes in the order in which they stand.)
+pub fn paint_regions(ends: [u16; 24], ones: u16, twos: u16, weights: [u16; 16], out: &mut [u8])
+    requires { ⌜ Paintable ends weights weights 0 (now out) ⌝ }
+    ensures { λ _. ⌜ now (out .exit) ≡ made (byteAt ends ones twos 0 weights weights) 64 ++ drop 64 (now (out .entry)) ⌝ }
+{
+    let mut ones_left = ones;
+    let mut twos_left = twos;
+    for p in 0..8usize {
+        let k = 2 * p;
+        let l = k + 1;
+        let one_k = in_region(ones_left, 0);
+        let two_k = in_region(twos_left, 0);
+        let one_l = in_region(ones_left, 1);
+        let two_l = in_region(twos_left, 1);
+        ones_left = ones_left >> 2;
+        twos_left = twos_left >> 2;
+        let weight_k = weights[k];
+        let weight_l = weights[l];
+        let at_k = 4 * k;
+        out[at_k] = shade(ends, 0, one_k, two_k, weight_k);
+        out[at_k + 1] = shade(ends, 1, one_k, two_k, weight_k);
+        out[at_k + 2] = shade(ends, 2, one_k, two_k, weight_k);
+        out[at_k + 3] = shade(ends, 3, one_k, two_k, weight_k);
+        let at_l = 4 * l;
+        out[at_l] = shade(ends, 0, one_l, two_l, weight_l);
+        out[at_l + 1] = shade(ends, 1, one_l, two_l, weight_l);
+        out[at_l + 2] = shade(ends, 2, one_l, two_l, weight_l);
+        out[at_l + 3] = shade(ends, 3, one_l, two_l, weight_l);
+    }
+}
+
+// The bytes of pixel k in a tile of one region, from its weights: alpha has one of its own, and channels may be turned.
+fn paint_pixel(ends: [u16; 24], rotation: u32, colour: u16, alpha: u16, k: usize, out: &mut [u8])
+    requires { ⌜ (k < 16) × (colour < 65) × (alpha < 65) × (rotation < 4) × AllBelow 256 ends × (64 ≤ length (now out)) ⌝ }
+    ensures { λ _. ⌜ now (out .exit) ≡ put (soloAt ends rotation colour alpha) k (now (out .entry)) ⌝ }
+{
+    let r = shade(ends, 0, false, false, colour);
+    let g = shade(ends, 1, false, false, colour);
+    let b = shade(ends, 2, false, false, colour);
+    let a = shade(ends, 3, false, false, alpha);
+    let at = 4 * k;
+    out[at] = select_byte(rotation == 1, r, a);
+    out[at + 1] = select_byte(rotation == 2, g, a);
+    out[at + 2] = select_byte(rotation == 3, b, a);
+    out[at + 3] = fourth(rotation, r, g, b, a);
+}
+
+// A tile of one region: pixels k and l, which is k + 8, in a turn. (One pixel in each of sixteen turns takes more of the stack.)
+pub fn paint_one(
     ends: [u16; 24],
-    ones: u16,
-    twos: u16,
     rotation: u32,
     colours: [u16; 16],
     alphas: [u16; 16],
     out: &mut [u8],
 )
     requires { ⌜ Paintable ends colours alphas rotation (now out) ⌝ }
-    ensures { λ _. ⌜ now (out .exit) ≡ made (byteAt ends ones twos rotation colours alphas) 64 ++ drop 64 (now (out .entry)) ⌝ }
+    ensures { λ _. ⌜ now (out .exit) ≡ made (byteAt ends 0 0 rotation colours alphas) 64 ++ drop 64 (now (out .entry)) ⌝ }
 {
-    for k in 0..16usize {
-        let one = in_region(ones, k);
-        let two = in_region(twos, k);
-        let r = shade(ends, 0, one, two, colours[k]);
-        let g = shade(ends, 1, one, two, colours[k]);
-        let b = shade(ends, 2, one, two, colours[k]);
-        let a = shade(ends, 3, one, two, alphas[k]);
-        let at = 4 * k;
-        out[at] = select_byte(rotation == 1, r, a);
-        out[at + 1] = select_byte(rotation == 2, g, a);
-        out[at + 2] = select_byte(rotation == 3, b, a);
-        out[at + 3] = fourth(rotation, r, g, b, a);
+    for k in 0..8usize {
+        paint_pixel(ends, rotation, colours[k], alphas[k], k, out);
+        let l = k + 8;
+        paint_pixel(ends, rotation, colours[l], alphas[l], l, out);
     }
 }

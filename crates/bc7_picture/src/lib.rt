@@ -1,7 +1,8 @@
 // From a block's bits to the 64 bytes that it shows: a function for each mode, with the places of its fields.
 use bc7_ends::ends_in;
 use bc7_ends::run;
-use bc7_paint::paint;
+use bc7_paint::paint_one;
+use bc7_paint::paint_regions;
 use bc7_weights::weigh_one;
 use bc7_weights::weigh_three;
 use bc7_weights::weigh_two;
@@ -33,7 +34,7 @@ fn show_0(s: BitStream, out: &mut [u8])
     let map = Subset3Map::row(run(s, 1, 4) as usize);
     let ends = ends_in(s, 5, 6, 4, 0, run(s, 77, 6), 1);
     let weights = weigh_three(s, 83, 3, map.fixup_index_2, map.fixup_index_3);
-    paint(ends, map.ones, map.twos, 0, weights, weights, out);
+    paint_regions(ends, map.ones, map.twos, weights, out);
 }
 
 fn show_1(s: BitStream, out: &mut [u8])
@@ -44,7 +45,7 @@ fn show_1(s: BitStream, out: &mut [u8])
     let p = both_sides(run(s, 80, 1), run(s, 81, 1));
     let ends = ends_in(s, 8, 4, 6, 0, p, 1);
     let weights = weigh_two(s, 82, 3, map.fixup_index_2);
-    paint(ends, map.subset_indexes, 0, 0, weights, weights, out);
+    paint_regions(ends, map.subset_indexes, 0, weights, out);
 }
 
 fn show_2(s: BitStream, out: &mut [u8])
@@ -54,7 +55,7 @@ fn show_2(s: BitStream, out: &mut [u8])
     let map = Subset3Map::row(run(s, 3, 6) as usize);
     let ends = ends_in(s, 9, 6, 5, 0, 0, 0);
     let weights = weigh_three(s, 99, 2, map.fixup_index_2, map.fixup_index_3);
-    paint(ends, map.ones, map.twos, 0, weights, weights, out);
+    paint_regions(ends, map.ones, map.twos, weights, out);
 }
 
 fn show_3(s: BitStream, out: &mut [u8])
@@ -64,7 +65,7 @@ fn show_3(s: BitStream, out: &mut [u8])
     let map = Subset2Map::row(run(s, 4, 6) as usize);
     let ends = ends_in(s, 10, 4, 7, 0, run(s, 94, 4), 1);
     let weights = weigh_two(s, 98, 2, map.fixup_index_2);
-    paint(ends, map.subset_indexes, 0, 0, weights, weights, out);
+    paint_regions(ends, map.subset_indexes, 0, weights, out);
 }
 
 fn show_4(s: BitStream, out: &mut [u8])
@@ -76,9 +77,9 @@ fn show_4(s: BitStream, out: &mut [u8])
     let first = weigh_one(s, 50, 2);
     let second = weigh_one(s, 81, 3);
     if run(s, 7, 1) == 0 {
-        paint(ends, 0, 0, rotation, first, second, out);
+        paint_one(ends, rotation, first, second, out);
     } else {
-        paint(ends, 0, 0, rotation, second, first, out);
+        paint_one(ends, rotation, second, first, out);
     }
 }
 
@@ -90,7 +91,7 @@ fn show_5(s: BitStream, out: &mut [u8])
     let rotation = run(s, 6, 2);
     let first = weigh_one(s, 66, 2);
     let second = weigh_one(s, 97, 2);
-    paint(ends, 0, 0, rotation, first, second, out);
+    paint_one(ends, rotation, first, second, out);
 }
 
 fn show_6(s: BitStream, out: &mut [u8])
@@ -99,7 +100,7 @@ fn show_6(s: BitStream, out: &mut [u8])
 {
     let ends = ends_in(s, 7, 2, 7, 7, run(s, 63, 2), 1);
     let weights = weigh_one(s, 65, 4);
-    paint(ends, 0, 0, 0, weights, weights, out);
+    paint_one(ends, 0, weights, weights, out);
 }
 
 fn show_7(s: BitStream, out: &mut [u8])
@@ -109,7 +110,7 @@ fn show_7(s: BitStream, out: &mut [u8])
     let map = Subset2Map::row(run(s, 8, 6) as usize);
     let ends = ends_in(s, 14, 4, 5, 5, run(s, 94, 4), 1);
     let weights = weigh_two(s, 98, 2, map.fixup_index_2);
-    paint(ends, map.subset_indexes, 0, 0, weights, weights, out);
+    paint_regions(ends, map.subset_indexes, 0, weights, out);
 }
 
 // 64 zeros.

@@ -60,20 +60,14 @@ def shown(store, kinds):
     return answered("decode_blocks", records, BEFORE_VALUES, VALUES, asked), answered("extract_fields", records, BEFORE_FIELDS, FIELDS, asked)
 
 
-def first_exposure(values):
-    """The whole number of stops at which nineteen of twenty pixels that are lit stay below white."""
+def exposures(values):
+    """In whole stops, the exposure that a page begins with and the three that it prints. It begins where the middle one of the lit pixels stands at a
+    quarter of white or just below; printed is that one, or a brighter one, the one at which no value is above white, and one between them."""
     numbers = [number for (number,) in struct.iter_unpack("<e", values)]
-    lit = sorted(top for top in map(max, numbers[::3], numbers[1::3], numbers[2::3]) if top > 0)
-    if not lit:
-        return 0
-    white = lit[(len(lit) - 1) * 19 // 20]
-    return next((stops for stops in range(24, -17, -1) if white * 2.0 ** stops <= 1), -17)
-
-
-def printed_exposures(exposure):
-    """Three that are four stops apart, about the first one; at the darkest, -16, no value is above white."""
-    least = max(exposure - 4, -16)
-    return [least + 8, least + 4, least]
+    lit = sorted(top for top in map(max, numbers[::3], numbers[1::3], numbers[2::3]) if top > 0) or [1.0]
+    first, darkest = (next((stops for stops in range(24, -16, -1) if top * 2.0 ** stops <= white), -16) for top, white in ((lit[len(lit) // 2], 0.25), (lit[-1], 1)))
+    brightest = max(first, darkest + 8)
+    return first, [brightest, (brightest + darkest) // 2, darkest]
 
 
 def items(rows, none):
@@ -138,12 +132,12 @@ def page_of(name, store):
         raise house.Trouble("the audit's copies are not the records that the clean-up removes")
     answers, kinds = kinds_of(store, facts["twins"])
     values, fields = shown(store, kinds)
-    exposure = first_exposure(values)
+    exposure, printed = exposures(values)
     data = {
         "store": encoded(store), "values": encoded(values), "fields": encoded(fields), "kinds": kinds, "answers": answers,
         "meanings": {answer: house.MEANINGS[answer] for answer in sorted(set(answers) - {0})},
         "pairs": [[twin["record"], twin["stays"], int(twin["verdict"] == "copy"), int(twin["covered"])] for twin in facts["twins"]],
-        "exposure": exposure, "printed": printed_exposures(exposure),
+        "exposure": exposure, "printed": printed,
     }
     told = {
         "name": name, "verdict": would_do(facts), "sha256": facts["store"]["sha256"], "length": f"{len(store):,}",

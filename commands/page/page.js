@@ -370,7 +370,7 @@ function printed(n) {
   for (const exposure of data.printed) {
     const canvas = make("canvas", { role: "img", "aria-label": `${recordTold(n)}, white at ${told(2 ** -exposure)}`, "data-stops": exposure });
     draw(canvas, n, exposure, PRINTED);
-    row.append(make("figure", {}, canvas, make("figcaption", {}, `white ${told(2 ** -exposure)}`)));
+    row.append(make("figure", {}, canvas, make("figcaption", {}, `white ${Number((2 ** -exposure).toPrecision(5))}`)));
   }
   return row;
 }

@@ -64,7 +64,7 @@ def exposures(values):
     """In whole stops, the exposure that a page begins with and the three that it prints. It begins where the middle one of the lit pixels stands at a
     quarter of white or just below; printed is that one, or a brighter one, the one at which no value is above white, and one between them."""
     numbers = [number for (number,) in struct.iter_unpack("<e", values)]
-    lit = sorted(top for top in map(max, numbers[::3], numbers[1::3], numbers[2::3]) if top > 0) or [1.0]
+    lit = sorted(top for top in map(max, numbers[::3], numbers[1::3], numbers[2::3]) if top > 0) or [0.25]
     first, darkest = (next((stops for stops in range(24, -16, -1) if top * 2.0 ** stops <= white), -16) for top, white in ((lit[len(lit) // 2], 0.25), (lit[-1], 1)))
     brightest = max(first, darkest + 8)
     return first, [brightest, (brightest + darkest) // 2, darkest]

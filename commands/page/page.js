@@ -363,7 +363,10 @@ slider.addEventListener("input", () => {
 });
 document.getElementById("start").addEventListener("click", () => { slider.value = data.exposure; expose(); });
 
-// ---- print: everything is built, and three exposures stand in for the slider
+// ---- print: everything is built, and three exposures stand in for the slider; of many copies of one record the first are drawn, and the others told in a
+// line each
+
+const DRAWN = 3;  // copies of one record that are drawn in print
 
 function printed(n) {
   const row = make("div", { class: "printed" });
@@ -376,17 +379,25 @@ function printed(n) {
 }
 
 function prepare() {
-  for (const part of parts.values()) {
-    if (part.element === single) continue;
-    if (part.element.classList.contains("sheet")) part.show(); else part.ensure();
-    for (const figure of part.element.querySelectorAll("figure[data-tile]")) {
-      if (!figure.querySelector(".printed")) figure.prepend(printed(Number(figure.dataset.tile)));
+  restore();
+  const copies = new Map();  // record that stays -> how many copies of it came before
+  for (const { record, stays, copy } of twins) {
+    const card = document.getElementById(`pair-${record}`), before = copies.get(stays) || 0;
+    if (copy) copies.set(stays, before + 1);
+    if (copy && before >= DRAWN) {
+      card.classList.add("told");
+      card.append(make("p", { class: "printed" }, `Record ${record}, tile ${tileAt(record)}: copy, removed. Record ${stays}, tile ${tileAt(stays)}, stays: the same format and the same sixteen bytes, as drawn above.`));
+      continue;
     }
+    parts.get(card).ensure();
+    for (const figure of card.querySelectorAll("figure[data-tile]")) figure.prepend(printed(Number(figure.dataset.tile)));
   }
+  for (const part of parts.values()) if (part.element.classList.contains("sheet")) part.show();
 }
 
 function restore() {
-  for (const row of document.querySelectorAll(".printed")) row.remove();
+  for (const one of document.querySelectorAll(".printed")) one.remove();
+  for (const card of document.querySelectorAll(".told")) card.classList.remove("told");
   for (const part of parts.values()) if (!part.near) part.rest();
 }
 window.addEventListener("beforeprint", prepare);

@@ -13,8 +13,6 @@ import re
 
 from . import house
 
-RECORD = 24
-
 
 def run(words):
     if len(words) != 2 or any(word.startswith("--") for word in words):
@@ -22,21 +20,26 @@ def run(words):
     source, target = words
     if os.path.lexists(target):
         raise house.Trouble(f"{target}: it is there already, and is left as it is")
-    store = house.read(source, house.STORE)
-    cleaned, report = house.program("cleaning", store)
-    if report.startswith(b"store refused "):
-        raise house.Refused(int(report.split()[2]), report)
-    if not is_whole(store, cleaned, report):
-        raise house.Trouble("the program cleaning did not write all of its result")
-    house.write_whole(target, cleaned, over=False)
+    left, report = cleaned(house.read(source, house.STORE))
+    house.write_whole(target, left, over=False)
     house.put(report)
 
 
-def is_whole(store, cleaned, report):
+def cleaned(store):
+    """The bytes of the cleaned store, and the report."""
+    left, report = house.program("cleaning", store)
+    if report.startswith(b"store refused "):
+        raise house.Refused(int(report.split()[2]), report)
+    if not is_whole(store, left, report):
+        raise house.Trouble("the program cleaning did not write all of its result")
+    return left, report
+
+
+def is_whole(store, left, report):
     """Whether the program came to its end: a line for each removed record, the counts, and a record for each that stays."""
     *lines, last = report.splitlines() or [b""]
     counts = re.fullmatch(rb"kept (\d+) removed (\d+)", last)
     if counts is None:
         return False
     kept, removed = int(counts[1]), int(counts[2])
-    return len(cleaned) == kept * RECORD and len(lines) == removed and len(store) == (kept + removed) * RECORD
+    return len(left) == kept * house.RECORD and len(lines) == removed and len(store) == (kept + removed) * house.RECORD

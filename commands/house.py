@@ -18,6 +18,7 @@ ROOT = pathlib.Path(__file__).resolve().parent.parent
 COMMANDS = [
     "list",
     "audit",
+    "report",
     "clean",
     "infinities",
     "fields",

@@ -5,16 +5,16 @@ use mathlib.Core.List.{List, [], _∷_, _++_, append-nil}
 use Prim.Native.Nat.{ℕ, zero, suc, _+_, _≤_, _<_}
 use native.Mathlib.Numerals.{add-one}
 use native.Mathlib.Omega.{arith}
-use lib.Dec.{eqb}
+use lib.Dec.{eqb, ltb}
 use lib.ListN.{length}
-use borrow.Author.Tests.{eq-eqb, ne-eqb}
+use borrow.Author.Tests.{eq-eqb, ne-eqb, lt-ltb, le-ltb}
 use Rattle.laws.specs.Pick.{pick, both}
 use Rattle.laws.specs.Made.{made}
 use Rattle.laws.proofs.Joined.{run-more}
 use Rattle.bc6h_spec.specs.Answers.{done}
-use Rattle.laws.specs.Every.{same}
-use Rattle.records.specs.Store.{recordsIn, tileAt, recordRefusal, partAt}
+use Rattle.records.specs.Store.{recordsIn, tileAt}
 use Rattle.cleanup.specs.CleanUp.{covered, byDemand3}
+use Rattle.clean.specs.Clean.{firstOf, goes}
 use Rattle.twins.specs.declared.TwinList.{TwinList}
 use Rattle.twins.specs.Twins.{twinMark, firstTwin, markAt, listRefusal, Listed}
 use Rattle.twins.proofs.Listing as listed
@@ -22,23 +22,28 @@ use Rattle.text.specs.Text.{field, refusalLine, Written}
 use Rattle.text.proofs.Texts.{then, said}
 use Rattle.listing_text.specs.Listing.{mostRecords}
 use Rattle.audit_text.specs.declared.Finding.{Finding}
-use Rattle.audit_text.specs.Audit.{sameBytes, findingOf, pairOf, twinLine, isTwin, auditLine, auditLines, twinsWith, isSame, isOther, isCovered, isBefore, tallyLine, tallyOf, auditAt, auditOf, Tallied}
+use Rattle.audit_text.specs.Audit.{staysFor, findingOf, columnsLine, pairOf, twinLine, isTwin, auditLine, auditLines, twinsWith, isCopy, isAlike, isCovered, isBefore, tallyLine, tallyOf, auditAt, auditOf, Tallied}
 
 -- ---- a line
 
 module _ (store : List ℕ) (n : ℕ) where
-  pub found : {first : ℕ} {is-same is-covered is-before : Bool} {block other : List ℕ} → first ≡ firstTwin store n → block ≡ partAt (recordRefusal store n) store n
-      → other ≡ partAt (recordRefusal store first) store first → is-same ≡ same block other → is-covered ≡ covered store n first
-      → is-before ≡ byDemand3 store n first
-      → record { first = first; same = is-same; covered = is-covered; by_demand_3 = is-before } ≡ findingOf store n
-  unfolding findingOf sameBytes
-  found f p q s c d = rw (s, c, d, p, q, f)
+  pub copy-beside : (first : ℕ) → first < n → first ≡ pick (ltb first n) first (firstTwin store n)
+  copy-beside first h = rw (lt-ltb first n h)
 
-  pub pair : {l m₁ m₂ m₃ m₄ : List ℕ} {at e₁ e₂ e₃ e₄ tile other : ℕ} (earlier : ℕ) → tile ≡ tileAt store n → other ≡ tileAt store earlier
-      → Written l at (field n) e₁ m₁ → Written m₁ e₁ (field tile) e₂ m₂ → Written m₂ e₂ (field earlier) e₃ m₃ → Written m₃ e₃ (field other) e₄ m₄
-      → Written l at (pairOf store n earlier) e₄ m₄
+  pub twin-beside : {twin : ℕ} (first : ℕ) → n ≤ first → twin ≡ firstTwin store n → twin ≡ pick (ltb first n) first (firstTwin store n)
+  twin-beside first h e = rw (le-ltb first n h) e
+
+  pub found : {first stays : ℕ} {is-copy is-covered is-before : Bool} → first ≡ firstOf store n → stays ≡ pick (ltb first n) first (firstTwin store n)
+      → is-copy ≡ ltb first n → is-covered ≡ covered store n stays → is-before ≡ byDemand3 store n stays
+      → record { stays = stays; copy = is-copy; covered = is-covered; by_demand_3 = is-before } ≡ findingOf store n
+  unfolding findingOf staysFor goes
+  found f s p c d = rw (c, d, s, p, f)
+
+  pub pair : {l m₁ m₂ m₃ m₄ : List ℕ} {at e₁ e₂ e₃ e₄ tile other : ℕ} (stays : ℕ) → tile ≡ tileAt store n → other ≡ tileAt store stays
+      → Written l at (field n) e₁ m₁ → Written m₁ e₁ (field tile) e₂ m₂ → Written m₂ e₂ (field stays) e₃ m₃ → Written m₃ e₃ (field other) e₄ m₄
+      → Written l at (pairOf store n stays) e₄ m₄
   unfolding pairOf
-  pair earlier t o x y z w = said (then (then (then x y) z) w) (rw (t, o))
+  pair stays t o x y z w = said (then (then (then x y) z) w) (rw (t, o))
 
 -- ---- the loop over the records
 
@@ -56,14 +61,14 @@ module _ (store : List ℕ) (n mark : ℕ) (here : mark ≡ markAt store n) wher
     unfolding twinsWith
     uncounted test = rw (add-one n, no-twin) (omega arith)
 
-    pub line-skipped : {l m : List ℕ} {e : ℕ} → Written l 0 (auditLines store n) e m → Written l 0 (auditLines store (n + 1)) e m
+    pub line-skipped : {l m : List ℕ} {at e : ℕ} → Written l at (auditLines store n) e m → Written l at (auditLines store (n + 1)) e m
     unfolding auditLines auditLine
     line-skipped w = said w (sym (run-more (auditLine store) n ∙ rw no-twin (append-nil _)))
 
-    pub tally-skipped : {same others covered before : ℕ} → Tallied store n same others covered before → Tallied store (n + 1) same others covered before
+    pub tally-skipped : {copies alike covered before : ℕ} → Tallied store n copies alike covered before → Tallied store (n + 1) copies alike covered before
     tally-skipped t = record {
-      same-is = t .same-is ∙ sym (uncounted isSame);
-      other-is = t .other-is ∙ sym (uncounted isOther);
+      copies-is = t .copies-is ∙ sym (uncounted isCopy);
+      alike-is = t .alike-is ∙ sym (uncounted isAlike);
       covered-is = t .covered-is ∙ sym (uncounted isCovered);
       before-is = t .before-is ∙ sym (uncounted isBefore);
       few = let f = t .few in (omega arith, omega arith, omega arith, omega arith);
@@ -78,54 +83,55 @@ module _ (store : List ℕ) (n mark : ℕ) (here : mark ≡ markAt store n) wher
     unfolding twinsWith
     counted test = rw (add-one n, a-twin, found)
 
-    pub line-more : {l m₁ m₂ : List ℕ} {e₁ e₂ : ℕ} → Written l 0 (auditLines store n) e₁ m₁ → Written m₁ e₁ (twinLine store n finding) e₂ m₂
-        → Written l 0 (auditLines store (n + 1)) e₂ m₂
+    pub line-more : {l m₁ m₂ : List ℕ} {at e₁ e₂ : ℕ} → Written l at (auditLines store n) e₁ m₁ → Written m₁ e₁ (twinLine store n finding) e₂ m₂
+        → Written l at (auditLines store (n + 1)) e₂ m₂
     unfolding auditLines auditLine
     line-more x y = said (then x y) (sym (run-more (auditLine store) n ∙ rw (a-twin, sym found)))
 
-    pub tally-more : {same others covered before a b c d : ℕ} → Tallied store n same others covered before → a ≡ pick (isSame finding) 1 0
-        → b ≡ pick (isOther finding) 1 0 → c ≡ pick (isCovered finding) 1 0 → d ≡ pick (isBefore finding) 1 0
-        → Tallied store (n + 1) (same + a) (others + b) (covered + c) (before + d)
+    pub tally-more : {copies alike covered before a b c d : ℕ} → Tallied store n copies alike covered before → a ≡ pick (isCopy finding) 1 0
+        → b ≡ pick (isAlike finding) 1 0 → c ≡ pick (isCovered finding) 1 0 → d ≡ pick (isBefore finding) 1 0
+        → Tallied store (n + 1) (copies + a) (alike + b) (covered + c) (before + d)
     tally-more t p q r s = record {
-      same-is = let e = counted isSame in let f = t .same-is in omega arith;
-      other-is = let e = counted isOther in let f = t .other-is in omega arith;
+      copies-is = let e = counted isCopy in let f = t .copies-is in omega arith;
+      alike-is = let e = counted isAlike in let f = t .alike-is in omega arith;
       covered-is = let e = counted isCovered in let f = t .covered-is in omega arith;
       before-is = let e = counted isBefore in let f = t .before-is in omega arith;
       few =
           let f = t .few in
-          let i = one-most (isSame finding) in
-          let j = one-most (isOther finding) in
+          let i = one-most (isCopy finding) in
+          let j = one-most (isAlike finding) in
           let k = one-most (isCovered finding) in
           let l = one-most (isBefore finding) in
           (omega arith, omega arith, omega arith, omega arith);
     }
 
 module _ (store : List ℕ) where
-  pub no-lines : (l : List ℕ) → Written l 0 (auditLines store 0) 0 l
+  pub no-lines : (l : List ℕ) (at : ℕ) → Written l at (auditLines store 0) at l
   unfolding auditLines made
-  no-lines l = record { next-is = refl; exit-is = refl }
+  no-lines l at = record { next-is = omega arith; exit-is = refl }
 
   pub no-tally : Tallied store 0 0 0 0 0
   unfolding twinsWith
-  no-tally = record { same-is = refl; other-is = refl; covered-is = refl; before-is = refl; few = (omega arith, omega arith, omega arith, omega arith) }
+  no-tally = record { copies-is = refl; alike-is = refl; covered-is = refl; before-is = refl; few = (omega arith, omega arith, omega arith, omega arith) }
 
   -- the loop is done
-  pub tallied : {l m₁ m₂ : List ℕ} {e₁ e₂ same others covered before : ℕ} (n count : ℕ) → n ≤ count → count ≤ n → Tallied store n same others covered before
-      → Written l 0 (auditLines store n) e₁ m₁ → Written m₁ e₁ (tallyLine same others covered before) e₂ m₂
-      → Written l 0 (auditLines store count ++ tallyOf store count) e₂ m₂
+  pub tallied : {l m₁ m₂ : List ℕ} {at e₁ e₂ copies alike covered before : ℕ} (n count : ℕ) → n ≤ count → count ≤ n → Tallied store n copies alike covered before
+      → Written l at (auditLines store n) e₁ m₁ → Written m₁ e₁ (tallyLine copies alike covered before) e₂ m₂
+      → Written l at (auditLines store count ++ tallyOf store count) e₂ m₂
   unfolding tallyOf
   tallied n count h k t x y =
       let is : n ≡ count = omega arith in
-      said (then x y) (rw (is, rw is at (t .same-is), rw is at (t .other-is), rw is at (t .covered-is), rw is at (t .before-is)))
+      said (then x y) (rw (is, rw is at (t .copies-is), rw is at (t .alike-is), rw is at (t .covered-is), rw is at (t .before-is)))
 
   pub refused-text : (answer : ℕ) → answer ≡ listRefusal (length store) mostRecords → (answer ≡ done → ⊥) → refusalLine answer ≡ auditOf store
   unfolding auditOf
   refused-text zero e r = absurd (r refl)
   refused-text (suc a) e r = rw (sym e)
 
-  pub done-text : listRefusal (length store) mostRecords ≡ done → auditLines store (recordsIn store) ++ tallyOf store (recordsIn store) ≡ auditOf store
+  pub done-text : {l m₁ m₂ : List ℕ} {e₁ e₂ : ℕ} → listRefusal (length store) mostRecords ≡ done → Written l 0 columnsLine e₁ m₁
+      → Written m₁ e₁ (auditLines store (recordsIn store) ++ tallyOf store (recordsIn store)) e₂ m₂ → Written l 0 (auditOf store) e₂ m₂
   unfolding auditOf
-  done-text e = rw e
+  done-text e x y = said (then x y) (rw e)
 
 pub number-is : {store lent after : List ℕ} {r : TwinList} → length lent ≡ mostRecords → Listed store lent r after → r .answer ≡ listRefusal (length store) mostRecords
 number-is room d = listed.answer-number d ∙ rw room

@@ -1,25 +1,27 @@
-// The audit of a store as text: a line for each twin and a last line with the counts, or the line of a refused store.
+// The audit of a store as text: a line that names the columns, a line for each twin with its verdict, and a last line with the counts; or
+// the line of a refused store.
 
 ghost use mathlib.Core.Path.{_≡_};
 ghost use mathlib.Core.List.{_++_};
 ghost use Prim.Native.Nat.{_+_, _*_, _≤_};
+ghost use lib.Dec.{ltb};
 ghost use lib.ListN.{length};
 ghost use Rattle.laws.specs.Pick.{pick};
 ghost use Rattle.records.specs.Store.{recordsIn};
+ghost use Rattle.twins.specs.Twins.{firstTwin};
 ghost use Rattle.text.specs.Text.{Written};
 ghost use Rattle.listing_text.specs.Listing.{mostRecords, Marks};
-ghost use Rattle.audit_text.specs.Audit.{findingOf, pairOf, bytesWord, coverWord, twinLine, auditLines, tallyLine, tallyOf, auditOf};
+ghost use Rattle.audit_text.specs.Audit.{findingOf, pairOf, verdictWord, coverWord, twinLine, auditLines, tallyLine, tallyOf, auditOf};
 use bc6h_spec::Answer;
+use clean::first_of;
 use cleanup::is_by_demand_3;
 use cleanup::is_covered;
 use records::Record;
-use records::record_block;
 use records::tile_at;
 use text::put;
 use text::put_count;
 use text::put_field;
 use text::put_refusal;
-use text::same_bytes;
 use twins::Mark;
 use twins::TwinList;
 use twins::first_twin;
@@ -30,29 +32,40 @@ pub struct Audit {
 }
 
 impl Audit {
-    // The most bytes of a line, and the room for a line a record and one more.
+    // The most bytes of a line, and the room for a line a record and two more.
     const LINE: usize = 128;
 
-    pub const ROOM: usize = (TwinList::RECORDS + 1) * Audit::LINE;
+    pub const ROOM: usize = (TwinList::RECORDS + 2) * Audit::LINE;
 }
 
-// What a twin and the first record that it equals have in common.
+// What is told of a twin: the record that stays, whether the twin is its copy, and whether the copies theorem covers the two.
 pub struct Finding {
-    pub first: usize,
-    pub same: bool,
+    pub stays: usize,
+    pub copy: bool,
     pub covered: bool,
     pub by_demand_3: bool,
+}
+
+// The record of the same bytes where there is an earlier one, and else the first that record n looks like.
+fn beside(store: &[u8], n: usize, first: usize) -> usize
+    ensures { λ r. ⌜ r ≡ pick (ltb first n) first (firstTwin (now (store .entry)) n) ⌝ }
+{
+    if first < n {
+        return first;
+    }
+    first_twin(store, n)
 }
 
 fn examine(store: &[u8], n: usize) -> Finding
     ensures { λ r. ⌜ r ≡ findingOf (now (store .entry)) n ⌝ }
 {
-    let first = first_twin(store, n);
+    let first = first_of(store, n);
+    let stays = beside(store, n, first);
     Finding {
-        first,
-        same: same_bytes(record_block(store, n), record_block(store, first)),
-        covered: is_covered(store, n, first),
-        by_demand_3: is_by_demand_3(store, n, first),
+        stays,
+        copy: first < n,
+        covered: is_covered(store, n, stays),
+        by_demand_3: is_by_demand_3(store, n, stays),
     }
 }
 
@@ -63,15 +76,15 @@ fn one_if(test: bool) -> usize
     if test { 1 } else { 0 }
 }
 
-fn put_bytes(text: &mut [u8], at: usize, same: bool) -> usize
-    requires { ⌜ at + 12 ≤ length (now text) ⌝ }
-    ensures { λ r. ⌜ r ≤ at + 12 ⌝ }
-    ensures { λ r. ⌜ Written (now (text .entry)) at (bytesWord same) r (now (text .exit)) ⌝ }
+fn put_verdict(text: &mut [u8], at: usize, copy: bool) -> usize
+    requires { ⌜ at + 6 ≤ length (now text) ⌝ }
+    ensures { λ r. ⌜ r ≤ at + 6 ⌝ }
+    ensures { λ r. ⌜ Written (now (text .entry)) at (verdictWord copy) r (now (text .exit)) ⌝ }
 {
-    if same {
-        return put(text, at, b"same bytes ");
+    if copy {
+        return put(text, at, b"copy ");
     }
-    put(text, at, b"other bytes ")
+    put(text, at, b"alike ")
 }
 
 fn put_cover(text: &mut [u8], at: usize, covered: bool) -> usize
@@ -82,19 +95,19 @@ fn put_cover(text: &mut [u8], at: usize, covered: bool) -> usize
     if covered {
         return put(text, at, b"covered\n");
     }
-    put(text, at, b"not covered\n")
+    put(text, at, b"-\n")
 }
 
-// The numbers and tiles of record n and of an earlier one.
-fn put_pair(text: &mut [u8], at: usize, store: &[u8], n: usize, earlier: usize) -> usize
+// The numbers and tiles of record n and of the one that stays.
+fn put_pair(text: &mut [u8], at: usize, store: &[u8], n: usize, stays: usize) -> usize
     requires { ⌜ at + 84 ≤ length (now text) ⌝ }
     ensures { λ r. ⌜ r ≤ at + 84 ⌝ }
-    ensures { λ r. ⌜ Written (now (text .entry)) at (pairOf (now (store .entry)) n earlier) r (now (text .exit)) ⌝ }
+    ensures { λ r. ⌜ Written (now (text .entry)) at (pairOf (now (store .entry)) n stays) r (now (text .exit)) ⌝ }
 {
     let mut end = put_field(text, at, n as u64);
     end = put_field(text, end, tile_at(store, n) as u64);
-    end = put_field(text, end, earlier as u64);
-    put_field(text, end, tile_at(store, earlier) as u64)
+    end = put_field(text, end, stays as u64);
+    put_field(text, end, tile_at(store, stays) as u64)
 }
 
 fn put_twin(text: &mut [u8], at: usize, store: &[u8], n: usize, finding: Finding) -> usize
@@ -102,61 +115,61 @@ fn put_twin(text: &mut [u8], at: usize, store: &[u8], n: usize, finding: Finding
     ensures { λ r. ⌜ r ≤ at + 128 ⌝ }
     ensures { λ r. ⌜ Written (now (text .entry)) at (twinLine (now (store .entry)) n finding) r (now (text .exit)) ⌝ }
 {
-    let mut end = put_pair(text, at, store, n, finding.first);
-    end = put_bytes(text, end, finding.same);
+    let mut end = put_pair(text, at, store, n, finding.stays);
+    end = put_verdict(text, end, finding.copy);
     put_cover(text, end, finding.covered)
 }
 
 fn put_tally(
     text: &mut [u8],
     at: usize,
-    same: usize,
-    other: usize,
+    copies: usize,
+    alike: usize,
     covered: usize,
     before: usize,
 ) -> usize
     requires { ⌜ at + 128 ≤ length (now text) ⌝ }
     ensures { λ r. ⌜ r ≤ at + 128 ⌝ }
-    ensures { λ r. ⌜ Written (now (text .entry)) at (tallyLine same other covered before) r (now (text .exit)) ⌝ }
+    ensures { λ r. ⌜ Written (now (text .entry)) at (tallyLine copies alike covered before) r (now (text .exit)) ⌝ }
 {
-    let mut end = put_count(text, at, b"same ", same as u64);
-    end = put_count(text, end, b" other ", other as u64);
+    let mut end = put_count(text, at, b"copies ", copies as u64);
+    end = put_count(text, end, b" alike ", alike as u64);
     end = put_count(text, end, b" covered ", covered as u64);
     end = put_count(text, end, b" before ", before as u64);
     put(text, end, b"\n")
 }
 
 // A line for each twin, and the counts.
-fn put_twins(text: &mut [u8], store: &[u8], marks: &[u8]) -> usize
-    requires { ⌜ (recordsIn (now store) + 1) * 128 ≤ length (now text) ⌝ }
+fn put_twins(text: &mut [u8], at: usize, store: &[u8], marks: &[u8]) -> usize
+    requires { ⌜ at + (recordsIn (now store) + 1) * 128 ≤ length (now text) ⌝ }
     requires { ⌜ recordsIn (now store) ≤ length (now marks) ⌝ }
     requires { ⌜ Marks (now store) (now marks) ⌝ }
-    ensures { λ r. ⌜ r ≤ (recordsIn (now (store .entry)) + 1) * 128 ⌝ }
-    ensures { λ r. ⌜ Written (now (text .entry)) 0 (auditLines (now (store .entry)) (recordsIn (now (store .entry))) ++ tallyOf (now (store .entry)) (recordsIn (now (store .entry)))) r (now (text .exit)) ⌝ }
+    ensures { λ r. ⌜ r ≤ at + (recordsIn (now (store .entry)) + 1) * 128 ⌝ }
+    ensures { λ r. ⌜ Written (now (text .entry)) at (auditLines (now (store .entry)) (recordsIn (now (store .entry))) ++ tallyOf (now (store .entry)) (recordsIn (now (store .entry)))) r (now (text .exit)) ⌝ }
 {
     let count = store.len() / Record::SIZE;
-    let mut same: usize = 0;
-    let mut other: usize = 0;
+    let mut copies: usize = 0;
+    let mut alike: usize = 0;
     let mut covered: usize = 0;
     let mut before: usize = 0;
-    let mut end: usize = 0;
+    let mut end: usize = at;
     for n in 0..count {
         if marks[n] != Mark::TWIN {
             continue;
         }
         let finding = examine(store, n);
         end = put_twin(text, end, store, n, finding);
-        same += one_if(finding.same);
-        other += one_if(!finding.same);
+        copies += one_if(finding.copy);
+        alike += one_if(!finding.copy);
         covered += one_if(finding.covered);
         before += one_if(finding.by_demand_3);
     }
-    put_tally(text, end, same, other, covered, before)
+    put_tally(text, end, copies, alike, covered, before)
 }
 
 // The audit of a store at the start of `text`; answers how many bytes it has.
 pub fn put_audit(text: &mut [u8], store: &[u8]) -> usize
-    requires { ⌜ (mostRecords + 1) * 128 ≤ length (now text) ⌝ }
+    requires { ⌜ (mostRecords + 2) * 128 ≤ length (now text) ⌝ }
     ensures { λ r. ⌜ r ≤ length (now (text .exit)) ⌝ }
     ensures { λ r. ⌜ Written (now (text .entry)) 0 (auditOf (now (store .entry))) r (now (text .exit)) ⌝ }
 {
@@ -165,5 +178,6 @@ pub fn put_audit(text: &mut [u8], store: &[u8]) -> usize
     if list.answer != Answer::DONE {
         return put_refusal(text, 0, list.answer);
     }
-    put_twins(text, store, &marks)
+    let end = put(text, 0, b"record tile stays its-tile verdict theorem\n");
+    put_twins(text, end, store, &marks)
 }

@@ -1,5 +1,5 @@
 use mathlib.Core.Path.{_≡_}
-use Prim.Native.Nat.{_*_, _≤_, _-_}
+use Prim.Native.Nat.{_+_, _*_, _≤_, _-_}
 use lib.ListN.{length}
 use Rattle.records.specs.Store.{recordsIn}
 use Rattle.text.specs.Text.{Written}
@@ -10,15 +10,15 @@ use Rattle.audit_text.proofs.put_twins.Statement.{statement}
 use Rattle.audit_text.proofs.put_twins.Tie as tie
 
 abbrev Inv-loop : tie.InvT-loop
-Inv-loop text₀ store marks count same₀ other₀ covered₀ before₀ end₀ n₀ text same other covered before end n =
-    (n ≤ count) × (length text ≡ length text₀) × (end ≤ n * 128) × Tallied store n same other covered before × Written text₀ 0 (auditLines store n) end text
+Inv-loop text₀ at store marks count copies₀ alike₀ covered₀ before₀ end₀ n₀ text copies alike covered before end n =
+    (n ≤ count) × (length text ≡ length text₀) × (end ≤ at + n * 128) × Tallied store n copies alike covered before × Written text₀ at (auditLines store n) end text
 
 abbrev μ-loop : tie.MeasureT-loop
-μ-loop text₀ store marks count same₀ other₀ covered₀ before₀ end₀ n₀ text same other covered before end n =
+μ-loop text₀ at store marks count copies₀ alike₀ covered₀ before₀ end₀ n₀ text copies alike covered before end n =
     count - n
 
 loop-holds : tie.Need-loop-holds Inv-loop μ-loop
-loop-holds c = (search needs, search needs, search needs, twins.no-tally (c .before .before .before .args .store .now), twins.no-lines (c .before .before .before .args .store .now) (c .before .before .before .args .text .now))
+loop-holds c = (search needs, search needs, search needs, twins.no-tally (c .before .before .before .args .store .now), twins.no-lines (c .before .before .before .args .store .now) (c .before .before .before .args .text .now) (c .before .before .before .args .at))
 
 shared-slice-read-if1 : tie.Need-shared-slice-read-if1 Inv-loop μ-loop
 shared-slice-read-if1 c = search needs
@@ -45,14 +45,14 @@ put-twin-requires c κs = search needs
 one-if-requires : tie.Need-one-if-requires Inv-loop μ-loop
 one-if-requires c κs = search needs
 
-add-same : tie.Need-add-same Inv-loop μ-loop
-add-same c = let few = c .before .before .before .before .before .before .before .before .before .loop .inv .3 .few in search needs
+add-copies : tie.Need-add-copies Inv-loop μ-loop
+add-copies c = let few = c .before .before .before .before .before .before .before .before .before .loop .inv .3 .few in search needs
 
 one-if-requires-2 : tie.Need-one-if-requires-2 Inv-loop μ-loop
 one-if-requires-2 c κs = search needs
 
-add-other : tie.Need-add-other Inv-loop μ-loop
-add-other c = let few = c .before .before .before .before .before .before .before .before .before .before .before .loop .inv .3 .few in search needs
+add-alike : tie.Need-add-alike Inv-loop μ-loop
+add-alike c = let few = c .before .before .before .before .before .before .before .before .before .before .before .loop .inv .3 .few in search needs
 
 one-if-requires-3 : tie.Need-one-if-requires-3 Inv-loop μ-loop
 one-if-requires-3 c κs = search needs
@@ -110,9 +110,9 @@ put-twins-spec =
     examine-requires
     put-twin-requires
     one-if-requires
-    add-same
+    add-copies
     one-if-requires-2
-    add-other
+    add-alike
     one-if-requires-3
     add-covered
     one-if-requires-4

@@ -1,8 +1,8 @@
 use Rattle.text.proofs.Texts.{said}
-use Rattle.audit_text.specs.Audit.{bytesWord}
+use Rattle.audit_text.specs.Audit.{verdictWord}
 use borrow.Author.Needs.{needs}
-use Rattle.audit_text.proofs.put_bytes.Statement.{statement}
-use Rattle.audit_text.proofs.put_bytes.Tie as tie
+use Rattle.audit_text.proofs.put_verdict.Statement.{statement}
+use Rattle.audit_text.proofs.put_verdict.Tie as tie
 
 slice-aggregate-put : tie.Need-slice-aggregate-put
 slice-aggregate-put c = search needs
@@ -14,7 +14,7 @@ same-length : tie.Need-same-length
 same-length c = search needs
 
 returns : tie.Need-returns
-unfolding bytesWord
+unfolding verdictWord
 returns c = (search needs, said (c .before .before .put .ensures .1) (rw (c .before .before .before .before .before .if1 .taken)))
 
 slice-aggregate-put-2 : tie.Need-slice-aggregate-put-2
@@ -27,11 +27,11 @@ same-length-2 : tie.Need-same-length-2
 same-length-2 c = search needs
 
 returns-2 : tie.Need-returns-2
-unfolding bytesWord
+unfolding verdictWord
 returns-2 c = (search needs, said (c .before .before .put2 .ensures .1) (rw (c .before .before .before .before .before .if1 .left)))
 
-pub put-bytes-spec : {M : Type 1} → statement M
-put-bytes-spec =
+pub put-verdict-spec : {M : Type 1} → statement M
+put-verdict-spec =
     tie.close
     (tie.spec
     slice-aggregate-put

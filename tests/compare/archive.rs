@@ -6,6 +6,7 @@ extern "C" {
     fn knot_blocks_pixels(blocks: *const u8, blocks_length: usize, format: u8, out: *mut u16, out_length: usize, done: *mut usize, infinite: *mut usize) -> u32;
     fn knot_block_fields(block: *const u8, block_length: usize, format: u8, numbers: *mut u16, room: usize) -> u32;
     fn knot_write_block(numbers: *const u16, count: usize, out: *mut u8, room: usize) -> u32;
+    fn knot_fields_pixels(numbers: *const u16, count: usize, out: *mut u16, out_length: usize) -> u32;
 }
 
 /// What stands in lent values before a call, to see which are written.
@@ -80,6 +81,21 @@ fn compare_written(block: [u8; 16], format: u8, tally: &mut Tally) {
     }
 }
 
+/// The fields of a block, shown: what the block shows, and where it has none a refusal that writes nothing.
+fn compare_shown(block: [u8; 16], format: u8, tally: &mut Tally) {
+    let (mut numbers, mut out) = ([0; 32], [UNTOUCHED; 50]);
+    let refused = fields(&block, format, &mut numbers) & 0xFF != 0;
+    let answer = unsafe { knot_fields_pixels(numbers.as_ptr(), 32, out.as_mut_ptr(), 50) };
+    let mut expected = [UNTOUCHED; 50];
+    if !refused {
+        expected[..48].copy_from_slice(oracle::pixels(block, format == 1).as_flattened());
+    }
+    tally.compared += 1;
+    if (answer, out) != (if refused { 10 } else { 0 }, expected) {
+        tally.differs("fields shown", format, &block);
+    }
+}
+
 /// Every length of block from 0 to 40 and of output from 0 to 100, every format: the number of document 01's table, first met
 /// wins, and on a refusal no value changed.
 fn compare_refusals(tally: &mut Tally) {
@@ -140,6 +156,7 @@ pub fn compare(extent: &Extent, tally: &mut Tally) {
             compare_pixels(block, 1, tally);
             compare_fields(block, block[15] % 2, tally);
             compare_written(block, block[15] % 2, tally);
+            compare_shown(block, (u128::from_le_bytes(block).count_ones() % 2) as u8, tally);
             run.push(block);
             if run.len() > runs % 100 {
                 compare_run(&run, (runs % 2) as u8, tally);
@@ -148,8 +165,8 @@ pub fn compare(extent: &Extent, tally: &mut Tally) {
             }
         });
         let runs = runs - before.1;
-        let blocks = (tally.compared - before.0 - runs as u64) / 4;
-        println!("{name}: {blocks} blocks, as unsigned, as signed, by fields, written back, and in {runs} runs");
+        let blocks = (tally.compared - before.0 - runs as u64) / 5;
+        println!("{name}: {blocks} blocks, as unsigned, as signed, by fields, written back, shown from fields, and in {runs} runs");
     });
     let before = tally.compared;
     compare_refusals(tally);

@@ -237,6 +237,11 @@ fn compare_record_refusals(tally: &mut Tally) {
 
 pub fn compare(extent: &Extent, tally: &mut Tally) {
     println!("seed {}, {} random blocks a code and format, one in {} of the endpoint pairs", extent.seed, extent.random, extent.pair_step);
+    compare_refusals(tally);
+    compare_run_refusals(tally);
+    compare_field_refusals(tally);
+    compare_record_refusals(tally);
+    println!("lengths, formats and rooms: {}", tally.compared);
     let mut runs = 0;
     for_each_class(extent, |name, walk| {
         let before = (tally.compared, runs);
@@ -258,10 +263,4 @@ pub fn compare(extent: &Extent, tally: &mut Tally) {
         let blocks = (tally.compared - before.0 - runs as u64) / 5;
         println!("{name}: {blocks} blocks, as unsigned, as signed, by fields, written back, shown from fields, and in {runs} runs");
     });
-    let before = tally.compared;
-    compare_refusals(tally);
-    compare_run_refusals(tally);
-    compare_field_refusals(tally);
-    compare_record_refusals(tally);
-    println!("lengths, formats and rooms: {}", tally.compared - before);
 }

@@ -1,4 +1,6 @@
-/* Knotpasture: a BC6H decoder whose every function is proved to do what is said here.
+/* Knotpasture: a decoder of BC6H and BC7 blocks. What is said here of a function's answer and of what it leaves in lent places is
+ * proved, for slices of every length and contents; that a pointer and a length are such a slice is the caller's part. What is said of
+ * memory, threads and stack is not a theorem: no source has state of its own or allocates, and the stack is measured.
  *
  * Link with the archive that `rt staticlib knotpasture` writes, target/staticlib/libknotpasture.a (x86-64).
  *

@@ -1,6 +1,7 @@
 //! Feeds our decoder and the Rust the same blocks and compares every value, mode, field and refusal.
 //!
 //!     compare short|long [SEED]                     through the archive (built with --cfg archive)
+//!     compare first [SEED]                          the same as short, up to the first difference
 //!     compare programs DECODE EXTRACT WRITE [SEED]  through the programs decode_blocks, extract_fields and write_blocks, or others
 //!                                                   that answer as they do
 //!     compare runs PROGRAM [SEED]                   through a program over the call for a run of blocks
@@ -45,6 +46,8 @@ pub fn field_numbers(block: [u8; 16], format: u8) -> (u8, [u16; 32]) {
 pub struct Tally {
     pub compared: u64,
     pub differing: u64,
+    /// Whether the first difference ends the run.
+    pub first: bool,
 }
 
 impl Tally {
@@ -54,7 +57,7 @@ impl Tally {
             let hex: String = block.iter().map(|byte| format!("{byte:02X}")).collect();
             println!("DIFFERENT: {what}: format {format}, block {hex}");
         }
-        if self.differing == 1000 {
+        if self.differing == 1000 || self.first {
             println!("{} comparisons, {} differ: stopped", self.compared, self.differing);
             std::process::exit(1);
         }
@@ -87,6 +90,11 @@ fn main() -> ExitCode {
     let mut tally = Tally::default();
     match words.first().map(String::as_str) {
         #[cfg(archive)]
+        Some("first") => {
+            tally.first = true;
+            archive::compare(&Extent { pair_step: 7, random: 50_000, seed: number(&words, 1, 1) }, &mut tally)
+        }
+        #[cfg(archive)]
         Some("short") => archive::compare(&Extent { pair_step: 7, random: 50_000, seed: number(&words, 1, 1) }, &mut tally),
         #[cfg(archive)]
         Some("long") => archive::compare(&Extent { pair_step: 1, random: 5_000_000, seed: number(&words, 1, 1) }, &mut tally),
@@ -96,7 +104,7 @@ fn main() -> ExitCode {
         Some("entries") => return programs::entries(number(&words, 1, 1)),
         Some("emit") => return programs::emit(number(&words, 1, 1), number(&words, 2, 0), number(&words, 3, 1)),
         _ => {
-            eprintln!("usage: compare short|long [SEED] | programs DECODE EXTRACT WRITE [SEED] | runs PROGRAM [SEED] | decode | entries SEED | emit COUNT FORMAT SEED");
+            eprintln!("usage: compare short|long|first [SEED] | programs DECODE EXTRACT WRITE [SEED] | runs PROGRAM [SEED] | decode | entries SEED | emit COUNT FORMAT SEED");
             return ExitCode::from(2);
         }
     }

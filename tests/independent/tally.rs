@@ -1,6 +1,8 @@
 //! Tells how another decoder's values differ from ours, class by class, with the block of fewest bits for each class.
 //!
-//!     tally RECORDS OURS THEIRS      17 bytes a record; 100 bytes an answer of ours; 96 bytes an answer of theirs
+//!     tally RECORDS OURS THEIRS [CLASS]   17 bytes a record; 100 bytes an answer of ours; 96 bytes an answer of theirs
+//!
+//! Status 1 where they differ in another way than CLASS, a class's name.
 use std::collections::BTreeMap;
 use std::process::ExitCode;
 
@@ -22,9 +24,10 @@ fn class_of(ours: u16, theirs: u16) -> &'static str {
 
 fn main() -> ExitCode {
     let words: Vec<String> = std::env::args().skip(1).collect();
-    let files: Vec<Vec<u8>> = words.iter().map(|path| std::fs::read(path).expect(path)).collect();
+    let known = words.get(3).map(String::as_str);
+    let files: Vec<Vec<u8>> = words.iter().take(3).map(|path| std::fs::read(path).expect(path)).collect();
     let [records, ours, theirs] = files.as_slice() else {
-        eprintln!("usage: tally RECORDS OURS THEIRS");
+        eprintln!("usage: tally RECORDS OURS THEIRS [CLASS]");
         return ExitCode::from(2);
     };
     let count = records.len() / 17;
@@ -64,5 +67,5 @@ fn main() -> ExitCode {
     if classes.is_empty() {
         println!("every value agrees");
     }
-    ExitCode::SUCCESS
+    if classes.keys().all(|&name| Some(name) == known) { ExitCode::SUCCESS } else { ExitCode::FAILURE }
 }

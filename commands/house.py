@@ -193,13 +193,21 @@ def number(word, what):
     return int(word)
 
 
-def program(name, data, words=()):
-    """Runs a proved program over `data`: what it writes to standard output and to standard error."""
+def program_at(name):
+    """Where a proved program stands: beside the commands where knot is installed, else below target/, proved and built of the sources."""
+    installed = ROOT / "programs" / name
+    if installed.is_file():
+        return installed
     if name not in built:
         if subprocess.run([ROOT / "tools/prove", name], stdin=subprocess.DEVNULL, stdout=subprocess.DEVNULL).returncode != 0:
             raise Trouble(f"the program {name} is not built: the reason stands above")
         built.add(name)
-    ran = subprocess.run([ROOT / "tools/run", ROOT / "target/built" / name, *words], input=data, stdout=subprocess.PIPE, stderr=subprocess.PIPE)
+    return ROOT / "target/built" / name
+
+
+def program(name, data, words=()):
+    """Runs a proved program over `data`: what it writes to standard output and to standard error."""
+    ran = subprocess.run([ROOT / "tools/run", program_at(name), *words], input=data, stdout=subprocess.PIPE, stderr=subprocess.PIPE)
     if ran.returncode != 0:
         raise Trouble(f"the program {name} failed with status {ran.returncode}{told_last(ran.stderr)}")
     return ran.stdout, ran.stderr
@@ -279,8 +287,10 @@ def asked(words):
 
 
 def version():
-    """Version, commit and the kit's identity."""
+    """Version, commit and the kit's identity. Where knot is installed, those that it was built with stand beside the commands."""
     number_of = (ROOT / "VERSION").read_text().strip()
+    if (ROOT / "BUILT").is_file():
+        return f"knot {number_of}\n{(ROOT / 'BUILT').read_text()}"
     commit = asked(["git", "-C", ROOT, "rev-parse", "--short=12", "HEAD"]) or "not known"
     changed = asked(["git", "-C", ROOT, "status", "--porcelain", "--untracked-files=no"])
     kit = asked(["rt", "version"]) or "not known: there is no 'rt' on the path"

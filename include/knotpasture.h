@@ -1,6 +1,7 @@
 /* Knotpasture: a BC6H decoder whose every function is proved to do what is said here.
  *
- * Link with the archive that `rt staticlib knotpasture` writes, target/staticlib/libknotpasture.a (x86-64).
+ * Link with libknotpasture.a or libknotpasture.so: `pkg-config --cflags --libs knotpasture` where tools/install put them, or a release is
+ * unpacked; in the repository `tools/libraries` writes both.
  *
  * No function keeps a pointer, allocates memory, has state of its own or fails: each answers for every input. A pointer is
  * followed by its length, in elements; it may be null where the length is 0. Lent input and lent output must not overlap.
@@ -21,6 +22,9 @@
 #ifdef __cplusplus
 extern "C" {
 #endif
+
+/* The version of this header: three numbers, of which the first is that of the shared library's name. */
+#define KNOT_VERSION "0.9.0"
 
 enum knot_answer {
     KNOT_DONE = 0,

@@ -67,7 +67,7 @@ def test_calls_are_the_headers():
 
 def test_words_and_numbers_are_the_commands():
     said = subprocess.run([sys.executable, "-B", "-c", "from commands import house; print(house.MEANINGS)"], cwd=ROOT, capture_output=True, text=True, check=True)
-    assert said.stdout.strip() == str(knotpasture.WORDS)
+    assert said.stdout.strip() == str(knotpasture.WORDS) and list(knotpasture.WORDS) == list(range(1, 25))
     numbers = {int(number) for number in re.findall(r"^    KNOT_[A-Z_]+ = (\d+),? +/\*", HEADER[HEADER.index("enum knot_answer"):HEADER.index("enum knot_format")], re.MULTILINE)}
     assert numbers - {0} == set(knotpasture.WORDS)
 

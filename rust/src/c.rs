@@ -16,6 +16,29 @@ extern "C" {
     pub fn knot_fields_pixels(numbers: *const u16, numbers_length: usize, out: *mut u16, out_length: usize) -> u32;
     pub fn knot_is_trusted(block: *const u8, block_length: usize, format: u8) -> bool;
 
+    pub fn knot_face_pixels(
+        blocks: *const u8,
+        blocks_length: usize,
+        width: usize,
+        height: usize,
+        format: u8,
+        out: *mut u16,
+        out_length: usize,
+        pitch: usize,
+        infinite: *mut usize,
+    ) -> u32;
+    pub fn knot_face_rgba(
+        blocks: *const u8,
+        blocks_length: usize,
+        width: usize,
+        height: usize,
+        format: u8,
+        out: *mut u16,
+        out_length: usize,
+        pitch: usize,
+        infinite: *mut usize,
+    ) -> u32;
+
     pub fn knot_record_at(store: *const u8, store_length: usize, n: usize) -> u64;
     pub fn knot_record_block(store: *const u8, store_length: usize, n: usize) -> usize;
     pub fn knot_tile_at(store: *const u8, store_length: usize, n: usize) -> u32;
@@ -32,6 +55,8 @@ extern "C" {
     pub fn knot_first_damaged(store: *const u8, store_length: usize) -> usize;
     pub fn knot_clean_store(store: *const u8, store_length: usize, out: *mut u8, out_length: usize) -> u64;
     pub fn knot_first_of(store: *const u8, store_length: usize, n: usize) -> usize;
+    pub fn knot_first_twin(store: *const u8, store_length: usize, n: usize) -> usize;
+    pub fn knot_is_covered(store: *const u8, store_length: usize, n: usize, earlier: usize) -> bool;
 
     pub fn knot_placed_record_at(store: *const u8, store_length: usize, n: usize, column: *mut u16, row: *mut u16) -> u64;
     pub fn knot_placed_record_block(store: *const u8, store_length: usize, n: usize) -> usize;

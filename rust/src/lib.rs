@@ -48,6 +48,8 @@ pub const PLACED_STORE_LIMIT: usize = 64_000;
 pub const FACES: u8 = 6;
 /// Blocks on an edge of a probe, at most.
 pub const EDGE_LIMIT: u32 = 16;
+/// The alpha of every pixel of [`face_rgba`], 1.0.
+pub const OPAQUE: u16 = 0x3C00;
 /// Bytes that a BC7 block shows: sixteen pixels of red, green, blue and alpha.
 pub const BC7_BYTES: usize = 64;
 /// The mode that [`bc7_pixels`] answers for a reserved block.
@@ -291,6 +293,35 @@ impl Fields {
     }
 }
 
+/// The pixels of a face of `width` by `height` blocks, in row order, become rows of pixels of three values, `pitch` values from the start of one
+/// row to that of the next; what lies between the rows stays. Answers how many of the values are minus infinity.
+///
+/// Refusals: 1, 15, 3 (a pitch below 12 · width, or room for fewer rows).
+///
+/// ```
+/// use knotpasture::{face_pixels, Format, Refused};
+///
+/// let blocks = [0; 6 * 16];
+/// let mut picture = vec![9; 8 * 40]; // 3 by 2 blocks in rows of 40 values
+/// face_pixels(&blocks, 3, 2, Format::Unsigned, &mut picture, 40)?;
+/// assert_eq!((picture[35], picture[36], picture[40]), (0, 9, 0));
+/// # Ok::<(), Refused>(())
+/// ```
+pub fn face_pixels(blocks: &[u8], width: usize, height: usize, format: impl Into<u8>, out: &mut [u16], pitch: usize) -> Result<usize, Refused> {
+    let (mut infinite, format, lent, room) = (0, format.into(), out.as_mut_ptr(), out.len());
+    let word = unsafe { c::knot_face_pixels(blocks.as_ptr(), blocks.len(), width, height, format, lent, room, pitch, &mut infinite) };
+    done(word.into()).map(|_| infinite)
+}
+
+/// [`face_pixels`] with four values a pixel, of which the fourth is [`OPAQUE`].
+///
+/// Refusals: 1, 15, 3 (a pitch below 16 · width, or room for fewer rows).
+pub fn face_rgba(blocks: &[u8], width: usize, height: usize, format: impl Into<u8>, out: &mut [u16], pitch: usize) -> Result<usize, Refused> {
+    let (mut infinite, format, lent, room) = (0, format.into(), out.as_mut_ptr(), out.len());
+    let word = unsafe { c::knot_face_rgba(blocks.as_ptr(), blocks.len(), width, height, format, lent, room, pitch, &mut infinite) };
+    done(word.into()).map(|_| infinite)
+}
+
 /// Whether a block by itself meets the premises of the copies theorem: two such blocks of one format, mode and partition that show the
 /// same values are the same bytes. False for any other length or format.
 pub fn is_trusted(block: &[u8], format: impl Into<u8>) -> bool {
@@ -399,6 +430,16 @@ pub fn clean_store(store: &[u8], out: &mut [u8]) -> Result<Cleaned, Refused> {
 /// The record that stays for record n where [`clean_store`] removes that; n where it stays, and where there is no such record.
 pub fn first_of(store: &[u8], n: usize) -> usize {
     unsafe { c::knot_first_of(store.as_ptr(), store.len(), n) }
+}
+
+/// The first earlier record that record n is a twin of; n itself where it is no twin, is refused, or is not there.
+pub fn first_twin(store: &[u8], n: usize) -> usize {
+    unsafe { c::knot_first_twin(store.as_ptr(), store.len(), n) }
+}
+
+/// Whether the copies theorem covers two records of a store: twins that are covered are copies of each other, byte for byte.
+pub fn is_covered(store: &[u8], n: usize, earlier: usize) -> bool {
+    unsafe { c::knot_is_covered(store.as_ptr(), store.len(), n, earlier) }
 }
 
 /// Where a tile lies on a probe.

@@ -1,0 +1,3 @@
+pub mod Scatter
+pub mod Places
+pub mod Calls

@@ -5,20 +5,7 @@
  */
 #include "knotpasture.h"
 
-int printf(const char *format, ...);
-
-static unsigned checks, failures;
-
-#define CHECK(condition) check((condition), #condition, __LINE__)
-
-static void check(int holds, const char *condition, int line)
-{
-    checks++;
-    if (!holds) {
-        failures++;
-        printf("face.c:%d: not so: %s\n", line, condition);
-    }
-}
+#include "check.h"
 
 enum { WIDE = 3, HIGH = 2, BYTES = 16 * WIDE * HIGH, UNTOUCHED = 0xA55A, MOST = 1000 };
 

@@ -8,6 +8,7 @@ import importlib
 import os
 import pathlib
 import re
+import runpy
 import subprocess
 import sys
 import tempfile
@@ -37,33 +38,8 @@ DONE, REFUSED, USAGE, TROUBLE = 0, 1, 2, 3
 BLOCK, RECORD = 16, 24
 STORE, PLACED_STORE = 48_000, 64_000
 
-# What a number means, in one line.
-MEANINGS = {
-    1: "the format is neither 0 (unsigned) nor 1 (signed)",
-    2: "the block is not 16 bytes long",
-    3: "the room for the result is too small",
-    4: "the mode is reserved",
-    5: "the store has more than 2,000 records",
-    6: "the store's length is not a whole number of records",
-    7: "a spare byte of a record is not zero",
-    8: "there is no record of that number",
-    9: "the blocks' length is not a multiple of 16",
-    10: "no block has these fields",
-    11: "the block's buffer is not 16 bytes long",
-    12: "a record that is not refused has a reserved mode: the capture is damaged",
-    13: "the header is not that of a BC6H texture of one level under the DX10 header",
-    14: "the width or height is out of range",
-    15: "the block bytes are short or left over for the size",
-    16: "the width or height is zero, not a multiple of 4 or above 4,096",
-    17: "the face is bad, or a record that is not placed has a position",
-    18: "a placed record does not move back",
-    19: "the edge is not 1 to 16",
-    20: "a record is not placed",
-    21: "a position is at or past the edge",
-    22: "a place is taken twice",
-    23: "a place is empty",
-    24: "the face, x or y is out of range",
-}
+# What a number means, in one line: the words of the Python package, which stand beside the commands where knot is installed.
+MEANINGS = runpy.run_path(next(path for path in (ROOT / "words.py", ROOT / "python/knotpasture/words.py") if path.is_file()))["WORDS"]
 
 # The name of what was read last: what a refusal speaks of.
 read_last = None
@@ -194,13 +170,21 @@ def number(word, what):
     return int(word)
 
 
-def program(name, data, words=()):
-    """Runs a proved program over `data`: what it writes to standard output and to standard error."""
+def program_at(name):
+    """Where a proved program stands: beside the commands where knot is installed, else below target/, proved and built of the sources."""
+    installed = ROOT / "programs" / name
+    if installed.is_file():
+        return installed
     if name not in built:
         if subprocess.run([ROOT / "tools/prove", name], stdin=subprocess.DEVNULL, stdout=subprocess.DEVNULL).returncode != 0:
             raise Trouble(f"the program {name} is not built: the reason stands above")
         built.add(name)
-    ran = subprocess.run([ROOT / "tools/run", ROOT / "target/built" / name, *words], input=data, stdout=subprocess.PIPE, stderr=subprocess.PIPE)
+    return ROOT / "target/built" / name
+
+
+def program(name, data, words=()):
+    """Runs a proved program over `data`: what it writes to standard output and to standard error."""
+    ran = subprocess.run([ROOT / "tools/run", program_at(name), *words], input=data, stdout=subprocess.PIPE, stderr=subprocess.PIPE)
     if ran.returncode != 0:
         raise Trouble(f"the program {name} failed with status {ran.returncode}{told_last(ran.stderr)}")
     return ran.stdout, ran.stderr
@@ -280,8 +264,10 @@ def asked(words):
 
 
 def version():
-    """Version, commit and the kit's identity."""
+    """Version, commit and the kit's identity. Where knot is installed, those that it was built with stand beside the commands."""
     number_of = (ROOT / "VERSION").read_text().strip()
+    if (ROOT / "BUILT").is_file():
+        return f"knot {number_of}\n{(ROOT / 'BUILT').read_text()}"
     commit = asked(["git", "-C", ROOT, "rev-parse", "--short=12", "HEAD"]) or "not known"
     changed = asked(["git", "-C", ROOT, "status", "--porcelain", "--untracked-files=no"])
     kit = asked(["rt", "version"]) or "not known: there is no 'rt' on the path"

@@ -2,7 +2,8 @@
  * proved, for slices of every length and contents; that a pointer and a length are such a slice is the caller's part. What is said of
  * memory, threads and stack is not a theorem: no source has state of its own or allocates, and the stack is measured.
  *
- * Link with the archive that `rt staticlib knotpasture` writes, target/staticlib/libknotpasture.a (x86-64).
+ * Link with libknotpasture.a or libknotpasture.so: `pkg-config --cflags --libs knotpasture` where tools/install put them, or a release is
+ * unpacked; in the repository `tools/libraries` writes both.
  *
  * No function keeps a pointer, allocates memory, has state of its own or fails: each answers for every input. A pointer is
  * followed by its length, in elements; it may be null where the length is 0. Lent input and lent output must not overlap.
@@ -24,11 +25,14 @@
 extern "C" {
 #endif
 
+/* The version of this header: three numbers, of which the first is that of the shared library's name. */
+#define KNOT_VERSION "0.9.0"
+
 enum knot_answer {
     KNOT_DONE = 0,
     KNOT_BAD_FORMAT = 1,    /* format number is neither KNOT_UNSIGNED nor KNOT_SIGNED */
     KNOT_BAD_BLOCK = 2,     /* block length is not KNOT_BLOCK_SIZE */
-    KNOT_SHORT_OUTPUT = 3,  /* lent output too short */
+    KNOT_SHORT_OUTPUT = 3,  /* lent output too short; of a face, also a pitch below a row's values */
     KNOT_RESERVED_MODE = 4, /* reserved mode, from the field call only */
     KNOT_LONG_STORE = 5,    /* store longer than KNOT_STORE_LIMIT bytes; of records with a place, KNOT_PLACED_STORE_LIMIT */
     KNOT_UNEVEN_STORE = 6,  /* store length not a multiple of KNOT_RECORD_SIZE; of records with a place, of KNOT_PLACED_SIZE */
@@ -40,7 +44,7 @@ enum knot_answer {
     KNOT_RESERVED_BLOCK = 12, /* reserved block in the store, from the strict twin list only */
     KNOT_FOREIGN_HEADER = 13, /* DDS header that is not ours */
     KNOT_BAD_SIZE = 14,     /* a DDS file's width or height is not 1 to KNOT_DDS_LIMIT */
-    KNOT_BAD_BLOCKS = 15,   /* block bytes short or left over for the size */
+    KNOT_BAD_BLOCKS = 15,   /* block bytes short or left over for the size of a file or a face */
     KNOT_UNEVEN_SIZE = 16,  /* a Portable Float Map's width or height is 0, no multiple of 4 or above KNOT_PFM_LIMIT */
     KNOT_BAD_PLACE = 17,    /* bad face, or a record that is not placed has a column or a row */
     KNOT_PLACED_RECORD = 18, /* placed record on the way back, from knot_unplace_store only */
@@ -97,6 +101,34 @@ uint32_t knot_block_pixels(const uint8_t *block, size_t block_length, uint8_t fo
  */
 uint32_t knot_blocks_pixels(const uint8_t *blocks, size_t blocks_length, uint8_t format, uint16_t *out, size_t out_length,
                             size_t *done, size_t *infinite);
+
+/* The pixels of a face of width by height blocks, in rows: the blocks in row order, the top row first, become rows of pixels from the top
+ * down, pitch values from the start of one row to the start of the next. Width and height are in blocks, the pitch is in values. Channel c of
+ * pixel (x, y), red, green, blue, stands at out[pitch * y + 3 * x + c]: it is what knot_block_pixels writes of block width * (y div 4) + x div 4
+ * for its pixel 4 * (y mod 4) + x mod 4. Every other value of out stays, those between two rows too. Each block is decoded once.
+ *
+ * Answers the number; *infinite becomes how many of the values are minus infinity, 0xFC00, and 0 on a refusal. A face without a block, width
+ * or height 0 and no block bytes, is done and writes nothing, whatever pitch and room. Refusals: 1, 15 (not 16 * width * height block bytes),
+ * 3 (a pitch below 12 * width, or fewer values of room than pitch * (4 * height - 1) + 12 * width), in this order.
+ *
+ * What knot_blocks_pixels writes of n blocks is a face of 1 by n with a pitch of 12.
+ *
+ * Stack: 550 bytes.
+ */
+uint32_t knot_face_pixels(const uint8_t *blocks, size_t blocks_length, size_t width, size_t height, uint8_t format, uint16_t *out,
+                          size_t out_length, size_t pitch, size_t *infinite);
+
+enum { KNOT_OPAQUE = 0x3C00 /* the alpha of every pixel: 1.0 */ };
+
+/* The same with four values a pixel, red, green, blue and alpha, which is KNOT_OPAQUE in every pixel: channel c of pixel (x, y) stands at
+ * out[pitch * y + 4 * x + c]. Red, green and blue, the answer and *infinite are those of knot_face_pixels.
+ *
+ * Refusals: 1, 15, 3 (a pitch below 16 * width, or fewer values of room than pitch * (4 * height - 1) + 16 * width), in this order.
+ *
+ * Stack: 550 bytes.
+ */
+uint32_t knot_face_rgba(const uint8_t *blocks, size_t blocks_length, size_t width, size_t height, uint8_t format, uint16_t *out,
+                        size_t out_length, size_t pitch, size_t *infinite);
 
 /* The fields of a block, as stored, before any sign extension or transform, and the format that they are read in:
  *
@@ -182,7 +214,7 @@ uint64_t knot_twin_list(const uint8_t *store, size_t store_length, uint8_t *mark
  *
  * Refusals: 5, 6, 3 (fewer marks than records, or scratch space for fewer).
  *
- * Stack: 400 bytes.
+ * Stack: 450 bytes.
  */
 uint64_t knot_twin_list_in(const uint8_t *store, size_t store_length, uint8_t *marks, size_t marks_length, uint16_t *scratch,
                            size_t scratch_length);
@@ -203,6 +235,21 @@ uint64_t knot_strict_twin_list(const uint8_t *store, size_t store_length, uint8_
  * Stack: 50 bytes.
  */
 size_t knot_first_damaged(const uint8_t *store, size_t store_length);
+
+/* The first earlier record that record n is a twin of (KNOT_TWIN): its number; n itself where n is no twin, and where knot_record_at refuses n
+ * or there is no such record. So record n is a twin exactly where the answer is below n.
+ *
+ * Stack: 500 bytes.
+ */
+size_t knot_first_twin(const uint8_t *store, size_t store_length, size_t n);
+
+/* Whether the copies theorem covers records n and earlier of a store: neither is refused, both have one format, knot_is_trusted holds of both
+ * blocks in it, and the blocks have one mode and one partition. A twin n that is covered together with knot_first_twin of n has the same
+ * sixteen block bytes as that record: what goes with it is its tile number. False where one of the two is refused or there is no such record.
+ *
+ * Stack: 1,800 bytes.
+ */
+bool knot_is_covered(const uint8_t *store, size_t store_length, size_t n, size_t earlier);
 
 /* Writes the records of a store that stay, in order and byte for byte, to out; the rest of out stays. A record is removed exactly when
  * an earlier record that stays has the same format and the same sixteen block bytes, and neither is refused or reserved. Twins that only
@@ -325,7 +372,7 @@ uint32_t knot_probe_face(const uint8_t *store, size_t store_length, uint32_t edg
  * the lowest number of its precision. Two such blocks of one format, mode and partition that show the same 48 values are the same
  * sixteen bytes: deleting one of the two loses nothing. False for any other format or length.
  *
- * Stack: 1,600 bytes.
+ * Stack: 1,650 bytes.
  */
 bool knot_is_trusted(const uint8_t *block, size_t block_length, uint8_t format);
 

@@ -1,20 +1,7 @@
 /* Calls the functions for BC7 of knotpasture.h as a C program does, with good and bad input. Prints each check that fails. */
 #include "knotpasture.h"
 
-int printf(const char *format, ...);
-
-static unsigned checks, failures;
-
-#define CHECK(condition) check((condition), #condition, __LINE__)
-
-static void check(int holds, const char *condition, int line)
-{
-    checks++;
-    if (!holds) {
-        failures++;
-        printf("bc7.c:%d: not so: %s\n", line, condition);
-    }
-}
+#include "check.h"
 
 /* Document 03's C1, C4, C7, C9 and C11, one behind the other, and a byte more. */
 static const uint8_t BLOCKS[5 * 16 + 1] = {

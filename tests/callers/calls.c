@@ -1,20 +1,7 @@
 /* Calls every function of knotpasture.h as a C program does, with good and bad input. Prints each check that fails. */
 #include "knotpasture.h"
 
-int printf(const char *format, ...);
-
-static unsigned checks, failures;
-
-#define CHECK(condition) check((condition), #condition, __LINE__)
-
-static void check(int holds, const char *condition, int line)
-{
-    checks++;
-    if (!holds) {
-        failures++;
-        printf("calls.c:%d: not so: %s\n", line, condition);
-    }
-}
+#include "check.h"
 
 static const uint8_t B1[17] = {0};
 static const uint8_t B2[16] = {0x13};

@@ -1,20 +1,7 @@
 /* Calls the functions of knotpasture.h over DDS files as a C program does, with good and bad input. Prints each check that fails. */
 #include "knotpasture.h"
 
-int printf(const char *format, ...);
-
-static unsigned checks, failures;
-
-#define CHECK(condition) check((condition), #condition, __LINE__)
-
-static void check(int holds, const char *condition, int line)
-{
-    checks++;
-    if (!holds) {
-        failures++;
-        printf("dds.c:%d: not so: %s\n", line, condition);
-    }
-}
+#include "check.h"
 
 enum { BLOCKS = 32, FILE_LENGTH = KNOT_DDS_HEADER + BLOCKS, UNTOUCHED = 0xA5 };
 

@@ -4,25 +4,13 @@
  */
 #include "knotpasture.h"
 
-int printf(const char *format, ...);
+#include "check.h"
+
 void *malloc(size_t size);
 void free(void *room);
 void *memset(void *to, int byte, size_t size);
 void *memcpy(void *to, const void *from, size_t size);
 int memcmp(const void *a, const void *b, size_t size);
-
-static unsigned checks, failures;
-
-#define CHECK(condition) check((condition), #condition, __LINE__)
-
-static void check(int holds, const char *condition, int line)
-{
-    checks++;
-    if (!holds) {
-        failures++;
-        printf("pfm.c:%d: not so: %s\n", line, condition);
-    }
-}
 
 enum { SIDE_BYTES = 32, LENGTH = 12 + 12 * 32, UNTOUCHED = 0xA5 };
 

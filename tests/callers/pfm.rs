@@ -1,25 +1,7 @@
-//! Calls the functions of include/knotpasture.h over Portable Float Maps as a Rust program does: declarations, a safe wrapper for each, and
-//! checks with good and bad input.
+//! Calls the functions over Portable Float Maps through the crate of rust/, with good and bad input.
 
-mod knot {
-    mod c {
-        extern "C" {
-            pub fn knot_pfm_write(blocks: *const u8, blocks_length: usize, format: u8, width: u32, height: u32, out: *mut u8, out_length: usize) -> u64;
-            pub fn knot_pfm_length(width: u32, height: u32) -> usize;
-        }
-    }
-
-    /// How many of the first bytes of `out` are now the file, or a refusal's number.
-    pub fn pfm_write(blocks: &[u8], format: u8, width: u32, height: u32, out: &mut [u8]) -> Result<usize, u8> {
-        let word = unsafe { c::knot_pfm_write(blocks.as_ptr(), blocks.len(), format, width, height, out.as_mut_ptr(), out.len()) };
-        if word as u8 == 0 { Ok((word >> 8) as usize) } else { Err(word as u8) }
-    }
-
-    /// The length of the file of a picture, where the size is not refused.
-    pub fn pfm_length(width: u32, height: u32) -> Option<usize> {
-        Some(unsafe { c::knot_pfm_length(width, height) }).filter(|length| *length != 0)
-    }
-}
+use knotpasture::Format::Signed;
+use knotpasture::{self as knot, Refused};
 
 /// As signed, minus infinity everywhere in red; and a block whose two lower rows have 0x85D0 in red.
 const LOWEST: [u8; 16] = [0x0F, 0, 0, 0, 0x80, 0, 0, 0, 0, 0, 0, 0, 0, 0, 0, 0];
@@ -34,13 +16,13 @@ fn main() {
     }
 
     let mut out = vec![0xA5; length + 8];
-    assert_eq!(knot::pfm_write(&blocks, 2, 5, 4, &mut []), Err(1));
-    assert_eq!(knot::pfm_write(&blocks, 1, 5, 4, &mut []), Err(16));
-    assert_eq!(knot::pfm_write(&blocks[1..], 1, 8, 4, &mut []), Err(15));
-    assert_eq!(knot::pfm_write(&blocks, 1, 8, 4, &mut out[..length - 1]), Err(3));
+    assert_eq!(knot::pfm_write(&blocks, 2u8, 5, 4, &mut []), Err(Refused::BAD_FORMAT));
+    assert_eq!(knot::pfm_write(&blocks, Signed, 5, 4, &mut []), Err(Refused::UNEVEN_SIZE));
+    assert_eq!(knot::pfm_write(&blocks[1..], Signed, 8, 4, &mut []), Err(Refused::BAD_BLOCKS));
+    assert_eq!(knot::pfm_write(&blocks, Signed, 8, 4, &mut out[..length - 1]), Err(Refused::SHORT_OUTPUT));
     assert!(out.iter().all(|byte| *byte == 0xA5));
 
-    assert_eq!(knot::pfm_write(&blocks, 1, 8, 4, &mut out), Ok(length));
+    assert_eq!(knot::pfm_write(&blocks, Signed, 8, 4, &mut out), Ok(length));
     assert!(out[length..].iter().all(|byte| *byte == 0xA5));
     assert_eq!(&out[..12], b"PF\n8 4\n-1.0\n");
     for y in 0..4 {

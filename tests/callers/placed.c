@@ -1,20 +1,7 @@
 /* Calls the functions of knotpasture.h over records with a place as a C program does. Prints each check that fails. */
 #include "knotpasture.h"
 
-int printf(const char *format, ...);
-
-static unsigned checks, failures;
-
-#define CHECK(condition) check((condition), #condition, __LINE__)
-
-static void check(int holds, const char *condition, int line)
-{
-    checks++;
-    if (!holds) {
-        failures++;
-        printf("placed.c:%d: not so: %s\n", line, condition);
-    }
-}
+#include "check.h"
 
 static uint8_t old[48024], new[64032], back[48001];
 static uint16_t column, row;

@@ -1,20 +1,7 @@
 /* Calls the probe's functions of knotpasture.h as a C program does, with good and bad input. Prints each check that fails. */
 #include "knotpasture.h"
 
-int printf(const char *format, ...);
-
-static unsigned checks, failures;
-
-#define CHECK(condition) check((condition), #condition, __LINE__)
-
-static void check(int holds, const char *condition, int line)
-{
-    checks++;
-    if (!holds) {
-        failures++;
-        printf("probe.c:%d: not so: %s\n", line, condition);
-    }
-}
+#include "check.h"
 
 /* Mode 11: red is 0 in the pixels at index 0 and 0x7BFF in pixel 15, at the last index. */
 static const uint8_t LAST_RED[16] = {0x03, 0, 0, 0, 0xF8, 0x1F, 0, 0, 0, 0, 0, 0, 0, 0, 0, 0xF0};

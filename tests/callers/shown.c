@@ -2,20 +2,7 @@
  * what the block shows. Prints each check that fails. */
 #include "knotpasture.h"
 
-int printf(const char *format, ...);
-
-static unsigned checks, failures;
-
-#define CHECK(condition) check((condition), #condition, __LINE__)
-
-static void check(int holds, const char *condition, int line)
-{
-    checks++;
-    if (!holds) {
-        failures++;
-        printf("shown.c:%d: not so: %s\n", line, condition);
-    }
-}
+#include "check.h"
 
 enum { UNTOUCHED = 0xA55A, ROOM = 64 };
 

@@ -1,6 +1,7 @@
 // The public calls for C and Rust, as include/knotpasture.h declares them. A slice is a pointer and a length.
 pub mod bc7_calls;
 pub mod dds_calls;
+pub mod face_calls;
 pub mod pfm_calls;
 pub mod placed;
 pub mod probes;

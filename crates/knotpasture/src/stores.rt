@@ -1,9 +1,11 @@
-// Calls over a whole store, for C: the twin list over lent scratch space, the first damaged record, and a clean-up.
+// Calls over a whole store, for C: the twin list over lent scratch space, the first damaged record, what a clean-up may rely on, and a clean-up.
 
 ghost use mathlib.Core.Path.{_≡_};
 ghost use Prim.Native.Nat.{_+_, _≤_};
 ghost use Rattle.clean.specs.Clean.{firstOf};
+ghost use Rattle.cleanup.specs.CleanUp.{covered};
 ghost use Rattle.strict.specs.Strict.{firstDamaged};
+ghost use Rattle.twins.specs.Twins.{firstTwin};
 ghost use Rattle.knotpasture.specs.Stores.{cleanWord, CleanCalled, TwinsInCalled};
 use super::list_word;
 use clean::Cleaned;
@@ -20,6 +22,20 @@ pub extern "C" fn knot_first_damaged(store: &[u8]) -> usize
     ensures { λ r. ⌜ r ≡ firstDamaged (now (store .entry)) ⌝ }
 {
     strict::first_damaged(store)
+}
+
+#[no_mangle]
+pub extern "C" fn knot_first_twin(store: &[u8], n: usize) -> usize
+    ensures { λ r. ⌜ r ≡ firstTwin (now (store .entry)) n ⌝ }
+{
+    twins::first_twin(store, n)
+}
+
+#[no_mangle]
+pub extern "C" fn knot_is_covered(store: &[u8], n: usize, earlier: usize) -> bool
+    ensures { λ r. ⌜ r ≡ covered (now (store .entry)) n earlier ⌝ }
+{
+    cleanup::is_covered(store, n, earlier)
 }
 
 // The number and the counts of a clean-up.

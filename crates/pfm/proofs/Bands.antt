@@ -1,22 +1,21 @@
 -- A row of blocks: the lengths of its parts, what a block that was decoded gives, and the loop that fills four rows of pixels. Assumes nothing.
 use mathlib.Core.Path.{_≡_, _∙_, sym, ap, ap₂}
-use mathlib.Core.List.{List, [], _++_, append-nil, append-assoc}
+use mathlib.Core.List.{List, [], _++_, append-assoc}
 use mathlib.Core.Logic.{⊎-elim}
 use Prim.Native.Nat.{ℕ, _+_, _-_, _*_, _≤_, _<_}
 use native.Mathlib.Nat.{mul-le-mul, mul-le-mul-left, mul-add, mul-assoc}
 use native.Mathlib.Omega.{arith}
-use lib.ListN.{length, getD, take, drop, length-append, length-drop, take-append-drop, drop-of-length-le}
+use lib.ListN.{length, getD, take, drop, length-append, length-drop, take-append-drop}
 use lib.Seq.{sets, drop-drop, length-take-le}
 use Rattle.laws.specs.Made.{made, join}
 use Rattle.laws.proofs.Tests.{cases}
-use Rattle.bc6h_spec.specs.Answers.{done}
 use Rattle.bc6h_spec.specs.Picture.{isSigned}
 use Rattle.bc6h_spec.specs.Block.{pixelsOf}
 use Rattle.bc6.specs.declared.Pixels.{Pixels}
-use Rattle.bc6.specs.Call.{refusalOf, Painted}
-use Rattle.bc6.proofs.Calls.{done-when, written}
+use Rattle.bc6.specs.Call.{Painted}
 use Rattle.bc6.proofs.Values.{unsigned-highest, signed-highest}
 use Rattle.bc6_blocks.specs.Run.{blockAt}
+use Rattle.bc6_blocks.proofs.Decoded.{decoding-done}
 use Rattle.floats.specs.declared.Rgb.{Rgb}
 use Rattle.floats.specs.Half.{IsNumber}
 use Rattle.floats.specs.Bytes.{rgbBytes}
@@ -95,16 +94,10 @@ block-stores colours stride l l1 l2 l3 l4 at a b c d =
 
 module _ {block : List ℕ} {format : ℕ} {out : List ℕ} {r : Pixels} {after : List ℕ} (p : Painted block format out r after)
     (f : format ≤ 1) (sixteen : length block ≡ 16) (room : length out ≡ 48) where
-  fine : refusalOf format (length block) (length out) ≡ done
-  fine = done-when format (length block) (length out) f sixteen (omega arith)
-
-  pub decoded : after ≡ pixelsOf (isSigned format) block
-  decoded =
-      written p fine ∙ ap (λ (t : List ℕ). pixelsOf (isSigned format) block ++ t) (drop-of-length-le out {i = 48} (omega arith)) ∙ append-nil (pixelsOf (isSigned format) block)
-
   -- "Each format has a highest pattern": none of the 48 values is a NaN
   number-at : (j : ℕ) → j < 48 → IsNumber (getD after j 0)
   number-at j h =
+      let fine = decoding-done p f sixteen room in
       cases (isSigned format)
       (λ s. ⊎-elim (λ e. rw e (omega arith)) (λ l. omega arith) (signed-highest p fine j h s))
       (λ s. let l : getD after j 0 ≤ 0x7BFF = unsigned-highest p fine j h s in omega arith)

@@ -1,0 +1,4 @@
+pub mod Scatter
+pub mod Places
+pub mod Calls
+pub mod Again

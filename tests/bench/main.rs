@@ -4,7 +4,7 @@
 //! decoding their blocks.
 //!
 //!     bench                  the table
-//!     bench fields           the fields' part of it
+//!     bench fields|runs      the part of it on fields, or on runs of blocks
 //!     bench ours|rust        decodes 100,000 mixed blocks with one side, in `counted`, for a count of instructions
 #[allow(dead_code)]
 #[path = "../compare/blocks.rs"]
@@ -111,33 +111,29 @@ fn table() {
     twins(&groups[0].1);
 }
 
-/// Nanoseconds a block of mixed modes: one call for the run, and a call for each block, both into one run of values.
+/// Nanoseconds a block of mixed modes: the same million blocks in runs of one size, a call a run, and a call for each block, both into one run
+/// of values.
 fn runs(modes: &[&Mode]) {
-    println!("{:12} {:9} {:>16} {:>16} {:>6}", "run of", "format", "one call, ns", "a call each, ns", "ratio");
-    for count in [1, 64, 4096, 1_048_576] {
-        let blocks = blocks_of(modes, count);
-        let (mut at_once, mut in_turn) = (vec![0u16; 48 * count], vec![0u16; 48 * count]);
-        let rounds = (500_000 / count).max(1);
+    println!("{:12} {:9} {:>16} {:>16} {:>6}", "runs of", "format", "a call a run, ns", "a call each, ns", "ratio");
+    let blocks = blocks_of(modes, 1_048_576);
+    let (mut at_once, mut in_turn) = (vec![0u16; 48 * blocks.len()], vec![0u16; 48 * blocks.len()]);
+    for count in [1, 64, 4096, blocks.len()] {
         for (format, name) in [(0, "unsigned"), (1, "signed")] {
             let run = || {
-                for _ in 0..rounds {
-                    let bytes = black_box(blocks.as_flattened());
-                    let (mut done, mut infinite) = (0, 0);
-                    let (lent, room) = (at_once.as_mut_ptr(), at_once.len());
-                    unsafe { knot_blocks_pixels(bytes.as_ptr(), bytes.len(), black_box(format), lent, room, &mut done, &mut infinite) };
+                for (part, values) in black_box(&blocks).chunks(count).zip(at_once.chunks_mut(48 * count)) {
+                    let (bytes, mut done, mut infinite) = (part.as_flattened(), 0, 0);
+                    unsafe { knot_blocks_pixels(bytes.as_ptr(), bytes.len(), black_box(format), values.as_mut_ptr(), values.len(), &mut done, &mut infinite) };
                     assert_eq!(black_box(done), count);
                 }
             };
             let turns = || {
-                for _ in 0..rounds {
-                    for (block, values) in black_box(&blocks).iter().zip(in_turn.chunks_exact_mut(48)) {
-                        unsafe { knot_block_pixels(block.as_ptr(), 16, black_box(format), values.as_mut_ptr(), 48) };
-                    }
-                    black_box(&in_turn);
+                for (block, values) in black_box(&blocks).iter().zip(in_turn.chunks_exact_mut(48)) {
+                    unsafe { knot_block_pixels(block.as_ptr(), 16, black_box(format), values.as_mut_ptr(), 48) };
                 }
+                black_box(&in_turn);
             };
             let (whole, each) = best(run, turns);
-            let cost = |seconds: f64| seconds * 1e9 / (rounds * count) as f64;
+            let cost = |seconds: f64| seconds * 1e9 / blocks.len() as f64;
             println!("{count:<12} {name:9} {:>16.1} {:>16.1} {:>6.2}", cost(whole), cost(each), each / whole);
         }
     }
@@ -226,12 +222,13 @@ fn count(decode: fn(&[u8; 16], u8, &mut [u16; 48])) {
 fn main() {
     match std::env::args().nth(1).as_deref() {
         None => table(),
-        Some("fields") => {
+        Some(part @ ("fields" | "runs")) => {
             let modes = Mode::all();
-            fields("mixed", &modes.iter().filter(|mode| !mode.reserved()).collect::<Vec<_>>());
+            let mixed: Vec<_> = modes.iter().filter(|mode| !mode.reserved()).collect();
+            if part == "runs" { runs(&mixed) } else { fields("mixed", &mixed) }
         }
         Some("ours") => count(ours),
         Some("rust") => count(rust),
-        Some(word) => eprintln!("bench takes fields, ours, rust or nothing, and not {word}"),
+        Some(word) => eprintln!("bench takes fields, runs, ours, rust or nothing, and not {word}"),
     }
 }

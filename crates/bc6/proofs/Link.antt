@@ -34,7 +34,8 @@ use Rattle.bcn_util.proofs.Indexing.{index-read}
 use Rattle.bcn_data.proofs.Fixups.{fixup-range}
 use Rattle.bc6_runs.proofs.Partition.{partition-at}
 use Rattle.bc6_endpoints.specs.Ends.{wordOf}
-use Rattle.bc6_paint.specs.Values.{channelEnds, pairEnds, digit, shadeOf, valueOf, oneValue, twoValue, PaintedAs, PaintedIn}
+use Rattle.lanes.specs.Lanes.{acrossThree, alongTwo}
+use Rattle.bc6_paint.specs.Values.{digit, shadeOf, valueOf, oneValue, twoValue, PaintedAs, PaintedIn}
 use Rattle.bc6_paint.proofs.Points.{worked-out}
 use Rattle.bc6.specs.Shown.{partitionIn, Picked, OnePicked}
 use Rattle.bc6.specs.declared.Picks.{Picks}
@@ -119,13 +120,13 @@ module _ (s : Bool) (format m n : ℕ) (known-format : format ≤ 1) (low : 1 �
       (otherEnd s (transformed m) (precision m) (ownWidth m c) (firstEnd s (precision m) (stored-is 0 c (lit< tt) hc i)) (stored-is e c he hc i))))
 
   pub two-picture : m ≤ 10 → {r : Ends} → TwoEnds s m n r → (picks : Picks) → Picked n picks
-      → made (twoValue s (channelEnds (r .first) (r .second) (r .third)) (picks .map) (picks .indices)) 48 ≡ pictureAs s f
+      → made (twoValue s (acrossThree (r .first) (r .second) (r .third)) (picks .map) (picks .indices)) 48 ≡ pictureAs s f
   unfolding pictureAs fieldsAt
   two-picture h {r} t picks k =
       let two : twoRegions m ≡ true = le-leb m 10 h in
       let part : gathered (row m) n 13 ≡ partitionIn n = partition-at m n low h in
       made-same _ (value s f) 48
-      (two-shown s f valid (channelEnds (r .first) (r .second) (r .third)) (picks .indices) two (λ c e hc he. t .each c e hc he ∙ word-is e c he hc)
+      (two-shown s f valid (acrossThree (r .first) (r .second) (r .third)) (picks .indices) two (λ c e hc he. t .each c e hc he ∙ word-is e c he hc)
       (λ i hi.
       k .index i hi
       ∙ ap (λ (q : ℕ). indexIn 3 (0 ∷ fixupOf q ∷ []) (n / 2 ^ 82) i) (sym part)
@@ -133,12 +134,12 @@ module _ (s : Bool) (format m n : ℕ) (known-format : format ≤ 1) (low : 1 �
       ∙ sym (at-index format m n low high i hi))
       (picks .map) (k .regions ∙ ap mapOf (sym part)))
 
-  pub one-picture : 10 < m → {r : Ends} → OneEnds s m n r → (word : ℕ) → OnePicked n word → made (oneValue s (pairEnds (r .first) (r .second)) word) 48 ≡ pictureAs s f
+  pub one-picture : 10 < m → {r : Ends} → OneEnds s m n r → (word : ℕ) → OnePicked n word → made (oneValue s (alongTwo (r .first) (r .second)) word) 48 ≡ pictureAs s f
   unfolding pictureAs fieldsAt
   one-picture h {r} t word k =
       let one : twoRegions m ≡ false = lt-leb m 10 h in
       made-same _ (value s f) 48
-      (one-shown s f valid (pairEnds (r .first) (r .second)) word one (λ c e hc he. t .each c e hc he ∙ word-is e c (omega arith) hc)
+      (one-shown s f valid (alongTwo (r .first) (r .second)) word one (λ c e hc he. t .each c e hc he ∙ word-is e c (omega arith) hc)
       (λ i hi.
       k .index i hi
       ∙ ap (λ (b : Bool). indexIn (pick b 3 4) (pick b (0 ∷ fixupOf (gathered (row m) n 13) ∷ []) (0 ∷ [])) (n / 2 ^ pick b 82 65) i) (sym one)
@@ -167,7 +168,7 @@ module _ (s : Bool) (format n : ℕ) (known-format : format ≤ 1) (some : 1 ≤
   high = mode-range n
 
   pub two-painted : (n % 4 ≡ 3 → ⊥) → (picks : Picks) → Picked n picks → {out after : List ℕ}
-      → after ≡ made (twoValue s (channelEnds (ends .first) (ends .second) (ends .third)) (picks .map) (picks .indices)) 48 ++ drop 48 out
+      → after ≡ made (twoValue s (acrossThree (ends .first) (ends .second) (ends .third)) (picks .map) (picks .indices)) 48 ++ drop 48 out
       → PaintedAs (pictureAs s g) out 0 after
   unfolding fieldsAt
   two-painted h picks k {out} e =
@@ -179,7 +180,7 @@ module _ (s : Bool) (format n : ℕ) (known-format : format ≤ 1) (some : 1 ≤
       }
 
   pub one-painted : n % 4 ≡ 3 → (word : ℕ) → OnePicked n word → {out after : List ℕ} {r : ℕ}
-      → PaintedIn s (made (oneValue s (pairEnds (ends .first) (ends .second)) word) 48) out r after → PaintedAs (pictureAs s g) out r after
+      → PaintedIn s (made (oneValue s (alongTwo (ends .first) (ends .second)) word) 48) out r after → PaintedAs (pictureAs s g) out r after
   one-painted h word k w =
       let many : 10 < modeIn n = one-codes n some h in
       painted s g (read-valid format (modeIn n) n some high known-format) w (one-picture s format (modeIn n) n known-format some high many (told .one many) word k)

@@ -2,7 +2,7 @@
 //
 // The endpoints stand in the lanes of two or three words. Each format has a function of its own: the compiler then works them out with the
 // format known.
-use bc6_half::Colour;
+use bc6_colour::Colour;
 use bc6_mode::extract_mode;
 use bc6h_spec::Answer;
 use bc6h_spec::Block;

@@ -21,8 +21,9 @@ use Rattle.bc6h_spec.specs.Picture.{firstEnd, delta, otherEnd}
 use Rattle.bc6h_spec.proofs.Reading.{at-endpoint, read-valid}
 use Rattle.bc6h_spec.proofs.Widths.{mode-facts, first-fits, other-fits}
 use Rattle.bc6_runs.specs.declared.Channels.{Channels}
-use Rattle.bc6_runs.specs.declared.Pair.{Pair}
-use Rattle.bc6_runs.specs.Ends.{ChannelsRead, PairRead, PairBy}
+use Rattle.bc6_runs.specs.Ends.{ChannelsRead}
+use Rattle.bc6_pair.specs.declared.Pair.{Pair}
+use Rattle.bc6_pair.specs.Ends.{PairRead, PairBy}
 use Rattle.bc6_endpoints.specs.Ends.{wordOf, wholeOf, movedOf, Narrow, Apart, MovedLanes, Channel, ChannelEnds}
 use Rattle.bc6_endpoints.specs.Steps.{Sixteen}
 use Rattle.bc6_endpoints.proofs.Sixteens.{whole-16, moved-16-is}

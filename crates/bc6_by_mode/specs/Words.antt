@@ -3,13 +3,12 @@ use mathlib.Core.Path.{_≡_}
 use mathlib.Core.Bool.{Bool}
 use Prim.Native.Nat.{ℕ, _+_, _*_, _≤_, _<_}
 use lib.Dec.{eqb}
-use lib.IntN.{ℤ}
 use Rattle.laws.specs.Pick.{pick}
 use Rattle.bc6h_spec.specs.Layout.{row, precision, ownWidth, transformed}
 use Rattle.bc6h_spec.specs.Fields.{gathered, modeIn}
 use Rattle.bc6h_spec.specs.Picture.{firstEnd, otherEnd}
 use Rattle.bc6_endpoints.specs.Ends.{wordOf}
-use Rattle.bc6_paint.specs.Values.{channelEnds, pairEnds}
+use Rattle.lanes.specs.Lanes.{acrossThree, alongTwo}
 use Rattle.bc6_by_mode.specs.declared.Ends.{Ends}
 
 -- channel c of endpoint e as mode m stores it in the bits n
@@ -25,11 +24,11 @@ endWord s m n e c =
 
 -- two regions: four endpoints, a word a channel
 pub record TwoEnds (s : Bool) (m n : ℕ) (r : Ends) : Type 0 where
-  pub each : (c e : ℕ) → c < 3 → e < 4 → channelEnds (r .first) (r .second) (r .third) e c ≡ endWord s m n e c
+  pub each : (c e : ℕ) → c < 3 → e < 4 → acrossThree (r .first) (r .second) (r .third) e c ≡ endWord s m n e c
 
 -- one region: two, a word an endpoint
 pub record OneEnds (s : Bool) (m n : ℕ) (r : Ends) : Type 0 where
-  pub each : (c e : ℕ) → c < 3 → e < 2 → pairEnds (r .first) (r .second) e c ≡ endWord s m n e c
+  pub each : (c e : ℕ) → c < 3 → e < 2 → alongTwo (r .first) (r .second) e c ≡ endWord s m n e c
 
 -- of a block, by its mode
 pub record BlockEnds (s : Bool) (n : ℕ) (r : Ends) : Type 0 where

@@ -134,7 +134,7 @@ fn ends_10_unsigned(lo: u64, hi: u64) -> Ends
 fn ends_11_unsigned(lo: u64, hi: u64) -> Ends
     ensures { λ r. ⌜ OneEnds false 11 (number (record { lo = lo; hi = hi })) r ⌝ }
 {
-    let stored = bc6_runs::read_pair(lo, hi, 0);
+    let stored = bc6_pair::read_pair(lo, hi, 0);
     Ends {
         first: spread_unsigned(stored.first, 10),
         second: spread_unsigned(stored.second, 10),
@@ -145,7 +145,7 @@ fn ends_11_unsigned(lo: u64, hi: u64) -> Ends
 fn ends_12_unsigned(lo: u64, hi: u64) -> Ends
     ensures { λ r. ⌜ OneEnds false 12 (number (record { lo = lo; hi = hi })) r ⌝ }
 {
-    let stored = bc6_runs::read_pair(lo, hi, 1);
+    let stored = bc6_pair::read_pair(lo, hi, 1);
     Ends {
         first: spread_unsigned(stored.first, 11),
         second: other_unsigned(stored.first, stored.second, 9, 11),
@@ -156,7 +156,7 @@ fn ends_12_unsigned(lo: u64, hi: u64) -> Ends
 fn ends_13_unsigned(lo: u64, hi: u64) -> Ends
     ensures { λ r. ⌜ OneEnds false 13 (number (record { lo = lo; hi = hi })) r ⌝ }
 {
-    let stored = bc6_runs::read_pair(lo, hi, 2);
+    let stored = bc6_pair::read_pair(lo, hi, 2);
     Ends {
         first: spread_unsigned(stored.first, 12),
         second: other_unsigned(stored.first, stored.second, 8, 12),
@@ -277,7 +277,7 @@ fn ends_10_signed(lo: u64, hi: u64) -> Ends
 fn ends_11_signed(lo: u64, hi: u64) -> Ends
     ensures { λ r. ⌜ OneEnds true 11 (number (record { lo = lo; hi = hi })) r ⌝ }
 {
-    let stored = bc6_runs::read_pair(lo, hi, 0);
+    let stored = bc6_pair::read_pair(lo, hi, 0);
     Ends {
         first: spread_signed(stored.first, 10),
         second: spread_signed(stored.second, 10),
@@ -288,7 +288,7 @@ fn ends_11_signed(lo: u64, hi: u64) -> Ends
 fn ends_12_signed(lo: u64, hi: u64) -> Ends
     ensures { λ r. ⌜ OneEnds true 12 (number (record { lo = lo; hi = hi })) r ⌝ }
 {
-    let stored = bc6_runs::read_pair(lo, hi, 1);
+    let stored = bc6_pair::read_pair(lo, hi, 1);
     Ends {
         first: spread_signed(stored.first, 11),
         second: other_signed(stored.first, stored.second, 9, 11),
@@ -299,7 +299,7 @@ fn ends_12_signed(lo: u64, hi: u64) -> Ends
 fn ends_13_signed(lo: u64, hi: u64) -> Ends
     ensures { λ r. ⌜ OneEnds true 13 (number (record { lo = lo; hi = hi })) r ⌝ }
 {
-    let stored = bc6_runs::read_pair(lo, hi, 2);
+    let stored = bc6_pair::read_pair(lo, hi, 2);
     Ends {
         first: spread_signed(stored.first, 12),
         second: other_signed(stored.first, stored.second, 8, 12),
@@ -311,7 +311,7 @@ fn ends_13_signed(lo: u64, hi: u64) -> Ends
 fn ends_14(lo: u64, hi: u64) -> Ends
     ensures { λ r. ⌜ OneEnds false 14 (number (record { lo = lo; hi = hi })) r × OneEnds true 14 (number (record { lo = lo; hi = hi })) r ⌝ }
 {
-    let stored = bc6_runs::read_pair(lo, hi, 6);
+    let stored = bc6_pair::read_pair(lo, hi, 6);
     Ends {
         first: stored.first,
         second: other_16(stored.first, stored.second),

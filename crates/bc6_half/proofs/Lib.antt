@@ -4,4 +4,3 @@ pub mod Sized
 pub mod Told
 pub mod Weights
 pub mod Words
-pub mod Ends

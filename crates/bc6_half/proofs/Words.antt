@@ -1,28 +1,22 @@
 -- A number of 16 bits as a word, and back. Assumes nothing.
 use mathlib.Core.Path.{_≡_, _∙_, refl, sym, ap, subst}
 use mathlib.Core.Bool.{Bool, true, false}
-use Prim.Native.Nat.{ℕ, suc, _-_, _%_, _^_, _<_, _≤_}
+use Prim.Native.Nat.{ℕ, suc, _-_, _%_, _<_}
 use native.Mathlib.Nat.{mod-eq-of-lt}
 use native.Mathlib.Decide.{ℕ-discrete}
 use native.Mathlib.Omega.{arith}
 use lib.Dec.{T, eqb, lit<}
 use lib.IntN.{ℤ, pos, negsuc, natAbs}
-use lib.Pow.{pow-mono}
 use lib.Signed.{mag, nonNeg}
 use mir.Syntax.{w16, w32}
 use mir.Val.{Fits, toZ, ofZ}
 use borrow.Author.Tests.{lt-ltb, le-ltb, ne-eqb}
-use Rattle.laws.specs.Ranges.{InBits, Within}
+use Rattle.laws.specs.Ranges.{InBits}
 use Rattle.laws.proofs.Num.{minus, read, abs-below}
 use Rattle.bc6h_spec.specs.Half.{signExtend, keep, isLowest}
 use Rattle.bc6h_spec.specs.Picture.{firstEnd}
 use Rattle.bc6h_spec.proofs.Ranges.{first-in}
 use Rattle.bc6_half.specs.Halves.{numberAt}
-
--- a number of at most 16 bits
-pub wider : (s : Bool) (p : ℕ) (z : ℤ) → p ≤ 16 → InBits s p z → Within 65536 z
-wider true p z h r = let l : 2 ^ (p - 1) ≤ 2 ^ 15 = pow-mono {j = 15} (omega arith) in record { inside = omega (arith, l, r .inside) }
-wider false p z h r = let l : 2 ^ p ≤ 2 ^ 16 = pow-mono {j = 16} h in record { inside = omega (arith, l, r .inside) }
 
 -- the number of a word
 pub number-in : (s : Bool) (u : ℕ) → u < 65536 → InBits s 16 (numberAt s u)

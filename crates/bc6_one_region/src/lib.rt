@@ -12,12 +12,13 @@ ghost use mathlib.Core.List.{_++_};
 ghost use Prim.Native.Nat.{_≤_};
 ghost use lib.ListN.{length, drop};
 ghost use Rattle.laws.specs.Made.{made};
-ghost use Rattle.bc6_paint.specs.Values.{pairEnds, oneValue, PaintedAs, PaintedIn};
+ghost use Rattle.lanes.specs.Lanes.{alongTwo};
+ghost use Rattle.bc6_paint.specs.Values.{oneValue, PaintedAs, PaintedIn};
 
 // In unsigned format.
 fn paint_one_unsigned(first: u64, second: u64, word: u64, out: &mut [u16])
     requires { ⌜ 48 ≤ length (now out) ⌝ }
-    ensures { λ _. ⌜ now (out .exit) ≡ made (oneValue false (pairEnds first second) word) 48 ++ drop 48 (now (out .entry)) ⌝ }
+    ensures { λ _. ⌜ now (out .exit) ≡ made (oneValue false (alongTwo first second) word) 48 ++ drop 48 (now (out .entry)) ⌝ }
 {
     for k in 0..8usize {
         let t = turn_one(word, k);
@@ -31,7 +32,7 @@ fn paint_one_unsigned(first: u64, second: u64, word: u64, out: &mut [u16])
 // .. and in signed, with how many of the values are minus infinity.
 fn paint_one_signed(first: u64, second: u64, word: u64, out: &mut [u16]) -> u16
     requires { ⌜ 48 ≤ length (now out) ⌝ }
-    ensures { λ r. ⌜ PaintedAs (made (oneValue true (pairEnds first second) word) 48) (now (out .entry)) r (now (out .exit)) ⌝ }
+    ensures { λ r. ⌜ PaintedAs (made (oneValue true (alongTwo first second) word) 48) (now (out .entry)) r (now (out .exit)) ⌝ }
 {
     let mut infinite = 0u16;
     for k in 0..8usize {
@@ -48,7 +49,7 @@ fn paint_one_signed(first: u64, second: u64, word: u64, out: &mut [u16]) -> u16
 // In either format; how many of the values are minus infinity, which in unsigned format none is.
 pub fn paint_one(signed: bool, first: u64, second: u64, word: u64, out: &mut [u16]) -> u16
     requires { ⌜ 48 ≤ length (now out) ⌝ }
-    ensures { λ r. ⌜ PaintedIn signed (made (oneValue signed (pairEnds first second) word) 48) (now (out .entry)) r (now (out .exit)) ⌝ }
+    ensures { λ r. ⌜ PaintedIn signed (made (oneValue signed (alongTwo first second) word) 48) (now (out .entry)) r (now (out .exit)) ⌝ }
 {
     if signed {
         return paint_one_signed(first, second, word, out);

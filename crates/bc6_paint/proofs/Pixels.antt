@@ -16,10 +16,10 @@ use Rattle.laws.specs.Bit.{bit}
 use Rattle.laws.specs.Made.{made, countOf}
 use Rattle.laws.proofs.Rows.{made-none, made-store, length-made, count-le}
 use Rattle.laws.proofs.Counts.{count-append, count-last}
-use Rattle.lanes.specs.Lanes.{lane}
+use Rattle.lanes.specs.Lanes.{lane, ofThree, acrossThree, alongTwo}
 use Rattle.lanes.proofs.Laws.{lane-lt}
 use Rattle.bc6h_spec.specs.Half.{minusInfinity}
-use Rattle.bc6_paint.specs.Values.{ofChannel, channelEnds, pairEnds, Paired, digit, oneSecond, maskOf, TurnOf, shadeOf, selected, shadeIn, valueOf, counted, PaintedAs}
+use Rattle.bc6_paint.specs.Values.{Paired, digit, oneSecond, maskOf, TurnOf, shadeOf, selected, shadeIn, valueOf, counted, PaintedAs}
 use Rattle.bc6_paint.specs.declared.Turn.{Turn}
 use Rattle.bc6_paint.proofs.Chosen.{selected-is}
 
@@ -210,16 +210,16 @@ pub record Held (second : ℕ → Bool) (ends : ℕ → ℕ → ℕ) (words : �
   pub back : (k c : ℕ) → c < 3 → pick (second k) (lane (words c) 3) (lane (words c) 1) ≡ pick (second k) (ends 3 c) (ends 1 c)
 
 -- words of channels have all of them ..
-pub channels-held : (second : ℕ → Bool) (red green blue : ℕ) → Held second (channelEnds red green blue) (ofChannel red green blue)
+pub channels-held : (second : ℕ → Bool) (red green blue : ℕ) → Held second (acrossThree red green blue) (ofThree red green blue)
 channels-held second red green blue = record { front = λ k c h. refl; back = λ k c h. refl }
 
 -- .. and words that were made of two endpoints those of region 0
 pub pairs-held : {first second red green blue : ℕ} → Paired first second 0 red → Paired first second 1 green → Paired first second 2 blue
-    → Held oneSecond (pairEnds first second) (ofChannel red green blue)
+    → Held oneSecond (alongTwo first second) (ofThree red green blue)
 pairs-held {first} {second} {red} {green} {blue} r g b =
     record {
-      front = λ k. each (λ c. lane (ofChannel red green blue c) 0 ≡ pairEnds first second 0 c) (r .front) (g .front) (b .front);
-      back = λ k. each (λ c. lane (ofChannel red green blue c) 1 ≡ pairEnds first second 1 c) (r .back) (g .back) (b .back);
+      front = λ k. each (λ c. lane (ofThree red green blue c) 0 ≡ alongTwo first second 0 c) (r .front) (g .front) (b .front);
+      back = λ k. each (λ c. lane (ofThree red green blue c) 1 ≡ alongTwo first second 1 c) (r .back) (g .back) (b .back);
     }
   where
     each : (P : ℕ → Type 0) → P 0 → P 1 → P 2 → (c : ℕ) → c < 3 → P c

@@ -10,29 +10,18 @@ use lib.ListN.{getD, set, drop}
 use Rattle.laws.specs.Pick.{pick}
 use Rattle.laws.specs.Bit.{bit}
 use Rattle.laws.specs.Made.{countOf}
-use Rattle.lanes.specs.Lanes.{lane}
+use Rattle.lanes.specs.Lanes.{lane, alongTwo}
 use Rattle.bc6h_spec.specs.Half.{minusInfinity, interpolated, finished}
 use Rattle.bc6h_spec.specs.Picture.{weights8, weights16}
 use Rattle.bc6_half.specs.Halves.{numberAt}
 use Rattle.bc6_paint.specs.declared.Turn.{Turn}
 
--- ---- channel c of endpoint e
+-- ---- channel c of endpoint e: in three words, one of a channel, an endpoint in each lane; in two, one of an endpoint, a channel in each lane
 
--- in three words, one of a channel: an endpoint in each lane
-abbrev pub ofChannel : ℕ → ℕ → ℕ → ℕ → ℕ
-ofChannel red green blue c = pick (eqb c 0) red (pick (eqb c 1) green blue)
-
-abbrev pub channelEnds : ℕ → ℕ → ℕ → ℕ → ℕ → ℕ
-channelEnds red green blue e c = lane (ofChannel red green blue c) e
-
--- in two words, one of an endpoint: a channel in each lane
-abbrev pub pairEnds : ℕ → ℕ → ℕ → ℕ → ℕ
-pairEnds first second e c = lane (pick (eqb e 0) first second) c
-
--- the word of a channel out of those two, whose endpoints 2 and 3 are not asked for
+-- the word of a channel out of two, whose endpoints 2 and 3 are not asked for
 pub record Paired (first second c r : ℕ) : Type 0 where
-  pub front : lane r 0 ≡ pairEnds first second 0 c
-  pub back : lane r 1 ≡ pairEnds first second 1 c
+  pub front : lane r 0 ≡ alongTwo first second 0 c
+  pub back : lane r 1 ≡ alongTwo first second 1 c
 
 -- ---- what a pixel has: whether it lies in region 1, and its weight
 

@@ -6,8 +6,8 @@ use Prim.Native.Nat.{ℕ, _≤_}
 use lib.ListN.{getD}
 use Rattle.bc6h_spec.proofs.Ranges.{unquantized-in}
 use Rattle.bc6_half.specs.declared.Half.{Half}
-use Rattle.bc6_half.specs.declared.Colour.{Colour}
-use Rattle.bc6_half.specs.Colours.{unquantizedOf, OfBits}
+use Rattle.bc6_colour.specs.declared.Colour.{Colour}
+use Rattle.bc6_colour.specs.Colours.{unquantizedOf, OfBits}
 use Rattle.bc6_palette.specs.Palettes.{tripleOf, entryOf}
 
 pub ready : (s : Bool) (p : ℕ) (c : Colour) → p ≤ 16 → OfBits s p c → OfBits s 16 (unquantizedOf s p c)

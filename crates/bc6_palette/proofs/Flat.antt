@@ -18,9 +18,9 @@ use Rattle.bc6h_spec.specs.Fields.{indexOf, Valid}
 use Rattle.bc6h_spec.specs.Picture.{weights8, weights16, weights, between, palette, pictureAs}
 use Rattle.bc6h_spec.proofs.Pixel.{pixel-shows}
 use Rattle.bc6_half.specs.declared.Half.{Half}
-use Rattle.bc6_half.specs.declared.Colour.{Colour}
+use Rattle.bc6_colour.specs.declared.Colour.{Colour}
 use Rattle.bc6_half.specs.Halves.{marked}
-use Rattle.bc6_half.specs.Colours.{endOf, unquantizedOf}
+use Rattle.bc6_colour.specs.Colours.{endOf, unquantizedOf}
 use Rattle.bc6_palette.specs.Palettes.{tripleOf, entryOf}
 use Rattle.bc6_palette.specs.Triples.{tripleAt, inTriples, noHalf, halfAt, valueAt, flat, IndicesBelow, onePixel, twoPixel}
 

@@ -6,7 +6,7 @@ use lib.IntN.{pos}
 use lib.ListN.{getD}
 use Rattle.bc6h_spec.specs.Half.{interpolated, finished}
 use Rattle.bc6_half.specs.declared.Half.{Half}
-use Rattle.bc6_half.specs.declared.Colour.{Colour}
+use Rattle.bc6_colour.specs.declared.Colour.{Colour}
 use Rattle.bc6_half.specs.Halves.{marked}
 
 -- the patterns at a weight between two colours that are unquantised, each with whether it is minus infinity

@@ -1,6 +1,6 @@
 // The picture of a field record, as the document reads: the palettes between its endpoints, then each pixel's colour by its index, all of them
 // triples made, passed and returned by value. (Decoding a block builds no palette: bc6.)
-use bc6_half::Colour;
+use bc6_colour::Colour;
 use bc6_half::Half;
 use bc6_half::finish_unquantize;
 use bc6_half::interpolate;
@@ -25,7 +25,7 @@ ghost use Rattle.bc6h_spec.specs.Fields.{Valid};
 ghost use Rattle.bc6h_spec.specs.Half.{interpolated, finished};
 ghost use Rattle.bc6h_spec.specs.Picture.{weights8, weights16, pictureAs, picture};
 ghost use Rattle.bc6_half.specs.Halves.{marked};
-ghost use Rattle.bc6_half.specs.Colours.{unquantizedOf, OfBits};
+ghost use Rattle.bc6_colour.specs.Colours.{unquantizedOf, OfBits};
 ghost use Rattle.bc6_palette.specs.Palettes.{tripleOf, entryOf};
 ghost use Rattle.bc6_palette.specs.Triples.{IndicesBelow, onePixel, twoPixel, flat, inTriples};
 ghost use Rattle.bc6_palette.specs.Call.{FieldsShown};

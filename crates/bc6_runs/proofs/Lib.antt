@@ -1,4 +1,2 @@
-pub mod Runs
 pub mod Partition
 pub mod Tables
-pub mod Threes

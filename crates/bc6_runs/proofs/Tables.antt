@@ -17,9 +17,9 @@ use Rattle.bc6h_spec.specs.Fields.{gathered}
 use Rattle.bc6h_spec.proofs.Once.{row-once}
 use Rattle.bc6h_spec.proofs.Gather.{in-width}
 use Rattle.bc6_runs.specs.declared.Channels.{Channels}
-use Rattle.bc6_runs.specs.Table.{Run, part, sum, runOf, runsOf, readable, most, fits}
+use Rattle.bcn_util.specs.Runs.{Run, part, sum, runOf, runsOf, readable, most, fits}
 use Rattle.bc6_runs.specs.Ends.{ChannelsRead}
-use Rattle.bc6_runs.proofs.Runs.{runs, run-law}
+use Rattle.bcn_util.proofs.Runs.{runs, run-law}
 
 -- ---- one run
 

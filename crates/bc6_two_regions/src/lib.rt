@@ -12,12 +12,13 @@ ghost use mathlib.Core.List.{_++_};
 ghost use Prim.Native.Nat.{_≤_};
 ghost use lib.ListN.{length, drop};
 ghost use Rattle.laws.specs.Made.{made};
-ghost use Rattle.bc6_paint.specs.Values.{channelEnds, twoValue};
+ghost use Rattle.lanes.specs.Lanes.{acrossThree};
+ghost use Rattle.bc6_paint.specs.Values.{twoValue};
 
 // In unsigned format.
 fn paint_two_unsigned(red: u64, green: u64, blue: u64, map: u16, word: u64, out: &mut [u16])
     requires { ⌜ 48 ≤ length (now out) ⌝ }
-    ensures { λ _. ⌜ now (out .exit) ≡ made (twoValue false (channelEnds red green blue) map word) 48 ++ drop 48 (now (out .entry)) ⌝ }
+    ensures { λ _. ⌜ now (out .exit) ≡ made (twoValue false (acrossThree red green blue) map word) 48 ++ drop 48 (now (out .entry)) ⌝ }
 {
     for k in 0..8usize {
         let t = turn_two(word, map, k);
@@ -31,7 +32,7 @@ fn paint_two_unsigned(red: u64, green: u64, blue: u64, map: u16, word: u64, out:
 // .. and in signed. No value of a block of two regions is minus infinity: its flags are not added up.
 fn paint_two_signed(red: u64, green: u64, blue: u64, map: u16, word: u64, out: &mut [u16])
     requires { ⌜ 48 ≤ length (now out) ⌝ }
-    ensures { λ _. ⌜ now (out .exit) ≡ made (twoValue true (channelEnds red green blue) map word) 48 ++ drop 48 (now (out .entry)) ⌝ }
+    ensures { λ _. ⌜ now (out .exit) ≡ made (twoValue true (acrossThree red green blue) map word) 48 ++ drop 48 (now (out .entry)) ⌝ }
 {
     for k in 0..8usize {
         let t = turn_two(word, map, k);
@@ -53,7 +54,7 @@ pub fn paint_two(
     out: &mut [u16],
 )
     requires { ⌜ 48 ≤ length (now out) ⌝ }
-    ensures { λ _. ⌜ now (out .exit) ≡ made (twoValue signed (channelEnds red green blue) map word) 48 ++ drop 48 (now (out .entry)) ⌝ }
+    ensures { λ _. ⌜ now (out .exit) ≡ made (twoValue signed (acrossThree red green blue) map word) 48 ++ drop 48 (now (out .entry)) ⌝ }
 {
     if signed {
         paint_two_signed(red, green, blue, map, word, out);

@@ -1,13 +1,11 @@
 -- The mode is settled by the low five bits: each law is a test over all 32. Assumes nothing.
-use mathlib.Core.Path.{_≡_, _∙_, refl, sym, ap, subst}
+use mathlib.Core.Path.{_≡_, _∙_, sym, subst}
 use mathlib.Core.Bool.{Bool, true, false}
-use mathlib.Core.List.{List, [], _∷_}
-use Prim.Native.Nat.{ℕ, zero, suc, _+_, _-_, _*_, _/_, _%_, _^_, _<_, _≤_}
+use Prim.Native.Nat.{ℕ, _+_, _%_, _^_, _<_, _≤_}
 use native.Mathlib.Nat.{mod-lt, mod-mod, lt-of-lt-of-le}
 use native.Mathlib.Omega.{arith}
 use lib.Dec.{T, eqb, leb, ltb, eqb→eq, leb→le, ltb→lt, lit<, lit≤}
-use lib.Pow.{field}
-use borrow.Author.Tests.{eq-eqb, ne-eqb, leb-true, leb-false}
+use borrow.Author.Tests.{eq-eqb, ne-eqb}
 use Rattle.laws.specs.Pick.{pick, both, either, implies}
 use Rattle.laws.specs.Every.{below}
 use Rattle.laws.proofs.Tests.{both-left, both-right, either-right, implied, below-at, upto-at}
@@ -32,11 +30,6 @@ coded x = both (leb (modeIn x) 14) (either (eqb (modeIn x) 0) (eqb (x % 2 ^ widt
 abbrev known : ℕ → ℕ → Bool
 known m x = implies (eqb (x % 2 ^ width m 12) (codeOf m)) (eqb (modeIn x) m)
 
--- the mode by two bits and three
-abbrev by-parts : ℕ → ℕ → ℕ
-by-parts two three =
-    pick (eqb two 0) 1 (pick (eqb two 1) 2 (pick (eqb two 2) (3 + three) (pick (ltb three 4) (11 + three) 0)))
-
 all-coded : T (below coded 32)
 unfolding modeIn width
 all-coded = tt
@@ -44,10 +37,6 @@ all-coded = tt
 all-known : T (below (λ j. below (known (j + 1)) 32) 14)
 unfolding modeIn width
 all-known = tt
-
-all-parts : T (below (λ x. eqb (modeIn x) (by-parts (x % 4) (x / 4 % 8))) 32)
-unfolding modeIn
-all-parts = tt
 
 all-narrow : T (below (λ j. ltb (codeOf (j + 1)) (2 ^ width (j + 1) 12)) 14)
 unfolding width
@@ -83,14 +72,6 @@ mode-known m n low high e =
     let t : T (known m (n % 32)) = below-at (known m) 32 (n % 32) (upto-at (λ m. below (known m) 32) 14 m all-known low high) (mod-lt n (lit< tt)) in
     let c : n % 32 % 2 ^ width m 12 ≡ codeOf m = low-width n m ∙ sym (mode-bits m low high n) ∙ e in
     sym (low-mode n) ∙ eqb→eq _ _ (implied (eqb (n % 32 % 2 ^ width m 12) (codeOf m)) _ (eq-eqb _ _ c) t)
-
--- the mode by the two bits and the three that are read
-pub mode-parts : (n : ℕ) → modeIn n ≡ by-parts (n % 4) (n / 4 % 8)
-mode-parts n =
-    let a : n % 32 % 4 ≡ n % 4 = omega arith in
-    let b : n % 32 / 4 % 8 ≡ n / 4 % 8 = ap (λ (x : ℕ). x % 8) (field n 3 2) ∙ mod-mod (n / 4) 8 in
-    sym (low-mode n) ∙ eqb→eq _ _ (below-at (λ x. eqb (modeIn x) (by-parts (x % 4) (x / 4 % 8))) 32 (n % 32) all-parts (mod-lt n (lit< tt)))
-    ∙ rw (a, b)
 
 pub code-narrow : (m : ℕ) → 1 ≤ m → m ≤ 14 → codeOf m < 2 ^ width m 12
 code-narrow m low high =

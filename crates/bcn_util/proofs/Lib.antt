@@ -3,3 +3,4 @@ pub mod Bytes
 pub mod Expand
 pub mod Indexing
 pub mod Listed
+pub mod Runs

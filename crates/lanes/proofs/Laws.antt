@@ -103,13 +103,13 @@ module _ (r : ℕ) (rule : ℕ → ℕ) (is : r ≡ fourOf (rule 0) (rule 1) (ru
       (ap (λ (x : ℕ). lane x 2) is ∙ lane-2 _ _ _ _ s0 s1 s2 s3)
       (ap (λ (x : ℕ). lane x 3) is ∙ lane-3 _ _ _ _ s0 s1 s2 s3)
 
-sums : (a b c d p q r s : ℕ) → fourOf a b c d + fourOf p q r s ≡ fourOf (a + p) (b + q) (c + r) (d + s)
+pub sums : (a b c d p q r s : ℕ) → fourOf a b c d + fourOf p q r s ≡ fourOf (a + p) (b + q) (c + r) (d + s)
 sums a b c d p q r s = omega arith
 
 differences : (a b c d p q r s : ℕ) → p ≤ a → q ≤ b → r ≤ c → s ≤ d → fourOf a b c d - fourOf p q r s ≡ fourOf (a - p) (b - q) (c - r) (d - s)
 differences a b c d p q r s h0 h1 h2 h3 = omega arith
 
-products : (a b c d k : ℕ) → fourOf a b c d * k ≡ fourOf (a * k) (b * k) (c * k) (d * k)
+pub products : (a b c d k : ℕ) → fourOf a b c d * k ≡ fourOf (a * k) (b * k) (c * k) (d * k)
 products a b c d k =
     add-mul (a + 65536 * b + 4294967296 * c) (281474976710656 * d) k
     ∙ ap₂ (λ (x y : ℕ). x + y)

@@ -2,7 +2,7 @@
 use mathlib.Core.Path.{_≡_}
 use Prim.Native.Nat.{ℕ, _+_, _-_, _*_, _/_, _%_, _^_, _<_, _≤_}
 use lib.Bits.{bitXor}
-use lib.Dec.{leb}
+use lib.Dec.{eqb, leb}
 use Rattle.laws.specs.Pick.{pick}
 
 -- number e of them, lane 0 lowest
@@ -12,6 +12,20 @@ lane word e = word / 2 ^ (16 * e) % 2 ^ 16
 -- four numbers in one word
 abbrev pub fourOf : ℕ → ℕ → ℕ → ℕ → ℕ
 fourOf w x y z = w + 0x10000 * x + 0x100000000 * y + 0x1000000000000 * z
+
+-- ---- lanes of several words
+
+-- number k of three
+abbrev pub ofThree : ℕ → ℕ → ℕ → ℕ → ℕ
+ofThree x y z k = pick (eqb k 0) x (pick (eqb k 1) y z)
+
+-- across three words: lane e of word k
+abbrev pub acrossThree : ℕ → ℕ → ℕ → ℕ → ℕ → ℕ
+acrossThree x y z e k = lane (ofThree x y z k) e
+
+-- along two words: of word k lane e
+abbrev pub alongTwo : ℕ → ℕ → ℕ → ℕ → ℕ
+alongTwo x y k e = lane (pick (eqb k 0) x y) e
 
 -- ---- what a word's lanes are
 

@@ -18,10 +18,10 @@ use Rattle.bc6h_spec.specs.Layout.{precision, twoRegions}
 use Rattle.bc6h_spec.specs.Fields.{Valid}
 use Rattle.bc6h_spec.specs.Picture.{endpoint}
 use Rattle.bc6_mode.specs.declared.ModeBits.{ModeBits}
-use Rattle.bc6_half.specs.declared.Colour.{Colour}
+use Rattle.bc6_colour.specs.declared.Colour.{Colour}
 use Rattle.bc6_mode.specs.Modes.{bitsOf}
-use Rattle.bc6_half.specs.Colours.{endOf, OfBits}
-use Rattle.bc6_half.proofs.Ends.{a0-is, palette-asks}
+use Rattle.bc6_colour.specs.Colours.{endOf}
+use Rattle.bc6_colour.proofs.Ends.{a0-is}
 use Rattle.copies.specs.Wide.{regions}
 use Rattle.copies.specs.Trust.{isLeast, leastAt, hasLeast}
 use Rattle.trust.specs.Least.{leastOf, endCount}
@@ -69,9 +69,6 @@ turned false false true = refl
 turned false false false = refl
 
 module _ (f : Fields) (v : Valid f) (bits : ModeBits) (told : bits ≡ bitsOf (f .mode)) (e : ℕ) (h : e < 4) (c : Colour) (end : c ≡ endOf true f e) where
-  pub end-asks : (0 < bits .a0) × (bits .a0 ≤ 16) × OfBits true (bits .a0) c
-  end-asks = let q = palette-asks true f v bits told e e c c h h end end in (q .0, q .1, q .2 .0)
-
   pub end-least : {r : Bool} → r ≡ leastOf (bits .a0) c → r ≡ leastAt f e
   unfolding leastAt some endOf
   end-least q =

@@ -3,7 +3,7 @@ use mathlib.Core.Bool.{Bool}
 use Prim.Native.Nat.{ℕ, _*_}
 use Rattle.laws.specs.Pick.{either}
 use Rattle.bc6h_spec.specs.declared.Fields.{Fields}
-use Rattle.bc6_half.specs.declared.Colour.{Colour}
+use Rattle.bc6_colour.specs.declared.Colour.{Colour}
 use Rattle.copies.specs.Wide.{regions}
 use Rattle.copies.specs.Trust.{isLeast}
 

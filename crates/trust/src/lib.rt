@@ -1,6 +1,6 @@
 // Whether a block may be trusted: whether it meets by itself what the copies theorem asks, so that no other such block of its
 // format, mode and partition shows its picture.
-use bc6_half::Colour;
+use bc6_colour::Colour;
 use bc6_mode::ModeBits;
 use bc6h_spec::Block;
 use bc6h_spec::Fields;
@@ -16,7 +16,7 @@ ghost use Rattle.bc6h_spec.specs.Regions.{regionOf};
 ghost use Rattle.bc6h_spec.specs.Fields.{Valid};
 ghost use Rattle.bc6h_spec.specs.Picture.{isSigned};
 ghost use Rattle.bc6h_spec.specs.Block.{pixelsOf};
-ghost use Rattle.bc6_half.specs.Colours.{OfBits};
+ghost use Rattle.bc6_colour.specs.Colours.{OfBits};
 ghost use Rattle.copies.specs.Trust.{isAt, reaches, isLeast, hasLeast, trusted};
 ghost use Rattle.trust.specs.Ramp.{rampedOne, rampedTwo, ramped, entry, entriesDiffer, regionPasses, allPass};
 ghost use Rattle.trust.specs.Least.{leastOf, endCount};

@@ -4,13 +4,14 @@ use mathlib.Core.Bool.{Bool}
 use mathlib.Core.List.{List}
 use Prim.Native.Nat.{ℕ}
 use Rattle.laws.specs.Made.{made}
-use Rattle.bc6_paint.specs.Values.{pairEnds, oneValue}
+use Rattle.lanes.specs.Lanes.{alongTwo}
+use Rattle.bc6_paint.specs.Values.{oneValue}
 use Rattle.bc6_paint.proofs.Link.{painted-signed, painted-unsigned}
 use Rattle.bc6_one_region.proofs.paint_one.Statement.{statement}
 use Rattle.bc6_one_region.proofs.paint_one.Tie as tie
 
 abbrev values : tie.Start → Bool → List ℕ
-values c s = let a = c .args in made (oneValue s (pairEnds (a .first) (a .second)) (a .word)) 48
+values c s = let a = c .args in made (oneValue s (alongTwo (a .first) (a .second)) (a .word)) 48
 
 returns : tie.Need-returns
 returns c = let i = c .before .before .before .before in painted-signed _ (values (i .before .before)) _ _ _ (i .if1 .taken) (c .before .before .paint-one-signed .ensures)

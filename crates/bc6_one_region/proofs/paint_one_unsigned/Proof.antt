@@ -4,13 +4,14 @@ use Prim.Native.Nat.{ℕ, _-_, _*_, _<_}
 use native.Mathlib.Numerals.{add-one-dec}
 use native.Mathlib.Omega.{arith}
 use lib.Dec.{lit<, lit≤}
-use Rattle.bc6_paint.specs.Values.{pairEnds, ofChannel, oneWeight, oneValue}
+use Rattle.lanes.specs.Lanes.{alongTwo, ofThree}
+use Rattle.bc6_paint.specs.Values.{oneWeight, oneValue}
 use Rattle.bc6_paint.proofs.Pixels.{Fronts, none-painted, all-painted, Stores, stores-of, stores-on, first-asks, next-asks, Shades, pairs-held, valueAt, shades-of, turn-painted}
 use Rattle.bc6_one_region.proofs.paint_one_unsigned.Statement.{statement}
 use Rattle.bc6_one_region.proofs.paint_one_unsigned.Tie as tie
 
 abbrev Inv-loop : tie.InvT-loop
-Inv-loop first second word out₀ k₀ out k = Fronts (oneValue false (pairEnds first second) word) (3 * k) out₀ out
+Inv-loop first second word out₀ k₀ out k = Fronts (oneValue false (alongTwo first second) word) (3 * k) out₀ out
 
 abbrev μ-loop : tie.MeasureT-loop
 μ-loop first second word out₀ k₀ out k = 8 - k
@@ -69,9 +70,9 @@ module _ (c : tie.After-slice-known4 Inv-loop μ-loop) where
   ready = one o₁
 
   abbrev shade : ℕ → ℕ → ℕ → ℕ
-  shade = valueAt false (ofChannel (o₁ .before .before .pair .result) (o₂ .before .before .pair2 .result) (o₃ .before .before .pair3 .result))
+  shade = valueAt false (ofThree (o₁ .before .before .pair .result) (o₂ .before .before .pair2 .result) (o₃ .before .before .pair3 .result))
 
-  shades : Shades (oneValue false (pairEnds (start ready .args .first) (start ready .args .second)) (start ready .args .word)) (k ready) (shade (ready .turn-one .result .second) (ready .turn-one .result .w)) (shade (ready .turn-one .result .second8) (ready .turn-one .result .w8))
+  shades : Shades (oneValue false (alongTwo (start ready .args .first) (start ready .args .second)) (start ready .args .word)) (k ready) (shade (ready .turn-one .result .second) (ready .turn-one .result .w)) (shade (ready .turn-one .result .second8) (ready .turn-one .result .w8))
   shades =
       shades-of false (oneWeight (start ready .args .word))
       (pairs-held (o₁ .before .before .pair .ensures) (o₂ .before .before .pair2 .ensures) (o₃ .before .before .pair3 .ensures)) (ready .turn-one .ensures)

@@ -1,7 +1,7 @@
 -- `bc6_palette::decode_one` meets its contract: the parts, joined. Assumes nothing.
 use borrow.Author.Needs.{needs}
 use lib.Dec.{lit<}
-use Rattle.bc6_half.proofs.Ends.{a0-is, palette-asks}
+use Rattle.bc6_colour.proofs.Ends.{a0-is, palette-asks}
 use Rattle.bc6_palette.proofs.Flat.{indices-16}
 use Rattle.bc6_palette.proofs.Flat.{one-painted}
 use Rattle.bc6_palette.proofs.decode_one.Statement.{statement}

@@ -3,7 +3,7 @@ use borrow.Author.Needs.{needs}
 use mathlib.Core.Path.{ap}
 use lib.Dec.{lit<}
 use Rattle.bcn_data.specs.declared.Subset2Map.{Subset2Map}
-use Rattle.bc6_half.proofs.Ends.{a0-is, palette-asks}
+use Rattle.bc6_colour.proofs.Ends.{a0-is, palette-asks}
 use Rattle.bc6_palette.proofs.Flat.{indices-8}
 use Rattle.bc6_palette.proofs.Flat.{two-painted}
 use Rattle.bc6_palette.proofs.decode_two.Statement.{statement}

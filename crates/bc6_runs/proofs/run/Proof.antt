@@ -1,6 +1,6 @@
 -- `bc6_runs::run` meets its contract. Assumes nothing.
 use borrow.Author.Needs.{needs}
-use Rattle.bc6_runs.specs.Table.{runOf}
+use Rattle.bcn_util.specs.Runs.{runOf}
 use Rattle.bc6_runs.proofs.Tables.{Readable, can-read, part-read}
 use Rattle.bc6_runs.proofs.run.Statement.{statement}
 use Rattle.bc6_runs.proofs.run.Tie as tie

@@ -9,7 +9,7 @@ use native.Mathlib.Omega.{arith}
 use lib.ListN.{length, drop}
 use lib.Seq.{drop-length}
 use Rattle.bcn_util.specs.Stream.{number}
-use Rattle.bc6_runs.specs.Table.{sum, runsOf}
+use Rattle.bcn_util.specs.Runs.{sum, runsOf}
 use Rattle.bc6_runs.proofs.Tables.{can-read-at, in-a-word, one-more}
 use Rattle.bc6_runs.proofs.word.Statement.{statement}
 use Rattle.bc6_runs.proofs.word.Tie as tie

@@ -4,13 +4,14 @@ use mathlib.Core.Bool.{Bool}
 use mathlib.Core.List.{List}
 use Prim.Native.Nat.{ℕ}
 use Rattle.laws.specs.Made.{made}
-use Rattle.bc6_paint.specs.Values.{channelEnds, twoValue}
+use Rattle.lanes.specs.Lanes.{acrossThree}
+use Rattle.bc6_paint.specs.Values.{twoValue}
 use Rattle.bc6_paint.proofs.Link.{written-in}
 use Rattle.bc6_two_regions.proofs.paint_two.Statement.{statement}
 use Rattle.bc6_two_regions.proofs.paint_two.Tie as tie
 
 abbrev values : tie.Start → Bool → List ℕ
-values c s = let a = c .args in made (twoValue s (channelEnds (a .red) (a .green) (a .blue)) (a .map) (a .word)) 48
+values c s = let a = c .args in made (twoValue s (acrossThree (a .red) (a .green) (a .blue)) (a .map) (a .word)) 48
 
 returns : tie.Need-returns
 returns c = let i = c .before .before .before .before in written-in _ (values (i .before .before)) (i .before .before .args .out .now) _ _ (i .if1 .taken) (c .before .before .paint-two-signed .ensures)

@@ -1,13 +1,14 @@
 -- `trust::has_least` meets its contract. The loop's invariant: no endpoint before e is at the lowest number. Assumes nothing.
 use borrow.Author.Needs.{needs}
 use mathlib.Core.Path.{_≡_, sym, _∙_}
-use mathlib.Core.Bool.{false}
+use mathlib.Core.Bool.{true, false}
 use Prim.Native.Nat.{_-_, _≤_}
 use lib.Dec.{lit<}
 use Rattle.laws.specs.Search.{some}
 use Rattle.laws.proofs.Search.{some-more}
+use Rattle.bc6_colour.proofs.Ends.{end-asks}
 use Rattle.copies.specs.Trust.{leastAt}
-use Rattle.trust.proofs.Lowest.{end-asks, end-least, end-inside, first-least, first-other, some-end, later-least, none-least}
+use Rattle.trust.proofs.Lowest.{end-least, end-inside, first-least, first-other, some-end, later-least, none-least}
 use Rattle.trust.proofs.has_least.Statement.{statement}
 use Rattle.trust.proofs.has_least.Tie as tie
 
@@ -26,7 +27,7 @@ first-requires c κs = search needs
 some-channel-least-requires : tie.Need-some-channel-least-requires Inv-loop μ-loop
 some-channel-least-requires c κs =
     let s = c .before .before in
-    end-asks (s .args .fields) (s .pre) _ (c .before .of .ensures) 0 (lit< tt) _ (c .first .ensures)
+    end-asks true (s .args .fields) (s .pre) _ (c .before .of .ensures) 0 _ (lit< tt) (c .first .ensures)
 
 returns : tie.Need-returns Inv-loop μ-loop
 returns c =
@@ -61,7 +62,7 @@ some-channel-least-requires-2 c κs =
     let n = c .before .before .before in
     let g = n .before .before .before in
     let s = g .before .before in
-    end-asks (s .args .fields) (s .pre) _ (g .before .of .ensures) _ (end-inside (s .args .fields) _ _ (n .end-count .ensures) (search needs)) _ (c .other .ensures)
+    end-asks true (s .args .fields) (s .pre) _ (g .before .of .ensures) _ _ (end-inside (s .args .fields) _ _ (n .end-count .ensures) (search needs)) (c .other .ensures)
 
 returns-2 : tie.Need-returns-2 Inv-loop μ-loop
 returns-2 c =

@@ -1,0 +1,2 @@
+pub mod Unquantising
+pub mod Ends

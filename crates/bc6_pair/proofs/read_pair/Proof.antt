@@ -1,0 +1,51 @@
+-- `bc6_pair::read_pair` meets its contract. Assumes nothing.
+use borrow.Author.Needs.{needs}
+use mathlib.Core.Path.{_≡_, _∙_, sym, ap₂, subst}
+use Prim.Native.Nat.{ℕ, _+_, _-_, _/_, _<_, _^_}
+use native.Mathlib.Omega.{arith}
+use lib.Pow.{pow-pos, pow-mono}
+use Rattle.bcn_util.specs.Stream.{number}
+use Rattle.bc6_pair.specs.Threes.{threeOf, ten, extraBits}
+use Rattle.bc6_pair.proofs.Threes.{three-sum, three-fits, first-tens, with-ten, ones-fit, kept-are, pair-read}
+use Rattle.bc6_pair.proofs.read_pair.Statement.{statement}
+use Rattle.bc6_pair.proofs.read_pair.Tie as tie
+
+module _ (c : tie.After-extra-bits) where
+  abbrev n : ℕ
+  n = number (record { lo = c .before .before .before .args .lo; hi = c .before .before .before .args .hi })
+
+  abbrev f : ℕ
+  f = c .before .before .seconds .result
+
+  abbrev extra : ℕ
+  extra = c .before .before .before .args .extra
+
+  first-is : c .before .firsts .result + c .extra-bits .result ≡ threeOf (λ k. ten (n / 2 ^ 5) k + extraBits f extra k)
+  first-is =
+      ap₂ (λ (x y : ℕ). x + y) (c .before .firsts .ensures ∙ first-tens (c .before .before .before .args .lo) (c .before .before .before .args .hi)) (c .extra-bits .ensures)
+      ∙ three-sum (ten (n / 2 ^ 5)) (extraBits f extra)
+
+add-t7 : tie.Need-add-t7
+add-t7 c =
+    record { fits = subst (λ (x : ℕ). x < 2 ^ 64) (sym (first-is c)) (three-fits _ (with-ten (f c) (n c / 2 ^ 5) (extra c) (c .before .before .before .pre))) }
+
+sub-t10 : tie.Need-sub-t10
+sub-t10 c = ones-fit (2 ^ (10 - extra c)) (pow-pos (10 - extra c)) (pow-mono {i = 10 - extra c} {j = 10} (omega arith))
+
+returns : tie.Need-returns
+returns c =
+    pair-read (n c) (f c) (extra c) (c .before .before .seconds .ensures) (c .before .before .before .pre) _ (first-is c)
+    (kept-are (f c) (10 - extra c) (omega arith))
+
+pub read-pair-spec : {M : Type 1} → statement M
+read-pair-spec =
+    tie.close
+    (tie.spec
+    (λ c κs. search needs)
+    (λ c κs. search needs)
+    (λ c κs. search needs)
+    add-t7
+    (λ c. search needs)
+    (λ c. search needs)
+    sub-t10
+    returns)

@@ -15,12 +15,11 @@ use Rattle.bc6h_spec.specs.Answers.{done}
 use Rattle.records.specs.Store.{recordsIn, tileAt}
 use Rattle.cleanup.specs.CleanUp.{covered, byDemand3}
 use Rattle.clean.specs.Clean.{firstOf, goes}
-use Rattle.twins.specs.declared.TwinList.{TwinList}
-use Rattle.twins.specs.Twins.{twinMark, firstTwin, markAt, listRefusal, Listed}
-use Rattle.twins.proofs.Listing as listed
+use Rattle.twins_spec.specs.declared.TwinList.{TwinList}
+use Rattle.twins_spec.specs.Twins.{twinMark, firstTwin, markAt, listRefusal, Listed, mostRecords}
+use Rattle.twins_spec.proofs.Listing as listed
 use Rattle.text.specs.Text.{field, refusalLine, Written}
 use Rattle.text.proofs.Texts.{then, said}
-use Rattle.listing_text.specs.Listing.{mostRecords}
 use Rattle.audit_text.specs.declared.Finding.{Finding}
 use Rattle.audit_text.specs.Audit.{staysFor, findingOf, columnsLine, pairOf, twinLine, isTwin, auditLine, auditLines, twinsWith, isCopy, isAlike, isCovered, isBefore, tallyLine, tallyOf, auditAt, auditOf, Tallied}
 

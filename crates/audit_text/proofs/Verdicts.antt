@@ -12,9 +12,9 @@ use Rattle.laws.proofs.Rows.{length-made}
 use Rattle.laws.proofs.Sameness.{true-false, not-so}
 use Rattle.bc6h_spec.specs.Answers.{done}
 use Rattle.records.specs.Store.{recordsIn}
-use Rattle.twins.specs.Twins.{twinMark, firstTwin, markAt, marksOf, listRefusal, answerAt, marksAt, Listed}
-use Rattle.twins.proofs.Marking as marking
-use Rattle.twins.proofs.Listing as listing
+use Rattle.twins_spec.specs.Twins.{twinMark, firstTwin, markAt, marksOf, listRefusal, answerAt, marksAt, Listed, mostRecords}
+use Rattle.twins_spec.proofs.Marking as marking
+use Rattle.twins_spec.proofs.Listing as listing
 use Rattle.cleanup.specs.CleanUp.{Copy, covered}
 use Rattle.cleanup.proofs.Theorem.{alike-copy}
 use Rattle.cleanup.proofs.Covering.{covered-shows}
@@ -23,7 +23,6 @@ use Rattle.clean.proofs.Repeating as repeating
 use Rattle.clean.proofs.Leaving.{going-same}
 use Rattle.clean.proofs.Cleaning as cleaning
 use Rattle.clean.proofs.Theorems.{gone-are-twins}
-use Rattle.listing_text.specs.Listing.{mostRecords}
 use Rattle.audit_text.specs.Audit.{staysFor, findingOf, isTwin, twinsWith, isCopy}
 use Rattle.audit_text.specs.Verdicts.{Whole, toldCopy, CopiesGo, CopiesRemoved, Beside, BesideStays, AlikeUncovered}
 

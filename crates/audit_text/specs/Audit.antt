@@ -9,11 +9,10 @@ use lib.ListN.{length}
 use Rattle.laws.specs.Pick.{pick, both}
 use Rattle.laws.specs.Made.{made, join}
 use Rattle.records.specs.Store.{recordsIn, tileAt}
-use Rattle.twins.specs.Twins.{twinMark, firstTwin, markAt, listRefusal}
+use Rattle.twins_spec.specs.Twins.{twinMark, firstTwin, markAt, listRefusal, mostRecords}
 use Rattle.cleanup.specs.CleanUp.{covered, byDemand3}
 use Rattle.clean.specs.Clean.{firstOf, goes}
 use Rattle.text.specs.Text.{lineFeed, decimal, field, refusalLine}
-use Rattle.listing_text.specs.Listing.{mostRecords}
 use Rattle.audit_text.specs.declared.Finding.{Finding}
 
 -- the record that stays beside a twin: where the clean-up removes the twin the one whose copy it is, and else the first that it looks like

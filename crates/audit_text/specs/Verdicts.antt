@@ -7,10 +7,9 @@ use lib.ListN.{length}
 use Rattle.laws.specs.Pick.{both}
 use Rattle.bc6h_spec.specs.Answers.{done}
 use Rattle.records.specs.Store.{recordsIn}
-use Rattle.twins.specs.Twins.{listRefusal}
+use Rattle.twins_spec.specs.Twins.{listRefusal, mostRecords}
 use Rattle.clean.specs.declared.Cleaned.{Cleaned}
 use Rattle.clean.specs.Clean.{Repeats, goes, CleanedInto}
-use Rattle.listing_text.specs.Listing.{mostRecords}
 use Rattle.audit_text.specs.Audit.{staysFor, findingOf, isTwin, twinsWith, isCopy}
 
 -- a store that is not refused

@@ -8,9 +8,8 @@ ghost use lib.Dec.{ltb};
 ghost use lib.ListN.{length};
 ghost use Rattle.laws.specs.Pick.{pick};
 ghost use Rattle.records.specs.Store.{recordsIn};
-ghost use Rattle.twins.specs.Twins.{firstTwin};
+ghost use Rattle.twins_spec.specs.Twins.{firstTwin, mostRecords, Marks};
 ghost use Rattle.text.specs.Text.{Written};
-ghost use Rattle.listing_text.specs.Listing.{mostRecords, Marks};
 ghost use Rattle.audit_text.specs.Audit.{findingOf, pairOf, verdictWord, coverWord, twinLine, auditLines, tallyLine, tallyOf, auditOf};
 use bc6h_spec::Answer;
 use clean::first_of;
@@ -22,10 +21,10 @@ use text::put;
 use text::put_count;
 use text::put_field;
 use text::put_refusal;
-use twins::Mark;
-use twins::TwinList;
 use twins::first_twin;
 use twins::twin_list;
+use twins_spec::Mark;
+use twins_spec::TwinList;
 
 pub struct Audit {
     pub end: usize,

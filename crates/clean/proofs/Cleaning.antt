@@ -8,7 +8,7 @@ use lib.ListN.{length, take, drop}
 use lib.Seq.{take-all, take-at, drop-at, drop-drop, paste, length-paste}
 use Rattle.bc6h_spec.specs.Answers.{done}
 use Rattle.records.specs.Store.{recordSize, recordsIn}
-use Rattle.twins.proofs.Listing as listing
+use Rattle.twins_spec.proofs.Listing as listing
 use Rattle.clean.specs.declared.Cleaned.{Cleaned}
 use Rattle.clean.specs.Clean.{goes, recordOf, left, staying, cleanedOf, stayCount, goneCount, cleanRefusal, refusal, answerAt, CleanedInto}
 use Rattle.clean.proofs.Leaving.{record-length, staying-none, staying-gone, staying-more, staying-adds, left-none, left-length, left-gone, left-more}

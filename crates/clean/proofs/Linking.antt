@@ -17,8 +17,8 @@ use Rattle.laws.proofs.Sameness.{true-false, not-so}
 use Rattle.bc6h_spec.specs.Bits.{blockSize}
 use Rattle.records.specs.Store.{recordsIn, formatOf, blockOf, recordRefusal, Unrefused, partAt}
 use Rattle.records.proofs.Readings.{part-of}
-use Rattle.twins_scratch.specs.Shown.{isRecord}
-use Rattle.twins_scratch.proofs.Shown.{is-record, is-refused}
+use Rattle.twins_spec.specs.Shown.{isRecord}
+use Rattle.twins_spec.proofs.Shown.{is-record, is-refused}
 use Rattle.clean.specs.Clean.{Repeats, repeats, firstOf, goes}
 use Rattle.clean.specs.Links.{bucketCount, mixedUpto, bucketOf, bucketAt, isOf, lastOf, Linked}
 use Rattle.clean.proofs.Repeating.{repeats-means, goes-first, first-repeated, goes-by, repeats-so}

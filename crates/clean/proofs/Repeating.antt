@@ -13,8 +13,8 @@ use Rattle.laws.proofs.Sameness.{true-false, not-so, same-so, same-means}
 use Rattle.bc6h_spec.specs.Fields.{modeOf}
 use Rattle.records.specs.Store.{formatOf, blockOf, recordRefusal, Unrefused, partAt}
 use Rattle.records.proofs.Readings.{part-of}
-use Rattle.twins_scratch.specs.Shown.{Reserved, isRecord, isReserved}
-use Rattle.twins_scratch.proofs.Shown.{is-record, is-refused}
+use Rattle.twins_spec.specs.Shown.{Reserved, isRecord, isReserved}
+use Rattle.twins_spec.proofs.Shown.{is-record, is-refused}
 use Rattle.clean.specs.Clean.{Repeats, repeats, firstOf, goes, Goes}
 
 not-means : (b : Bool) → not b ≡ true → b ≡ false

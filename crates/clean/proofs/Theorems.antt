@@ -13,11 +13,11 @@ use Rattle.bc6h_spec.specs.Answers.{done}
 use Rattle.bc6h_spec.specs.Picture.{isSigned}
 use Rattle.bc6h_spec.specs.Block.{pixelsOf}
 use Rattle.records.specs.Store.{recordSize, recordsIn}
-use Rattle.twins.specs.declared.TwinList.{TwinList}
-use Rattle.twins_scratch.specs.Shown.{pictureAt}
-use Rattle.twins.specs.Twins.{twinMark, Alike, Twin, firstTwin, markAt, marksOf, Listed}
-use Rattle.twins.proofs.Marking.{first-alike, mark-is}
-use Rattle.twins.proofs.Listing as listing
+use Rattle.twins_spec.specs.declared.TwinList.{TwinList}
+use Rattle.twins_spec.specs.Shown.{pictureAt}
+use Rattle.twins_spec.specs.Twins.{twinMark, Alike, Twin, firstTwin, markAt, marksOf, Listed}
+use Rattle.twins_spec.proofs.Marking.{first-alike, mark-is}
+use Rattle.twins_spec.proofs.Listing as listing
 use Rattle.cleanup.specs.CleanUp.{Covered}
 use Rattle.cleanup.proofs.Theorem.{marked-first, clean-up}
 use Rattle.clean.specs.declared.Cleaned.{Cleaned}

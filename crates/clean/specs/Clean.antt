@@ -10,8 +10,8 @@ use Rattle.laws.specs.Every.{same}
 use Rattle.laws.specs.First.{firstBelow}
 use Rattle.bc6h_spec.specs.Answers.{done}
 use Rattle.records.specs.Store.{recordSize, recordsIn, formatOf, blockOf, Unrefused}
-use Rattle.twins_scratch.specs.Shown.{Reserved, isRecord, isReserved}
-use Rattle.twins.specs.Twins.{listRefusal}
+use Rattle.twins_spec.specs.Shown.{Reserved, isRecord, isReserved}
+use Rattle.twins_spec.specs.Twins.{listRefusal}
 use Rattle.clean.specs.declared.Cleaned.{Cleaned}
 
 -- ---- which records go

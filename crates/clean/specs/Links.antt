@@ -9,7 +9,7 @@ use lib.ListN.{getD}
 use Rattle.laws.specs.Pick.{pick, both}
 use Rattle.bc6h_spec.specs.Bits.{blockSize}
 use Rattle.records.specs.Store.{formatOf, blockOf, Unrefused}
-use Rattle.twins_scratch.specs.Shown.{isRecord}
+use Rattle.twins_spec.specs.Shown.{isRecord}
 
 abbrev pub bucketCount : ℕ
 bucketCount = 2048

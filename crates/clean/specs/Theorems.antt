@@ -7,8 +7,8 @@ use lib.Dec.{eqb}
 use lib.ListN.{getD, take}
 use Rattle.bc6h_spec.specs.Answers.{done}
 use Rattle.records.specs.Store.{recordSize, recordsIn, formatOf, blockOf, Unrefused}
-use Rattle.twins.specs.declared.TwinList.{TwinList}
-use Rattle.twins.specs.Twins.{twinMark, Alike, firstTwin, Listed}
+use Rattle.twins_spec.specs.declared.TwinList.{TwinList}
+use Rattle.twins_spec.specs.Twins.{twinMark, Alike, firstTwin, Listed}
 use Rattle.cleanup.specs.CleanUp.{Covered}
 use Rattle.clean.specs.declared.Cleaned.{Cleaned}
 use Rattle.clean.specs.Clean.{goes, Goes, recordOf, left, staying, CleanedInto}

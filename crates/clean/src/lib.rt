@@ -16,9 +16,9 @@ use records::Record;
 use records::RecordReading;
 use records::record_at;
 use records::record_block;
-use twins::TwinList;
-use twins::list_refusal;
+use twins_marks::list_refusal;
 use twins_scratch::mode_at;
+use twins_spec::TwinList;
 
 // Done, with how many records stay and how many are removed; or a refusal's number.
 pub struct Cleaned {

@@ -19,11 +19,11 @@ use Rattle.copies.specs.Trust.{Trusted, trusted}
 use Rattle.copies.proofs.Trust.{sound, none-lost, one-region-eligible, one-region-differs}
 use Rattle.records.specs.Store.{recordsIn, formatOf, blockOf, recordRefusal, Unrefused, partAt}
 use Rattle.records.proofs.Readings.{part-of}
-use Rattle.twins.specs.declared.TwinList.{TwinList}
-use Rattle.twins_scratch.specs.Shown.{isRecord}
-use Rattle.twins.specs.Twins.{twinMark, Alike, firstTwin, Listed}
-use Rattle.twins_scratch.proofs.Shown.{is-record, is-refused}
-use Rattle.twins.proofs.Marking.{first-alike}
+use Rattle.twins_spec.specs.declared.TwinList.{TwinList}
+use Rattle.twins_spec.specs.Shown.{isRecord}
+use Rattle.twins_spec.specs.Twins.{twinMark, Alike, firstTwin, Listed}
+use Rattle.twins_spec.proofs.Shown.{is-record, is-refused}
+use Rattle.twins_spec.proofs.Marking.{first-alike}
 use Rattle.cleanup.specs.CleanUp.{Covered, Copy, ByDemand3, coveredPair, covered, byDemand3}
 use Rattle.cleanup.proofs.Theorem.{one-picture, marked-first, clean-up}
 

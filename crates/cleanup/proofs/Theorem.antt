@@ -10,11 +10,11 @@ use Rattle.bc6h_spec.specs.Picture.{isSigned}
 use Rattle.bc6h_spec.specs.Block.{pixelsOf}
 use Rattle.copies.proofs.Wide.{copies}
 use Rattle.records.specs.Store.{recordsIn, formatOf, blockOf}
-use Rattle.twins.specs.declared.TwinList.{TwinList}
-use Rattle.twins_scratch.specs.Shown.{pictureAt}
-use Rattle.twins.specs.Twins.{keptMark, twinMark, Alike, firstTwin, markAt, Listed}
-use Rattle.twins.proofs.Marking.{first-alike, twin-marked, first-stays}
-use Rattle.twins.proofs.Listing.{mark-here}
+use Rattle.twins_spec.specs.declared.TwinList.{TwinList}
+use Rattle.twins_spec.specs.Shown.{pictureAt}
+use Rattle.twins_spec.specs.Twins.{keptMark, twinMark, Alike, firstTwin, markAt, Listed}
+use Rattle.twins_spec.proofs.Marking.{first-alike, twin-marked, first-stays}
+use Rattle.twins_spec.proofs.Listing.{mark-here}
 use Rattle.cleanup.specs.CleanUp.{Covered, Copy, CleanUp, NoTileLost, KeptPicture, NoPictureLost}
 
 -- ---- from the mark to the bytes

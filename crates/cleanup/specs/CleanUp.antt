@@ -13,9 +13,9 @@ use Rattle.copies.specs.Words.{Eligible, ChannelDiffers}
 use Rattle.copies.specs.Wide.{Suited, Matched}
 use Rattle.copies.specs.Trust.{trusted}
 use Rattle.records.specs.Store.{recordsIn, formatOf, blockOf, Unrefused}
-use Rattle.twins.specs.declared.TwinList.{TwinList}
-use Rattle.twins_scratch.specs.Shown.{pictureAt, isRecord}
-use Rattle.twins.specs.Twins.{keptMark, twinMark, firstTwin, markAt, Listed}
+use Rattle.twins_spec.specs.declared.TwinList.{TwinList}
+use Rattle.twins_spec.specs.Shown.{pictureAt, isRecord}
+use Rattle.twins_spec.specs.Twins.{keptMark, twinMark, firstTwin, markAt, Listed}
 
 -- the two blocks meet the premises of the copies theorem, in the record's format; that the other has the same format, the mark says
 pub record Covered (store : List ℕ) (n earlier : ℕ) : Type 0 where

@@ -15,16 +15,15 @@ use Rattle.bc6h_spec.specs.Picture.{valueCount, isSigned}
 use Rattle.bc6h_spec.specs.Block.{infinitiesOf}
 use Rattle.bc6.specs.declared.Pixels.{Pixels}
 use Rattle.bc6.specs.Call.{Painted}
-use Rattle.bc6.proofs.Calls.{done-when, infinities-told}
+use Rattle.bc6.proofs.Calls.{written, done-when, infinities-told}
 use Rattle.records.specs.Store.{recordsIn, formatOf, tileAt, blockOf, recordRefusal, Unrefused, partAt}
 use Rattle.records.proofs.Refusals.{known, block-length}
 use Rattle.records.proofs.Readings.{part-of}
-use Rattle.twins_scratch.specs.Shown.{pictureAt}
-use Rattle.twins.specs.Twins.{listRefusal}
-use Rattle.twins_scratch.proofs.Shown.{record-painted, whole-picture}
+use Rattle.twins_spec.specs.Shown.{pictureAt}
+use Rattle.twins_spec.specs.Twins.{listRefusal, mostRecords}
+use Rattle.twins_spec.proofs.Shown.{record-painted, whole-picture}
 use Rattle.text.specs.Text.{field, refusalLine, Written}
 use Rattle.text.proofs.Texts.{then, said}
-use Rattle.listing_text.specs.Listing.{mostRecords}
 use Rattle.infinities_text.specs.declared.Finding.{Finding}
 use Rattle.infinities_text.specs.Infinities.{infiniteAt, findingAt, findingOf, channelWord, findingLine, infiniteLine, infiniteLines, recordsWith, valuesWith, countsLine, countsOf, infinitiesText, Counted}
 
@@ -47,7 +46,7 @@ module _ (store : List ℕ) (n : ℕ) where
       let k = known store n u in
       let is : block ≡ blockOf store n = b ∙ part-of store n u in
       let d = done-when format (length block) (length out) (omega arith) (ap length is ∙ block-length k) (omega arith) in
-      let shows : after ≡ pictureAt store n = whole-picture store n _ (record-painted store n u f b (omega arith) p) len in
+      let shows : after ≡ pictureAt store n = whole-picture store n _ (record-painted store n _ u f b (λ _ _. written p d)) len in
       let many : infinite ≡ infinitiesOf (isSigned (formatOf store n)) (blockOf store n) = i ∙ infinities-told p d ∙ ap₂ (λ (x : ℕ) (y : List ℕ). infinitiesOf (isSigned x) y) f is in
       let where-is : first ≡ firstBelow (infiniteAt (pictureAt store n)) valueCount = e ∙ ap (λ (l : List ℕ). firstBelow (infiniteAt l) valueCount) shows in
       rw u (ap₂ (λ (x y : ℕ). record { infinite = x; first = y }) many where-is)

@@ -13,10 +13,9 @@ use Rattle.bc6h_spec.specs.Half.{minusInfinity}
 use Rattle.bc6h_spec.specs.Picture.{valueCount, isSigned}
 use Rattle.bc6h_spec.specs.Block.{infinitiesOf}
 use Rattle.records.specs.Store.{recordsIn, formatOf, tileAt, blockOf, recordRefusal}
-use Rattle.twins_scratch.specs.Shown.{pictureAt}
-use Rattle.twins.specs.Twins.{listRefusal}
+use Rattle.twins_spec.specs.Shown.{pictureAt}
+use Rattle.twins_spec.specs.Twins.{listRefusal, mostRecords}
 use Rattle.text.specs.Text.{lineFeed, decimal, field, refusalLine}
-use Rattle.listing_text.specs.Listing.{mostRecords}
 use Rattle.infinities_text.specs.declared.Finding.{Finding}
 
 -- "values .. equal 0xFC00": whether value j does

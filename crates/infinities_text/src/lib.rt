@@ -9,7 +9,7 @@ ghost use Rattle.laws.specs.First.{firstBelow};
 ghost use Rattle.bc6h_spec.specs.Picture.{valueCount};
 ghost use Rattle.records.specs.Store.{recordsIn, storeLimit};
 ghost use Rattle.text.specs.Text.{Written};
-ghost use Rattle.listing_text.specs.Listing.{mostRecords};
+ghost use Rattle.twins_spec.specs.Twins.{mostRecords};
 ghost use Rattle.infinities_text.specs.Infinities.{infiniteAt, findingOf, channelWord, findingLine, infiniteLines, countsLine, countsOf, infinitiesText};
 use bc6::block_pixels;
 use bc6h_spec::Answer;
@@ -23,8 +23,8 @@ use text::put;
 use text::put_count;
 use text::put_field;
 use text::put_refusal;
-use twins::TwinList;
-use twins::list_refusal;
+use twins_marks::list_refusal;
+use twins_spec::TwinList;
 
 const MINUS_INFINITY: u16 = 0xFC00;
 

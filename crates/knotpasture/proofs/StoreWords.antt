@@ -7,9 +7,9 @@ use lib.Dec.{eqb}
 use borrow.Author.Tests.{eqb-true, eqb-false}
 use Rattle.laws.proofs.Tests.{cases}
 use Rattle.bc6h_spec.specs.Answers.{done}
-use Rattle.twins.specs.declared.TwinList.{TwinList}
-use Rattle.twins.specs.Twins.{ListedIn}
-use Rattle.twins.proofs.Listing.{list-is, silent-in}
+use Rattle.twins_spec.specs.declared.TwinList.{TwinList}
+use Rattle.twins_spec.specs.Twins.{ListedIn}
+use Rattle.twins_spec.proofs.Listing.{list-is, silent-in}
 use Rattle.clean.specs.declared.Cleaned.{Cleaned}
 use Rattle.clean.specs.Clean.{CleanedInto}
 use Rattle.clean.proofs.Cleaning as cleaning

@@ -17,9 +17,9 @@ use Rattle.records.specs.declared.RecordReading.the-variants as reading
 use Rattle.records.specs.Store.{recordSize, headSize, storeLimit, tileOf, formatOf, recordRefusal, Read}
 use Rattle.records.proofs.Refusals.{known}
 use Rattle.records.proofs.Readings.{unrefused, refused}
-use Rattle.twins.specs.declared.TwinList.{TwinList}
-use Rattle.twins.specs.Twins.{refusal, Listed}
-use Rattle.twins.proofs.Listing.{refused-alone, counts-add-up, whole}
+use Rattle.twins_spec.specs.declared.TwinList.{TwinList}
+use Rattle.twins_spec.specs.Twins.{refusal, Listed}
+use Rattle.twins_spec.proofs.Listing.{refused-alone, counts-add-up, whole}
 use Rattle.strict.specs.Strict.{StrictlyListed}
 use Rattle.strict.proofs.Strictness as strict
 use Rattle.knotpasture.specs.Packed.{pixelsWord, PixelsCalled, RunCalled, wordAt, readingWord, offsetAt, twinsWord, TwinsCalled, StrictCalled}

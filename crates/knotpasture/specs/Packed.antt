@@ -13,9 +13,9 @@ use Rattle.bc6.specs.declared.Pixels.{Pixels}
 use Rattle.bc6.specs.Call.{refusalOf, answerAt, valuesAt}
 use Rattle.bc6_blocks.specs.Run.{runRefusal, runAnswer, runValues}
 use Rattle.records.specs.Store.{recordSize, headSize, tileOf, formatOf, recordRefusal}
-use Rattle.twins.specs.declared.TwinList.{TwinList}
-use Rattle.twins.specs.Twins.{listRefusal, marksAt}
-use Rattle.twins.specs.Twins as twins
+use Rattle.twins_spec.specs.declared.TwinList.{TwinList}
+use Rattle.twins_spec.specs.Twins.{listRefusal, marksAt}
+use Rattle.twins_spec.specs.Twins as twins
 use Rattle.strict.specs.Strict.{strictRefusal}
 
 -- two bytes, the first the lowest

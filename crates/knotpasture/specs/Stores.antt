@@ -3,7 +3,7 @@ use mathlib.Core.Path.{_≡_}
 use mathlib.Core.List.{List}
 use Prim.Native.Nat.{ℕ, _+_, _*_}
 use lib.ListN.{length}
-use Rattle.twins.specs.Twins.{answerAt, marksAt, scratchRefusal, scratchAt}
+use Rattle.twins_spec.specs.Twins.{answerAt, marksAt, scratchRefusal, scratchAt}
 use Rattle.clean.specs.declared.Cleaned.{Cleaned}
 use Rattle.clean.specs.Clean.{cleanRefusal, bytesAt}
 use Rattle.clean.specs.Clean as clean

@@ -12,7 +12,7 @@ use bc6_numbers::Numbers;
 use bc6h_spec::Answer;
 use records::Record;
 use records::RecordReading;
-use twins::TwinList;
+use twins_spec::TwinList;
 ghost use mathlib.Core.Path.{_≡_};
 ghost use mathlib.Core.List.{_++_};
 ghost use Prim.Native.Nat.{_+_, _*_, _<_, _≤_};

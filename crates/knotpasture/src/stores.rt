@@ -5,7 +5,7 @@ ghost use Prim.Native.Nat.{_+_, _≤_};
 ghost use Rattle.clean.specs.Clean.{firstOf};
 ghost use Rattle.cleanup.specs.CleanUp.{covered};
 ghost use Rattle.strict.specs.Strict.{firstDamaged};
-ghost use Rattle.twins.specs.Twins.{firstTwin};
+ghost use Rattle.twins_spec.specs.Twins.{firstTwin};
 ghost use Rattle.knotpasture.specs.Stores.{cleanWord, CleanCalled, TwinsInCalled};
 use super::list_word;
 use clean::Cleaned;

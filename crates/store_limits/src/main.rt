@@ -11,8 +11,8 @@ use store_program::read_input;
 use store_program::write_text;
 use text::put;
 use text::put_count;
-use twins::TwinList;
 use twins::twin_list;
+use twins_spec::TwinList;
 
 struct Limits {
     untouched: u8,

@@ -14,12 +14,12 @@ use Rattle.bc6h_spec.specs.Answers.{done, unevenStore, reservedBlock}
 use Rattle.bc6h_spec.specs.Fields.{modeOf}
 use Rattle.records.specs.Store.{storeLimit, recordsIn, blockOf, Unrefused}
 use Rattle.records.proofs.Refusals.{known}
-use Rattle.twins.specs.declared.TwinList.{TwinList}
-use Rattle.twins_scratch.specs.Shown.{isRecord}
-use Rattle.twins.specs.Twins.{listRefusal, refusal, answerAt, Listed}
+use Rattle.twins_spec.specs.declared.TwinList.{TwinList}
+use Rattle.twins_spec.specs.Shown.{isRecord}
+use Rattle.twins_spec.specs.Twins.{listRefusal, refusal, answerAt, Listed}
 use Rattle.strict.specs.Strict.{Damaged, damaged, firstDamaged, orDamaged, strictRefusal, StrictlyListed}
-use Rattle.twins_scratch.proofs.Shown.{is-record, is-refused}
-use Rattle.twins.proofs.Listing as ordinary
+use Rattle.twins_spec.proofs.Shown.{is-record, is-refused}
+use Rattle.twins_spec.proofs.Listing as ordinary
 
 -- ---- damaged records
 

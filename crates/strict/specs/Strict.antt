@@ -9,9 +9,9 @@ use Rattle.laws.specs.Pick.{pick, both}
 use Rattle.laws.specs.First.{firstBelow}
 use Rattle.bc6h_spec.specs.Answers.{done, reservedBlock}
 use Rattle.records.specs.Store.{recordsIn, Unrefused}
-use Rattle.twins.specs.declared.TwinList.{TwinList}
-use Rattle.twins_scratch.specs.Shown.{Reserved, isRecord, isReserved}
-use Rattle.twins.specs.Twins.{listRefusal, answerAt, marksAt}
+use Rattle.twins_spec.specs.declared.TwinList.{TwinList}
+use Rattle.twins_spec.specs.Shown.{Reserved, isRecord, isReserved}
+use Rattle.twins_spec.specs.Twins.{listRefusal, answerAt, marksAt}
 
 -- "any unrefused record has a reserved mode"
 pub record Damaged (store : List ℕ) (n : ℕ) : Type 0 where

@@ -6,10 +6,10 @@ use bc6h_spec::Answer;
 use records::Record;
 use records::RecordReading;
 use records::record_at;
-use twins::TwinList;
-use twins::list_refusal;
 use twins::twin_list;
+use twins_marks::list_refusal;
 use twins_scratch::mode_at;
+use twins_spec::TwinList;
 
 // Record n is not refused and has a reserved mode.
 fn is_damaged(store: &[u8], n: usize) -> bool

@@ -1,3 +1,1 @@
-pub mod Marking
-pub mod Listing
 pub mod Reserved

@@ -4,11 +4,11 @@ use mathlib.Core.List.{List}
 use Prim.Native.Nat.{ℕ}
 use Rattle.bc6h_spec.specs.Fields.{modeOf}
 use Rattle.records.specs.Store.{blockOf}
-use Rattle.twins_scratch.specs.Shown.{Reserved}
-use Rattle.twins.specs.Twins.{Twin}
+use Rattle.twins_spec.specs.Shown.{Reserved}
+use Rattle.twins_spec.specs.Twins.{Twin}
 use Rattle.twins.specs.Reserved.{ReservedAlone}
-use Rattle.twins.proofs.Marking.{first-alike, mark-reserved, twin-marked}
-use Rattle.twins.proofs.Listing.{mark-here}
+use Rattle.twins_spec.proofs.Marking.{first-alike, mark-reserved, twin-marked}
+use Rattle.twins_spec.proofs.Listing.{mark-here}
 
 unreserved-original : {store : List ℕ} {n : ℕ} → Reserved store n → (later : ℕ) (twin : Twin store later) → twin .earlier ≡ n → ⊥
 unreserved-original {store} z later twin e = twin .shows .earlier-unreserved (ap (λ (k : ℕ). modeOf (blockOf store k)) e ∙ z)

@@ -5,9 +5,9 @@ use Prim.Native.Nat.{ℕ, _<_}
 use lib.ListN.{getD}
 use Rattle.bc6h_spec.specs.Answers.{done}
 use Rattle.records.specs.Store.{recordsIn, Unrefused}
-use Rattle.twins_scratch.specs.Shown.{Reserved}
-use Rattle.twins.specs.declared.TwinList.{TwinList}
-use Rattle.twins.specs.Twins.{Twin, keptMark, twinMark, Listed}
+use Rattle.twins_spec.specs.Shown.{Reserved}
+use Rattle.twins_spec.specs.declared.TwinList.{TwinList}
+use Rattle.twins_spec.specs.Twins.{Twin, keptMark, twinMark, Listed}
 
 -- "An unrefused reserved record is always kept"; refused or not it is never marked a twin, and no record is a twin of it.
 pub record Alone (store after : List ℕ) (n : ℕ) : Type 0 where

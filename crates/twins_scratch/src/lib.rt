@@ -1,5 +1,5 @@
-// What is kept of the records while a twin list is made, in scratch space: each record is decoded once. First a fingerprint a record, by
-// which the search passes most records by, and behind those the pictures.
+// What is kept of the records while a twin list is made, in scratch space: first a fingerprint a record, by which the search passes most
+// records by, and behind those the pictures.
 
 ghost use mathlib.Core.Path.{_≡_};
 ghost use mathlib.Core.List.{_++_};
@@ -9,9 +9,7 @@ ghost use Rattle.laws.specs.Made.{made};
 ghost use Rattle.bc6h_spec.specs.Fields.{modeOf};
 ghost use Rattle.bc6h_spec.specs.Picture.{valueCount};
 ghost use Rattle.records.specs.Store.{recordsIn, formatOf, blockOf, Unrefused};
-ghost use Rattle.twins_scratch.specs.Shown.{pictureAt};
-ghost use Rattle.twins_scratch.specs.Scratch.{entrySize, kindAt, mixedUpto, printOf, printAt, picturesOf, scratchOf, pictureIn, Pictured};
-use bc6::block_pixels;
+ghost use Rattle.twins_spec.specs.Scratch.{entrySize, kindAt, mixedUpto, printOf, printAt, pictureIn, Pictured};
 use bc6_mode::extract_mode;
 use bc6h_spec::Block;
 use bcn_util::BitStream;
@@ -19,19 +17,7 @@ use records::Record;
 use records::RecordReading;
 use records::record_at;
 use records::record_block;
-
-// Scratch space for so many records.
-pub struct Scratch {
-    pub records: usize,
-}
-
-impl Scratch {
-    // How many values a record takes: its fingerprint and its picture.
-    pub const ENTRY: usize = 1 + Block::VALUES;
-
-    // The kind of a record that holds no picture; that of another is its format.
-    const NO_PICTURE: u64 = 2;
-}
+use twins_spec::Scratch;
 
 fn wide(value: u16) -> u64
     ensures { λ r. ⌜ (r ≡ value) × (r < 65536) ⌝ }
@@ -72,16 +58,6 @@ pub fn picture_in(scratch: &[u16], count: usize, n: usize) -> &[u16]
     &scratch[start..end]
 }
 
-// The picture of record n, which is not refused, into the first values of `out`.
-pub fn decode_record(store: &[u8], n: usize, format: u8, out: &mut [u16])
-    requires { ⌜ Unrefused (now store) n ⌝ }
-    requires { ⌜ format ≡ formatOf (now store) n ⌝ }
-    requires { ⌜ valueCount ≤ length (now out) ⌝ }
-    ensures { λ _. ⌜ now (out .exit) ≡ pictureAt (now (store .entry)) n ++ drop valueCount (now (out .entry)) ⌝ }
-{
-    block_pixels(record_block(store, n), format, out);
-}
-
 // The mode of record n, which is not refused; 0 for a reserved one.
 pub fn mode_at(store: &[u8], n: usize) -> usize
     requires { ⌜ Unrefused (now store) n ⌝ }
@@ -102,23 +78,8 @@ fn kind_at(store: &[u8], n: usize, format: u8) -> u64
     format as u64
 }
 
-// The pictures of all records that are not refused, each at its record's number.
-fn keep_pictures(store: &[u8], pictures: &mut [u16])
-    requires { ⌜ valueCount * recordsIn (now store) ≤ length (now pictures) ⌝ }
-    ensures { λ _. ⌜ now (pictures .exit) ≡ picturesOf (now (store .entry)) (now (pictures .entry)) ⌝ }
-{
-    let count = store.len() / Record::SIZE;
-    for n in 0..count {
-        let RecordReading::Record(found) = record_at(store, n) else {
-            continue;
-        };
-        let start = Block::VALUES * n;
-        decode_record(store, n, found.format, &mut pictures[start..]);
-    }
-}
-
-// Their fingerprints, before the pictures.
-fn keep_prints(store: &[u8], scratch: &mut [u16])
+// The fingerprints of all records that are not refused, before their pictures.
+pub fn keep_prints(store: &[u8], scratch: &mut [u16])
     requires { ⌜ recordsIn (now store) * entrySize ≤ length (now scratch) ⌝ }
     requires { ⌜ Pictured (now store) (now scratch) ⌝ }
     ensures { λ _. ⌜ now (scratch .exit) ≡ made (printAt (now (store .entry)) (now (scratch .entry))) (recordsIn (now (store .entry))) ++ drop (recordsIn (now (store .entry))) (now (scratch .entry)) ⌝ }
@@ -131,14 +92,4 @@ fn keep_prints(store: &[u8], scratch: &mut [u16])
         let kind = kind_at(store, n, found.format);
         scratch[n] = fingerprint(kind, picture_in(scratch, count, n));
     }
-}
-
-// Decodes each record once, into scratch space.
-pub fn keep_records(store: &[u8], scratch: &mut [u16])
-    requires { ⌜ recordsIn (now store) * entrySize ≤ length (now scratch) ⌝ }
-    ensures { λ _. ⌜ now (scratch .exit) ≡ scratchOf (now (store .entry)) (now (scratch .entry)) ⌝ }
-{
-    let count = store.len() / Record::SIZE;
-    keep_pictures(store, &mut scratch[count..]);
-    keep_prints(store, scratch);
 }

@@ -1,7 +1,6 @@
 use mathlib.Core.Path.{refl, sym, _∙_}
 use native.Mathlib.Omega.{arith}
-use Rattle.twins.proofs.Listing.{whole}
-use Rattle.listing_text.proofs.Lines.{all-marks}
+use Rattle.twins_spec.proofs.Listing.{whole, all-marks}
 use Rattle.text.proofs.Texts.{said, written-length}
 use Rattle.audit_text.specs.Audit.{columnsLine}
 use Rattle.audit_text.proofs.Twins as twins

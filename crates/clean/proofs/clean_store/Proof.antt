@@ -2,7 +2,7 @@ use borrow.Author.Needs.{needs}
 use mathlib.Core.Path.{sym, _∙_}
 use Prim.Native.Nat.{_-_}
 use native.Mathlib.Omega.{arith}
-use Rattle.twins.proofs.Listing.{whole-when}
+use Rattle.twins_spec.proofs.Listing.{whole-when}
 use Rattle.clean.proofs.Cleaning as laws
 use Rattle.clean.proofs.Cleaning.{SoFar}
 use Rattle.clean.proofs.clean_store.Statement.{statement}

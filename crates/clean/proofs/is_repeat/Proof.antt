@@ -1,7 +1,7 @@
 use borrow.Author.Needs.{needs}
 use mathlib.Core.Path.{sym, _∙_}
 use Rattle.records.proofs.Readings.{unrefused, format-is, refused}
-use Rattle.twins_scratch.proofs.Shown.{part-length}
+use Rattle.twins_spec.proofs.Shown.{part-length}
 use Rattle.clean.proofs.Repeating as laws
 use Rattle.clean.proofs.is_repeat.Statement.{statement}
 use Rattle.clean.proofs.is_repeat.Tie as tie

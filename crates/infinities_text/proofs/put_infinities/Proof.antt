@@ -1,5 +1,5 @@
 use mathlib.Core.Path.{sym, _∙_}
-use Rattle.twins.proofs.Listing.{whole-when}
+use Rattle.twins_spec.proofs.Listing.{whole-when}
 use Rattle.text.proofs.Texts.{said}
 use Rattle.infinities_text.proofs.Findings as findings
 use borrow.Author.Needs.{needs}

@@ -1,5 +1,5 @@
 use Rattle.strict.proofs.Strictness as strictly
-use Rattle.listing_text.proofs.Lines as lines
+use Rattle.listing_text.proofs.Whole as texts
 use borrow.Author.Needs.{needs}
 use Rattle.listing_text.proofs.list_records.Statement.{statement}
 use Rattle.listing_text.proofs.list_records.Tie as tie
@@ -13,7 +13,7 @@ same-length c = search needs
 returns : tie.Need-returns
 returns c =
     let d = c .before .before .strict-twin-list .ensures in
-    (lines.strict-number (c .before .before .before .before .before .before .before .pre) (c .before .before .before .before .if1 .taken) d, strictly.list-is d)
+    (texts.strict-number (c .before .before .before .before .before .before .before .pre) (c .before .before .before .before .if1 .taken) d, strictly.list-is d)
 
 twin-list-requires : tie.Need-twin-list-requires
 twin-list-requires c κs = search needs
@@ -22,7 +22,7 @@ same-length-2 : tie.Need-same-length-2
 same-length-2 c = search needs
 
 returns-2 : tie.Need-returns-2
-returns-2 c = let d = c .before .before .twin-list .ensures in (lines.ordinary-number (c .before .before .before .before .before .before .before .pre) (c .before .before .before .before .if1 .left) d, λ z. d)
+returns-2 c = let d = c .before .before .twin-list .ensures in (texts.ordinary-number (c .before .before .before .before .before .before .before .pre) (c .before .before .before .before .if1 .left) d, λ z. d)
 
 pub list-records-spec : {M : Type 1} → statement M
 list-records-spec =

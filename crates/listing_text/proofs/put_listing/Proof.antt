@@ -1,7 +1,7 @@
 use native.Mathlib.Omega.{arith}
-use Rattle.twins.proofs.Listing.{whole}
+use Rattle.twins_spec.proofs.Listing.{whole, all-marks}
 use Rattle.text.proofs.Texts.{said}
-use Rattle.listing_text.proofs.Lines as lines
+use Rattle.listing_text.proofs.Whole as texts
 use borrow.Author.Needs.{needs}
 use Rattle.listing_text.proofs.put_listing.Statement.{statement}
 use Rattle.listing_text.proofs.put_listing.Tie as tie
@@ -19,7 +19,7 @@ same-length : tie.Need-same-length
 same-length c = search needs
 
 returns : tie.Need-returns
-returns c = (search needs, said (c .before .before .put-refusal .ensures .1) (lines.refused-text (c .before .before .before .before .before .before .before .before .before .before .before .args .store .now) (c .before .before .before .before .before .before .before .before .before .before .before .args .strict) _ (c .before .before .before .before .before .before .before .list-records .ensures .0) (c .before .before .before .before .if1 .taken)))
+returns c = (search needs, said (c .before .before .put-refusal .ensures .1) (texts.refused-text (c .before .before .before .before .before .before .before .before .before .before .before .args .store .now) (c .before .before .before .before .before .before .before .before .before .before .before .args .strict) _ (c .before .before .before .before .before .before .before .list-records .ensures .0) (c .before .before .before .before .if1 .taken)))
 
 slice-aggregate-put-records : tie.Need-slice-aggregate-put-records
 slice-aggregate-put-records c = search needs
@@ -29,7 +29,7 @@ put-records-requires c κs =
     let z = c .before .before .if1 .left in
     let d = c .before .before .before .before .before .list-records .ensures .1 z in
     let w = whole d z in
-    (omega arith, (omega arith, lines.all-marks d z))
+    (omega arith, (omega arith, all-marks d z))
 
 put-counts-requires : tie.Need-put-counts-requires
 put-counts-requires c κs =
@@ -45,7 +45,7 @@ returns-2 c =
     let z = c .before .before .before .before .before .before .before .before .before .if1 .left in
     let d = c .before .before .before .before .before .before .before .before .before .before .before .before .list-records .ensures in
     let w = whole (d .1 z) z in
-    (search needs, lines.whole-text (c .before .before .before .before .before .before .before .before .before .before .before .before .before .before .before .before .args .store .now) (c .before .before .before .before .before .before .before .before .before .before .before .before .before .before .before .before .args .strict) (d .0) z (d .1 z) (c .before .before .before .before .before .before .put-records .ensures .1) (c .before .before .put-counts .ensures .1))
+    (search needs, texts.whole-text (c .before .before .before .before .before .before .before .before .before .before .before .before .before .before .before .before .args .store .now) (c .before .before .before .before .before .before .before .before .before .before .before .before .before .before .before .before .args .strict) (d .0) z (d .1 z) (c .before .before .before .before .before .before .put-records .ensures .1) (c .before .before .put-counts .ensures .1))
 
 pub put-listing-spec : {M : Type 1} → statement M
 put-listing-spec =

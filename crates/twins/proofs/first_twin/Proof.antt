@@ -4,8 +4,8 @@ use Prim.Native.Nat.{_≤_, _-_}
 use Rattle.laws.specs.First.{firstBelow}
 use Rattle.laws.proofs.Firsts.{first-none, first-more, first-end, first-at}
 use Rattle.records.proofs.Readings.{unrefused, format-is, refused}
-use Rattle.twins.specs.Twins.{alike, firstTwin}
-use Rattle.twins.proofs.Marking.{no-twin, reserved-no-twin, alike-shown}
+use Rattle.twins_spec.specs.Twins.{alike, firstTwin}
+use Rattle.twins_spec.proofs.Marking.{no-twin, reserved-no-twin, alike-shown}
 use Rattle.twins.proofs.first_twin.Statement.{statement}
 use Rattle.twins.proofs.first_twin.Tie as tie
 

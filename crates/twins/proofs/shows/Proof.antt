@@ -1,7 +1,7 @@
 use borrow.Author.Needs.{needs}
 use borrow.Author.Tests.{not-true, not-false}
 use mathlib.Core.Path.{sym, _∙_}
-use Rattle.twins.proofs.Marking.{holding-means, showing-none, shown-picture}
+use Rattle.twins_spec.proofs.Marking.{holding-means, showing-none, shown-picture}
 use Rattle.twins.proofs.shows.Statement.{statement}
 use Rattle.twins.proofs.shows.Tie as tie
 

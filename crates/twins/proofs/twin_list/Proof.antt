@@ -1,5 +1,5 @@
 use borrow.Author.Needs.{needs}
-use Rattle.twins.proofs.Listing.{listed-by}
+use Rattle.twins_spec.proofs.Listing.{listed-by}
 use Rattle.twins.proofs.twin_list.Statement.{statement}
 use Rattle.twins.proofs.twin_list.Tie as tie
 

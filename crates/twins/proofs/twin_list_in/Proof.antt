@@ -2,8 +2,8 @@ use borrow.Author.Needs.{needs}
 use mathlib.Core.Path.{sym, _∙_}
 use native.Mathlib.Omega.{arith}
 use lib.Seq.{length-take-le}
-use Rattle.twins_scratch.proofs.Keeping.{scratch-kept}
-use Rattle.twins.proofs.Listing as laws
+use Rattle.twins_spec.proofs.Keeping.{scratch-kept}
+use Rattle.twins_spec.proofs.Listing as laws
 use Rattle.twins.proofs.twin_list_in.Statement.{statement}
 use Rattle.twins.proofs.twin_list_in.Tie as tie
 

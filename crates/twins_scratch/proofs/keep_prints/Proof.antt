@@ -4,8 +4,8 @@ use Prim.Native.Nat.{_≤_, _-_}
 use lib.ListN.{length, length-set}
 use Rattle.laws.proofs.Rows.{made-none, made-store, made-upto}
 use Rattle.records.proofs.Readings.{unrefused, format-is, refused}
-use Rattle.twins_scratch.specs.Scratch.{printOf, printAt}
-use Rattle.twins_scratch.proofs.Keeping.{picture-in-length, Printed, print-passed, print-put, behind-prints}
+use Rattle.twins_spec.specs.Scratch.{printOf, printAt}
+use Rattle.twins_spec.proofs.Keeping.{picture-in-length, Printed, print-passed, print-put, behind-prints}
 use Rattle.twins_scratch.proofs.keep_prints.Statement.{statement}
 use Rattle.twins_scratch.proofs.keep_prints.Tie as tie
 

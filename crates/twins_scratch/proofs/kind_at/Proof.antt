@@ -1,6 +1,6 @@
 use borrow.Author.Needs.{needs}
 use mathlib.Core.Path.{sym, _∙_}
-use Rattle.twins_scratch.proofs.Keeping.{kind-reserved, kind-format}
+use Rattle.twins_spec.proofs.Keeping.{kind-reserved, kind-format}
 use Rattle.twins_scratch.proofs.kind_at.Statement.{statement}
 use Rattle.twins_scratch.proofs.kind_at.Tie as tie
 

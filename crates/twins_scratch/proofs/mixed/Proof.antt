@@ -1,9 +1,9 @@
 use borrow.Author.Needs.{needs}
-use Rattle.twins_scratch.proofs.Keeping.{mixed-more}
+use Rattle.twins_spec.proofs.Keeping.{mixed-more}
 use mathlib.Core.Path.{_≡_, refl}
 use Prim.Native.Nat.{_≤_, _-_}
 use native.Mathlib.Omega.{arith}
-use Rattle.twins_scratch.specs.Scratch.{mixedUpto}
+use Rattle.twins_spec.specs.Scratch.{mixedUpto}
 use Rattle.twins_scratch.proofs.mixed.Statement.{statement}
 use Rattle.twins_scratch.proofs.mixed.Tie as tie
 

@@ -1,5 +1,5 @@
 use borrow.Author.Needs.{needs}
-use Rattle.twins_scratch.proofs.Shown.{part-length, part-mode}
+use Rattle.twins_spec.proofs.Shown.{part-length, part-mode}
 use Rattle.twins_scratch.proofs.mode_at.Statement.{statement}
 use Rattle.twins_scratch.proofs.mode_at.Tie as tie
 

@@ -1,6 +1,6 @@
 use borrow.Author.Needs.{needs}
 use native.Mathlib.Nat.{add-sub-cancel-left}
-use Rattle.twins_scratch.specs.Scratch.{pictureIn}
+use Rattle.twins_spec.specs.Scratch.{pictureIn}
 use Rattle.twins_scratch.proofs.picture_in.Statement.{statement}
 use Rattle.twins_scratch.proofs.picture_in.Tie as tie
 

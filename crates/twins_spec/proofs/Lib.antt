@@ -1,0 +1,4 @@
+pub mod Shown
+pub mod Keeping
+pub mod Marking
+pub mod Listing

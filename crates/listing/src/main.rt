@@ -1,7 +1,16 @@
-// Lists a store: reads it from standard input and writes its listing. With the word --strict a store with a damaged record is refused.
+// Lists a store: reads it from standard input and writes its listing, a line a record and a last line with the counts, or the line of a
+// refused store. With the word --strict a store with a damaged record is refused.
 
-use listing_text::Listing;
-use listing_text::put_listing;
+ghost use mathlib.Core.Path.{_≡_};
+ghost use Prim.Native.Nat.{_+_, _*_, _≤_};
+ghost use lib.ListN.{length};
+ghost use Rattle.bc6h_spec.specs.Answers.{done};
+ghost use Rattle.twins_spec.specs.Twins.{mostRecords, Listed};
+ghost use Rattle.text.specs.Text.{Written};
+ghost use Rattle.listing.specs.Listing.{listingRefusal, listingOf};
+use bc6h_spec::Answer;
+use listing_lines::put_counts;
+use listing_lines::put_records;
 use records::Record;
 use store_program::Input;
 use store_program::StoreInput;
@@ -10,9 +19,50 @@ use store_program::read_input;
 use store_program::tell;
 use store_program::write_text;
 use strict::first_damaged;
+use strict::strict_twin_list;
 use text::put;
 use text::put_count;
+use text::put_refusal;
 use text::same_bytes;
+use twins::twin_list;
+use twins_spec::TwinList;
+
+struct Listing {
+    end: usize,
+}
+
+impl Listing {
+    // The most bytes of a line, and the room for a line a record and one more.
+    const LINE: usize = 128;
+
+    const ROOM: usize = (TwinList::RECORDS + 1) * Listing::LINE;
+}
+
+fn list_records(store: &[u8], marks: &mut [u8], strict: bool) -> TwinList
+    requires { ⌜ length (now marks) ≡ mostRecords ⌝ }
+    ensures { λ r. ⌜ r .answer ≡ listingRefusal strict (now (store .entry)) ⌝ }
+    ensures { λ r. ⌜ (r .answer ≡ done → Listed (now (store .entry)) (now (marks .entry)) r (now (marks .exit))) ⌝ }
+{
+    if strict {
+        return strict_twin_list(store, marks);
+    }
+    twin_list(store, marks)
+}
+
+// The listing of a store at the start of `text`; answers how many bytes it has.
+fn put_listing(text: &mut [u8], store: &[u8], strict: bool) -> usize
+    requires { ⌜ (mostRecords + 1) * 128 ≤ length (now text) ⌝ }
+    ensures { λ r. ⌜ r ≤ length (now (text .exit)) ⌝ }
+    ensures { λ r. ⌜ Written (now (text .entry)) 0 (listingOf strict (now (store .entry))) r (now (text .exit)) ⌝ }
+{
+    let mut marks = [0u8; TwinList::RECORDS];
+    let list = list_records(store, &mut marks, strict);
+    if list.answer != Answer::DONE {
+        return put_refusal(text, 0, list.answer);
+    }
+    let end = put_records(text, store, &marks);
+    put_counts(text, end, list)
+}
 
 fn is_strict() -> bool {
     let mut word = [0u8; 8];

@@ -14,7 +14,7 @@ use Rattle.strict.proofs.Strictness as strictly
 use Rattle.text.specs.Text.{refusalLine, Written}
 use Rattle.text.proofs.Texts.{then, said}
 use Rattle.listing_lines.specs.Lines.{linesOf, countsLine}
-use Rattle.listing_text.specs.Listing.{countsOf, listingRefusal, listingOf}
+use Rattle.listing.specs.Listing.{countsOf, listingRefusal, listingOf}
 
 module _ {store lent after : List ℕ} {strict : Bool} (room : length lent ≡ mostRecords) where
   pub strict-number : {r : TwinList} → strict ≡ true → StrictlyListed store lent r after → r .answer ≡ listingRefusal strict store

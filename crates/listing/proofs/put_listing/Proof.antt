@@ -1,10 +1,10 @@
 use native.Mathlib.Omega.{arith}
 use Rattle.twins_spec.proofs.Listing.{whole, all-marks}
 use Rattle.text.proofs.Texts.{said}
-use Rattle.listing_text.proofs.Whole as texts
+use Rattle.listing.proofs.Whole as texts
 use borrow.Author.Needs.{needs}
-use Rattle.listing_text.proofs.put_listing.Statement.{statement}
-use Rattle.listing_text.proofs.put_listing.Tie as tie
+use Rattle.listing.proofs.put_listing.Statement.{statement}
+use Rattle.listing.proofs.put_listing.Tie as tie
 
 slice-aggregate-list-records : tie.Need-slice-aggregate-list-records
 slice-aggregate-list-records c = search needs

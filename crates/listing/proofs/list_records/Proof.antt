@@ -1,8 +1,8 @@
 use Rattle.strict.proofs.Strictness as strictly
-use Rattle.listing_text.proofs.Whole as texts
+use Rattle.listing.proofs.Whole as texts
 use borrow.Author.Needs.{needs}
-use Rattle.listing_text.proofs.list_records.Statement.{statement}
-use Rattle.listing_text.proofs.list_records.Tie as tie
+use Rattle.listing.proofs.list_records.Statement.{statement}
+use Rattle.listing.proofs.list_records.Tie as tie
 
 strict-twin-list-requires : tie.Need-strict-twin-list-requires
 strict-twin-list-requires c κs = search needs

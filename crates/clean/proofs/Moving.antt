@@ -50,7 +50,7 @@ pub record Moved (other store : List ℕ) (k n : ℕ) : Type 0 where
   pub same-record : recordOf other k ≡ recordOf store n
 
 module _ {other store : List ℕ} {k n : ℕ} (m : Moved other store k n) where
-  byte-moved : (j : ℕ) → j < recordSize → byteOf other k j ≡ byteOf store n j
+  pub byte-moved : (j : ℕ) → j < recordSize → byteOf other k j ≡ byteOf store n j
   byte-moved j h = sym (record-byte other k j h) ∙ ap (λ (l : List ℕ). getD l j 0) (m .same-record) ∙ record-byte store n j h
 
   pub format-moved : formatOf other k ≡ formatOf store n
@@ -61,13 +61,13 @@ module _ {other store : List ℕ} {k n : ℕ} (m : Moved other store k n) where
       block-in other k (m .here) ∙ ap (λ (l : List ℕ). take blockSize (drop headSize l)) (m .same-record) ∙ sym (block-in store n (m .there))
 
 module _ {other store : List ℕ} (small : Sized other) (sized : Sized store) where
-  refusal-moved : {k n : ℕ} → Moved other store k n → recordRefusal other k ≡ recordRefusal store n
+  pub refusal-moved : {k n : ℕ} → Moved other store k n → recordRefusal other k ≡ recordRefusal store n
   refusal-moved {k} {n} m =
       sized-refusal other k small (m .here)
       ∙ rw (format-moved m, byte-moved m 5 (omega arith), byte-moved m 6 (omega arith), byte-moved m 7 (omega arith))
       (sym (sized-refusal store n sized (m .there)))
 
-  repeats-moved : {k j n e : ℕ} → Moved other store k n → Moved other store j e → Repeats other k j → Repeats store n e
+  pub repeats-moved : {k j n e : ℕ} → Moved other store k n → Moved other store j e → Repeats other k j → Repeats store n e
   repeats-moved m l p =
       record {
         unrefused = sym (refusal-moved m) ∙ p .unrefused;

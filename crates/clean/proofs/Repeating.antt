@@ -90,7 +90,7 @@ module _ (store : List ℕ) (n : ℕ) where
   unfolding firstOf
   none-refused r = first-never (repeats store n) (λ k. repeats-refused store n k r) n
 
-  none-reserved : Reserved store n → firstOf store n ≡ n
+  pub none-reserved : Reserved store n → firstOf store n ≡ n
   unfolding firstOf
   none-reserved z = first-never (repeats store n) (λ k. repeats-reserved store n k z) n
 
@@ -121,7 +121,7 @@ module _ (store : List ℕ) (n : ℕ) where
   unfolding firstOf
   no-earlier k h p = first-least (repeats store n) n k h (repeats-so store n k p)
 
-repeats-through : {store : List ℕ} {n middle first : ℕ} → Repeats store n middle → Repeats store middle first → Repeats store n first
+pub repeats-through : {store : List ℕ} {n middle first : ℕ} → Repeats store n middle → Repeats store middle first → Repeats store n first
 repeats-through a b =
     record {
       unrefused = a .unrefused;

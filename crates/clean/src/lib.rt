@@ -31,7 +31,7 @@ impl Cleaned {
     // How many buckets the records are put in.
     const BUCKETS: usize = 2048;
 
-    fn refused(answer: u8) -> Cleaned
+    pub fn refused(answer: u8) -> Cleaned
         ensures { λ r. ⌜ r ≡ refusal answer ⌝ }
     {
         Cleaned {
@@ -80,7 +80,7 @@ fn bucket_of(format: u8, block: &[u8]) -> usize
 }
 
 // Of each record that is not refused the last one before it of the same bucket, plus one; 0 where there is none.
-fn link_records(store: &[u8], links: &mut [u16])
+pub fn link_records(store: &[u8], links: &mut [u16])
     requires { ⌜ recordsIn (now store) ≤ 2000 ⌝ }
     requires { ⌜ recordsIn (now store) ≤ length (now links) ⌝ }
     ensures { λ _. ⌜ Linked (now (store .entry)) (recordsIn (now (store .entry))) (now (links .exit)) ⌝ }
@@ -98,7 +98,7 @@ fn link_records(store: &[u8], links: &mut [u16])
 }
 
 // Record n is record `earlier` once more.
-fn is_repeat(store: &[u8], n: usize, earlier: usize) -> bool
+pub fn is_repeat(store: &[u8], n: usize, earlier: usize) -> bool
     ensures { λ r. ⌜ r ≡ repeats (now (store .entry)) n earlier ⌝ }
 {
     let RecordReading::Record(again) = record_at(store, n) else {
@@ -132,7 +132,7 @@ pub fn first_of(store: &[u8], n: usize) -> usize
     n
 }
 
-fn place(link: u16) -> usize
+pub fn place(link: u16) -> usize
     ensures { λ r. ⌜ r ≡ link ⌝ }
 {
     link as usize
@@ -163,7 +163,7 @@ fn is_gone(store: &[u8], links: &[u16], n: usize) -> bool
 }
 
 // Record n of the store as record `place` of `out`.
-fn copy_record(store: &[u8], n: usize, out: &mut [u8], place: usize)
+pub fn copy_record(store: &[u8], n: usize, out: &mut [u8], place: usize)
     requires { ⌜ n < recordsIn (now store) ⌝ }
     requires { ⌜ place * recordSize + recordSize ≤ length (now out) ⌝ }
     ensures { λ _. ⌜ now (out .exit) ≡ paste (now (out .entry)) (place * recordSize) (recordOf (now (store .entry)) n) recordSize ⌝ }

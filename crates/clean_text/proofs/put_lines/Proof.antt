@@ -1,0 +1,75 @@
+use mathlib.Core.Path.{_≡_}
+use Prim.Native.Nat.{_*_, _≤_, _-_}
+use lib.ListN.{length}
+use Rattle.records.specs.Store.{recordsIn}
+use Rattle.text.specs.Text.{Written}
+use Rattle.clean_text.specs.CleanText.{removedLines}
+use Rattle.clean_text.proofs.Lines as lines
+use borrow.Author.Needs.{needs}
+use Rattle.clean_text.proofs.put_lines.Statement.{statement}
+use Rattle.clean_text.proofs.put_lines.Tie as tie
+
+abbrev Inv-loop : tie.InvT-loop
+Inv-loop text₀ store count end₀ n₀ text end n =
+    (n ≤ count) × (length text ≡ length text₀) × (end ≤ n * 128) × Written text₀ 0 (removedLines store n) end text
+
+abbrev μ-loop : tie.MeasureT-loop
+μ-loop text₀ store count end₀ n₀ text end n = count - n
+
+loop-holds : tie.Need-loop-holds Inv-loop μ-loop
+loop-holds c = (search needs, search needs, search needs, lines.no-lines (c .before .before .args .store .now) (c .before .before .args .text .now))
+
+first-of-requires : tie.Need-first-of-requires Inv-loop μ-loop
+first-of-requires c κs = search needs
+
+add-n : tie.Need-add-n Inv-loop μ-loop
+add-n c = search needs
+
+loop-less : tie.Need-loop-less Inv-loop μ-loop
+loop-less c = search needs
+
+loop-again : tie.Need-loop-again Inv-loop μ-loop
+loop-again c =
+    let l = c .before .before .before .loop in
+    (search needs, search needs, search needs, lines.line-skipped (c .before .before .before .before .before .before .args .store .now) (l .n) _ (c .before .first-of .ensures) (search needs) (l .inv .3))
+
+put-removed-requires : tie.Need-put-removed-requires Inv-loop μ-loop
+put-removed-requires c κs = search needs
+
+add-n-2 : tie.Need-add-n-2 Inv-loop μ-loop
+add-n-2 c = search needs
+
+loop-less-2 : tie.Need-loop-less-2 Inv-loop μ-loop
+loop-less-2 c = search needs
+
+loop-again-2 : tie.Need-loop-again-2 Inv-loop μ-loop
+loop-again-2 c =
+    let l = c .before .before .before .before .before .before .before .loop in
+    (search needs, search needs, search needs, lines.line-more (c .before .before .before .before .before .before .before .before .before .before .args .store .now) (l .n) _ (c .before .before .before .before .before .first-of .ensures) (search needs) (l .inv .3) (c .before .before .put-removed .ensures .1))
+
+same-length : tie.Need-same-length Inv-loop μ-loop
+same-length c = search needs
+
+returns : tie.Need-returns Inv-loop μ-loop
+returns c =
+    let l = c .before .loop in
+    let s = c .before .before .before .before .args .store .now in
+    (search needs, lines.all-lines s (l .n) (recordsIn s) (search needs) (search needs) (l .inv .3))
+
+pub put-lines-spec : {M : Type 1} → statement M
+put-lines-spec =
+    tie.close
+    (tie.spec
+    Inv-loop
+    μ-loop
+    loop-holds
+    first-of-requires
+    add-n
+    loop-less
+    loop-again
+    put-removed-requires
+    add-n-2
+    loop-less-2
+    loop-again-2
+    same-length
+    returns)

@@ -1,0 +1,4 @@
+pub mod Pasting
+pub mod Walking
+pub mod Entries
+pub mod Telling

@@ -1,0 +1,151 @@
+// A clean-up that loses nothing: beside the cleaned store it writes a receipt, which has for each removed record its number, the number
+// of the record that stays for it, and its tile.
+
+ghost use mathlib.Core.Path.{_≡_};
+ghost use Prim.Native.Nat.{_+_, _*_, _≤_, _<_};
+ghost use lib.ListN.{length, drop};
+ghost use lib.Seq.{paste};
+ghost use Rattle.clean.specs.Clean.{firstOf};
+ghost use Rattle.receipt.specs.Receipt.{entriesIn, entrySize, entryOf, entryAt, receiptRefusal, ReceiptInto, Walk, Tells};
+use bc6h_spec::Answer;
+use clean::Cleaned;
+use clean::copy_record;
+use clean::is_repeat;
+use clean::link_records;
+use clean::place;
+use records::Record;
+use records::RecordReading;
+use records::record_at;
+use twins_marks::list_refusal;
+use twins_scratch::mode_at;
+use twins_spec::TwinList;
+
+// What a receipt tells of a removed record beside its tile: its number, and that of the record that stays for it.
+pub struct Entry {
+    pub number: usize,
+    pub stays: usize,
+}
+
+impl Entry {
+    pub const SIZE: usize = 8;
+
+    // The bytes before an entry's tile.
+    pub const HEAD: usize = 4;
+}
+
+fn wide(byte: u8) -> usize
+    ensures { λ r. ⌜ (r ≡ byte) × (r < 256) ⌝ }
+{
+    byte as usize
+}
+
+// Entry e of a receipt.
+pub fn entry_at(receipt: &[u8], e: usize) -> Entry
+    requires { ⌜ e < entriesIn (now receipt) ⌝ }
+    ensures { λ r. ⌜ r ≡ entryAt (now (receipt .entry)) e ⌝ }
+{
+    let at = e * Entry::SIZE;
+    let number = wide(receipt[at]) + wide(receipt[at + 1]) * 0x100;
+    let stays = wide(receipt[at + 2]) + wide(receipt[at + 3]) * 0x100;
+    Entry { number, stays }
+}
+
+// So many bytes from `at` on, into the lent ones from `to` on.
+pub fn copy_part(from: &[u8], at: usize, size: usize, out: &mut [u8], to: usize)
+    requires { ⌜ at + size ≤ length (now from) ⌝ }
+    requires { ⌜ to + size ≤ length (now out) ⌝ }
+    ensures { λ _. ⌜ now (out .exit) ≡ paste (now (out .entry)) to (drop at (now (from .entry))) size ⌝ }
+{
+    for k in 0..size {
+        out[to + k] = from[at + k];
+    }
+}
+
+// Why a clean-up into so much room for records, with so much room for entries, is refused.
+fn receipt_refusal(store: &[u8], room: usize, paper: usize) -> u8
+    ensures { λ r. ⌜ r ≡ receiptRefusal (length (now (store .entry))) room paper ⌝ }
+{
+    let refusal = list_refusal(store, room / Record::SIZE);
+    if refusal != Answer::DONE {
+        return refusal;
+    }
+    list_refusal(store, paper / Entry::SIZE)
+}
+
+// The record that stays for record n, or n: a walk along the links meets some record that n repeats, whose first is known by then.
+fn first_along(store: &[u8], links: &[u16], firsts: &[u16], n: usize) -> usize
+    requires { ⌜ Walk (now store) (now links) (now firsts) n ⌝ }
+    ensures { λ r. ⌜ (r ≡ firstOf (now (store .entry)) n) × (r ≤ n) ⌝ }
+{
+    let RecordReading::Record(_) = record_at(store, n) else {
+        return n;
+    };
+    if mode_at(store, n) == 0 {
+        return n;
+    }
+    let mut at = place(links[n]);
+    while at > 0 {
+        let earlier = at - 1;
+        if is_repeat(store, n, earlier) {
+            return place(firsts[earlier]);
+        }
+        at = place(links[earlier]);
+    }
+    n
+}
+
+fn entry_of(store: &[u8], n: usize, first: usize) -> [u8; 8]
+    requires { ⌜ (n < 65536) × (first ≤ n) × (n * 24 + 24 ≤ length (now store)) × (first ≡ firstOf (now store) n) ⌝ }
+    ensures { λ r. ⌜ r ≡ entryOf (now (store .entry)) n ⌝ }
+{
+    let at = n * Record::SIZE;
+    [
+        (n % 0x100) as u8,
+        (n / 0x100) as u8,
+        (first % 0x100) as u8,
+        (first / 0x100) as u8,
+        store[at],
+        store[at + 1],
+        store[at + 2],
+        store[at + 3],
+    ]
+}
+
+// Tells record n at entry `place` of the receipt.
+fn write_entry(store: &[u8], n: usize, first: usize, receipt: &mut [u8], place: usize)
+    requires { ⌜ Tells (now store) n first (now receipt) place ⌝ }
+    ensures { λ _. ⌜ now (receipt .exit) ≡ paste (now (receipt .entry)) (place * entrySize) (entryOf (now (store .entry)) n) entrySize ⌝ }
+{
+    let entry = entry_of(store, n, first);
+    copy_part(&entry, 0, Entry::SIZE, receipt, place * Entry::SIZE);
+}
+
+// Cleans a store, and tells in the receipt what was removed: of each removed record an entry, in order.
+pub fn clean_with_receipt(store: &[u8], out: &mut [u8], receipt: &mut [u8]) -> Cleaned
+    ensures { λ r. ⌜ ReceiptInto (now (store .entry)) (now (out .entry)) (now (receipt .entry)) r (now (out .exit)) (now (receipt .exit)) ⌝ }
+{
+    let refusal = receipt_refusal(store, out.len(), receipt.len());
+    if refusal != Answer::DONE {
+        return Cleaned::refused(refusal);
+    }
+    let mut links = [0u16; TwinList::RECORDS];
+    link_records(store, &mut links);
+    let mut firsts = [0u16; TwinList::RECORDS];
+    let count = store.len() / Record::SIZE;
+    let mut kept: usize = 0;
+    for n in 0..count {
+        let first = first_along(store, &links, &firsts, n);
+        firsts[n] = first as u16;
+        if first < n {
+            write_entry(store, n, first, receipt, n - kept);
+            continue;
+        }
+        copy_record(store, n, out, kept);
+        kept += 1;
+    }
+    Cleaned {
+        answer: Answer::DONE,
+        kept,
+        removed: count - kept,
+    }
+}

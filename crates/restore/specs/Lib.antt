@@ -1,0 +1,2 @@
+pub mod Restore
+pub mod Theorems

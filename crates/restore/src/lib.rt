@@ -1,0 +1,148 @@
+// The way back from a clean-up with a receipt: the store as it was, from the cleaned one and the receipt.
+
+ghost use mathlib.Core.Path.{_≡_};
+ghost use Prim.Native.Nat.{_+_, _*_, _≤_, _<_};
+ghost use lib.Dec.{eqb, ltb};
+ghost use lib.ListN.{length, drop};
+ghost use lib.Seq.{paste};
+ghost use Rattle.laws.specs.Pick.{both};
+ghost use Rattle.receipt.specs.Receipt.{entriesIn, numberAt};
+ghost use Rattle.restore.specs.Restore.{leastAt, entryFits, receiptFits, restoreRefusal, putInto, PutBack, RestoredInto};
+use bc6h_spec::Answer;
+use clean::copy_record;
+use receipt::Entry;
+use receipt::copy_part;
+use receipt::entry_at;
+use records::Record;
+use twins_spec::TwinList;
+
+// What the way back answers: its number, and how many records were restored.
+pub struct Restored {
+    pub answer: u8,
+    pub records: usize,
+}
+
+impl Restored {
+    // A receipt that is not whole, or an entry of it that does not fit.
+    pub const BAD_RECEIPT: u8 = 25;
+
+    fn refused(answer: u8) -> Restored
+        ensures { λ r. ⌜ r ≡ record { answer = answer; records = 0 } ⌝ }
+    {
+        Restored { answer, records: 0 }
+    }
+}
+
+// ---- which receipts fit
+
+// Entry e fits where its number may be no less than `least`.
+fn entry_fits(receipt: &[u8], total: usize, e: usize, least: usize) -> bool
+    requires { ⌜ (e < entriesIn (now receipt)) × (least ≡ leastAt (now receipt) e) ⌝ }
+    ensures { λ r. ⌜ r ≡ entryFits (now (receipt .entry)) total e ⌝ }
+{
+    let entry = entry_at(receipt, e);
+    if entry.number < least {
+        return false;
+    }
+    if entry.number >= total {
+        return false;
+    }
+    entry.stays < entry.number
+}
+
+fn receipt_fits(receipt: &[u8], total: usize) -> bool
+    ensures { λ r. ⌜ r ≡ receiptFits (now (receipt .entry)) total ⌝ }
+{
+    if receipt.len() % Entry::SIZE != 0 {
+        return false;
+    }
+    let entries = receipt.len() / Entry::SIZE;
+    let mut least: usize = 0;
+    for e in 0..entries {
+        if !entry_fits(receipt, total, e, least) {
+            return false;
+        }
+        least = entry_at(receipt, e).number + 1;
+    }
+    true
+}
+
+// Why a cleaned store with this receipt is not restored into so much room.
+fn restore_refusal(cleaned: &[u8], receipt: &[u8], room: usize) -> u8
+    ensures { λ r. ⌜ r ≡ restoreRefusal (now (cleaned .entry)) (now (receipt .entry)) room ⌝ }
+{
+    if cleaned.len() > Record::STORE {
+        return Answer::LONG_STORE;
+    }
+    let total = cleaned.len() / Record::SIZE + receipt.len() / Entry::SIZE;
+    if total > TwinList::RECORDS {
+        return Answer::LONG_STORE;
+    }
+    if cleaned.len() % Record::SIZE != 0 {
+        return Answer::UNEVEN_STORE;
+    }
+    if !receipt_fits(receipt, total) {
+        return Restored::BAD_RECEIPT;
+    }
+    if room < total * Record::SIZE {
+        return Answer::SHORT_OUTPUT;
+    }
+    Answer::DONE
+}
+
+// ---- the bytes
+
+// So many of the lent bytes from `from` on, all of them before `to`, once more from `to` on.
+fn copy_within(out: &mut [u8], from: usize, size: usize, to: usize)
+    requires { ⌜ (from + size ≤ to) × (to + size ≤ length (now out)) ⌝ }
+    ensures { λ _. ⌜ now (out .exit) ≡ paste (now (out .entry)) to (drop from (now (out .entry))) size ⌝ }
+{
+    for k in 0..size {
+        out[to + k] = out[from + k];
+    }
+}
+
+// Record n as entry e tells it: its tile, and what follows it in the record that stays.
+fn put_back(receipt: &[u8], e: usize, out: &mut [u8], n: usize)
+    requires { ⌜ PutBack (now receipt) e (now out) n ⌝ }
+    ensures { λ _. ⌜ now (out .exit) ≡ putInto (now (receipt .entry)) e (now (out .entry)) n ⌝ }
+{
+    let stays = entry_at(receipt, e).stays;
+    let to = n * Record::SIZE;
+    copy_part(receipt, e * Entry::SIZE + Entry::HEAD, 4, out, to);
+    copy_within(out, stays * Record::SIZE + 4, 20, to + 4);
+}
+
+// The next entry is record n's.
+fn is_next(receipt: &[u8], e: usize, n: usize) -> bool
+    ensures { λ r. ⌜ r ≡ both (ltb e (entriesIn (now (receipt .entry)))) (eqb (numberAt (now (receipt .entry)) e) n) ⌝ }
+{
+    if e >= receipt.len() / Entry::SIZE {
+        return false;
+    }
+    entry_at(receipt, e).number == n
+}
+
+// Writes the store that was cleaned: the records of the cleaned one in order, and between them those that the receipt tells.
+pub fn restore_store(cleaned: &[u8], receipt: &[u8], out: &mut [u8]) -> Restored
+    ensures { λ r. ⌜ RestoredInto (now (cleaned .entry)) (now (receipt .entry)) (now (out .entry)) r (now (out .exit)) ⌝ }
+{
+    let refusal = restore_refusal(cleaned, receipt, out.len());
+    if refusal != Answer::DONE {
+        return Restored::refused(refusal);
+    }
+    let total = cleaned.len() / Record::SIZE + receipt.len() / Entry::SIZE;
+    let mut used: usize = 0;
+    for n in 0..total {
+        if is_next(receipt, used, n) {
+            put_back(receipt, used, out, n);
+            used += 1;
+            continue;
+        }
+        copy_record(cleaned, n - used, out, n);
+    }
+    Restored {
+        answer: Answer::DONE,
+        records: total,
+    }
+}

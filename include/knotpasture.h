@@ -83,7 +83,7 @@ enum {
  * infinity, 0xFC00. A reserved mode is done, with mode 0 and 48 zeros. Refusals: 1, 2, 3 (fewer than 48 values of room), in
  * this order, with mode and count 0.
  *
- * Stack: 300 bytes.
+ * Stack: 250 bytes.
  */
 uint32_t knot_block_pixels(const uint8_t *block, size_t block_length, uint8_t format, uint16_t *out, size_t out_length);
 
@@ -113,7 +113,7 @@ uint32_t knot_blocks_pixels(const uint8_t *blocks, size_t blocks_length, uint8_t
  *
  * What knot_blocks_pixels writes of n blocks is a face of 1 by n with a pitch of 12.
  *
- * Stack: 550 bytes.
+ * Stack: 500 bytes.
  */
 uint32_t knot_face_pixels(const uint8_t *blocks, size_t blocks_length, size_t width, size_t height, uint8_t format, uint16_t *out,
                           size_t out_length, size_t pitch, size_t *infinite);
@@ -125,7 +125,7 @@ enum { KNOT_OPAQUE = 0x3C00 /* the alpha of every pixel: 1.0 */ };
  *
  * Refusals: 1, 15, 3 (a pitch below 16 * width, or fewer values of room than pitch * (4 * height - 1) + 16 * width), in this order.
  *
- * Stack: 550 bytes.
+ * Stack: 500 bytes.
  */
 uint32_t knot_face_rgba(const uint8_t *blocks, size_t blocks_length, size_t width, size_t height, uint8_t format, uint16_t *out,
                         size_t out_length, size_t pitch, size_t *infinite);
@@ -214,7 +214,7 @@ uint64_t knot_twin_list(const uint8_t *store, size_t store_length, uint8_t *mark
  *
  * Refusals: 5, 6, 3 (fewer marks than records, or scratch space for fewer).
  *
- * Stack: 450 bytes.
+ * Stack: 400 bytes.
  */
 uint64_t knot_twin_list_in(const uint8_t *store, size_t store_length, uint8_t *marks, size_t marks_length, uint16_t *scratch,
                            size_t scratch_length);
@@ -454,7 +454,7 @@ enum {
  * Answers the number in the low byte and the file's length in the bits above it (KNOT_FILE_LENGTH), 0 on a refusal. Refusals: 1, 16, 15, 3
  * (less room than the file has bytes), in this order.
  *
- * Stack: 700 bytes.
+ * Stack: 650 bytes.
  */
 uint64_t knot_pfm_write(const uint8_t *blocks, size_t blocks_length, uint8_t format, uint32_t width, uint32_t height, uint8_t *out,
                         size_t out_length);

@@ -34,13 +34,14 @@ use Rattle.bcn_util.proofs.Indexing.{index-read}
 use Rattle.bcn_data.proofs.Fixups.{fixup-range}
 use Rattle.bc6_runs.proofs.Partition.{partition-at}
 use Rattle.bc6_endpoints.specs.Ends.{wordOf}
-use Rattle.lanes.specs.Lanes.{acrossThree, alongTwo}
-use Rattle.bc6_paint.specs.Values.{digit, shadeOf, valueOf, oneValue, twoValue, PaintedAs, PaintedIn}
+use Rattle.bc6_runs.specs.Ends.{placesOf}
+use Rattle.bc6_paint.specs.Values.{endIn, digit, shadeOf, valueOf, oneValue, twoValue, PaintedAs}
 use Rattle.bc6_paint.proofs.Points.{worked-out}
+use Rattle.bc6_paint.proofs.Link.{painted-as}
 use Rattle.bc6.specs.Shown.{partitionIn, Picked, OnePicked}
 use Rattle.bc6.specs.declared.Picks.{Picks}
-use Rattle.bc6_by_mode.specs.declared.Ends.{Ends}
-use Rattle.bc6_by_mode.specs.Words.{storedAt, endWord, TwoEnds, OneEnds, BlockEnds}
+use Rattle.bc6_paint.specs.declared.Ends.{Ends}
+use Rattle.bc6_by_mode.specs.Words.{endWord, EndsOf, BlockEnds}
 use Rattle.bc6.proofs.Codes.{two-codes, one-codes}
 
 -- ---- a record's values
@@ -107,7 +108,7 @@ module _ (s : Bool) (format m n : ℕ) (known-format : format ≤ 1) (low : 1 �
   valid : Valid f
   valid = read-valid format m n low high known-format
 
-  stored-is : (e c : ℕ) → e < 4 → c < 3 → storedAt m n e c ≡ stored f e c
+  stored-is : (e c : ℕ) → e < 4 → c < 3 → placesOf m n c e ≡ stored f e c
   stored-is e c he hc = sym (at-endpoint format m n low high (3 * e + c) (omega arith))
 
   -- what is worked out of the bits is the record's
@@ -119,14 +120,14 @@ module _ (s : Bool) (format m n : ℕ) (known-format : format ≤ 1) (low : 1 �
       (pick (eqb e 0) (firstEnd s (precision m) (stored-is 0 c (lit< tt) hc i))
       (otherEnd s (transformed m) (precision m) (ownWidth m c) (firstEnd s (precision m) (stored-is 0 c (lit< tt) hc i)) (stored-is e c he hc i))))
 
-  pub two-picture : m ≤ 10 → {r : Ends} → TwoEnds s m n r → (picks : Picks) → Picked n picks
-      → made (twoValue s (acrossThree (r .first) (r .second) (r .third)) (picks .map) (picks .indices)) 48 ≡ pictureAs s f
+  pub two-picture : m ≤ 10 → {r : Ends} → EndsOf 4 s m n r → (picks : Picks) → Picked n picks
+      → made (twoValue s (endIn r) (picks .map) (picks .indices)) 48 ≡ pictureAs s f
   unfolding pictureAs fieldsAt
   two-picture h {r} t picks k =
       let two : twoRegions m ≡ true = le-leb m 10 h in
       let part : gathered (row m) n 13 ≡ partitionIn n = partition-at m n low h in
       made-same _ (value s f) 48
-      (two-shown s f valid (acrossThree (r .first) (r .second) (r .third)) (picks .indices) two (λ c e hc he. t .each c e hc he ∙ word-is e c he hc)
+      (two-shown s f valid (endIn r) (picks .indices) two (λ c e hc he. t .each c e hc he ∙ word-is e c he hc)
       (λ i hi.
       k .index i hi
       ∙ ap (λ (q : ℕ). indexIn 3 (0 ∷ fixupOf q ∷ []) (n / 2 ^ 82) i) (sym part)
@@ -134,12 +135,12 @@ module _ (s : Bool) (format m n : ℕ) (known-format : format ≤ 1) (low : 1 �
       ∙ sym (at-index format m n low high i hi))
       (picks .map) (k .regions ∙ ap mapOf (sym part)))
 
-  pub one-picture : 10 < m → {r : Ends} → OneEnds s m n r → (word : ℕ) → OnePicked n word → made (oneValue s (alongTwo (r .first) (r .second)) word) 48 ≡ pictureAs s f
+  pub one-picture : 10 < m → {r : Ends} → EndsOf 2 s m n r → (word : ℕ) → OnePicked n word → made (oneValue s (endIn r) word) 48 ≡ pictureAs s f
   unfolding pictureAs fieldsAt
   one-picture h {r} t word k =
       let one : twoRegions m ≡ false = lt-leb m 10 h in
       made-same _ (value s f) 48
-      (one-shown s f valid (alongTwo (r .first) (r .second)) word one (λ c e hc he. t .each c e hc he ∙ word-is e c (omega arith) hc)
+      (one-shown s f valid (endIn r) word one (λ c e hc he. t .each c e hc he ∙ word-is e c (omega arith) hc)
       (λ i hi.
       k .index i hi
       ∙ ap (λ (b : Bool). indexIn (pick b 3 4) (pick b (0 ∷ fixupOf (gathered (row m) n 13) ∷ []) (0 ∷ [])) (n / 2 ^ pick b 82 65) i) (sym one)
@@ -147,13 +148,7 @@ module _ (s : Bool) (format m n : ℕ) (known-format : format ≤ 1) (low : 1 �
 
 -- ---- what is counted
 
--- of the record's values none is minus infinity in unsigned format
-pub painted : (s : Bool) (f : Fields) → Valid f → {values out after : List ℕ} {r : ℕ} → PaintedIn s values out r after → values ≡ pictureAs s f
-    → PaintedAs (pictureAs s f) out r after
-painted true f v {out = out} w e = record { holds = w .holds ∙ ap (λ (l : List ℕ). l ++ drop 48 out) e; counts = w .counts ∙ ap (countOf minusInfinity) e }
-painted false f v {out = out} w e = record { holds = w .holds ∙ ap (λ (l : List ℕ). l ++ drop 48 out) e; counts = w .counts ∙ sym (unsigned-finite f v) }
-
--- .. nor in either format but in mode 14
+-- none of a record's values is minus infinity in unsigned format, nor in either but in mode 14
 none-infinite : (s : Bool) (f : Fields) → Valid f → (f .mode ≡ 14 → ⊥) → countOf minusInfinity (pictureAs s f) ≡ 0
 none-infinite true f v h = narrow-finite f v h
 none-infinite false f v h = unsigned-finite f v
@@ -168,7 +163,7 @@ module _ (s : Bool) (format n : ℕ) (known-format : format ≤ 1) (some : 1 ≤
   high = mode-range n
 
   pub two-painted : (n % 4 ≡ 3 → ⊥) → (picks : Picks) → Picked n picks → {out after : List ℕ}
-      → after ≡ made (twoValue s (acrossThree (ends .first) (ends .second) (ends .third)) (picks .map) (picks .indices)) 48 ++ drop 48 out
+      → after ≡ made (twoValue s (endIn ends) (picks .map) (picks .indices)) 48 ++ drop 48 out
       → PaintedAs (pictureAs s g) out 0 after
   unfolding fieldsAt
   two-painted h picks k {out} e =
@@ -179,11 +174,22 @@ module _ (s : Bool) (format n : ℕ) (known-format : format ≤ 1) (some : 1 ≤
         counts = sym (none-infinite s g (read-valid format (modeIn n) n some high known-format) (λ q. absurd (omega arith)));
       }
 
-  pub one-painted : n % 4 ≡ 3 → (word : ℕ) → OnePicked n word → {out after : List ℕ} {r : ℕ}
-      → PaintedIn s (made (oneValue s (alongTwo (ends .first) (ends .second)) word) 48) out r after → PaintedAs (pictureAs s g) out r after
-  one-painted h word k w =
-      let many : 10 < modeIn n = one-codes n some h in
-      painted s g (read-valid format (modeIn n) n some high known-format) w (one-picture s format (modeIn n) n known-format some high many (told .one many) word k)
+  module _ (h : n % 4 ≡ 3) (word : ℕ) (k : OnePicked n word) where
+    same : made (oneValue s (endIn ends) word) 48 ≡ pictureAs s g
+    same = let many : 10 < modeIn n = one-codes n some h in one-picture s format (modeIn n) n known-format some high many (told .one many) word k
+
+    pub one-painted : {out after : List ℕ} {r : ℕ} → PaintedAs (made (oneValue s (endIn ends) word) 48) out r after → PaintedAs (pictureAs s g) out r after
+    one-painted w = painted-as w same
+
+    -- .. of which in unsigned format none is counted
+    pub one-written : {out after : List ℕ} → s ≡ false → after ≡ made (oneValue s (endIn ends) word) 48 ++ drop 48 out → PaintedAs (pictureAs s g) out 0 after
+    one-written {out} e w =
+        record {
+          holds = w ∙ ap (λ (l : List ℕ). l ++ drop 48 out) same;
+          counts =
+              sym
+              (subst (λ (b : Bool). countOf minusInfinity (pictureAs b g) ≡ 0) (sym e) (unsigned-finite g (read-valid format (modeIn n) n some high known-format)));
+        }
 
 -- ---- what the bits say of the pixels
 

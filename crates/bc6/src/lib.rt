@@ -1,7 +1,7 @@
 // The pixels call: from a block's bits to the values that it shows, with no palette.
 //
-// The endpoints stand in the lanes of two or three words. Each format has a function of its own: the compiler then works them out with the
-// format known.
+// The ends are worked out on i32, four of a channel in an array. Each format has a function of its own, and painters that it alone calls: the
+// compiler then works them out with the format known, and they never go through memory.
 use bc6_colour::Colour;
 use bc6_mode::extract_mode;
 use bc6h_spec::Answer;
@@ -54,18 +54,11 @@ fn show_unsigned(lo: u64, hi: u64, out: &mut [u16]) -> u16
     let ends = bc6_by_mode::unsigned_ends(lo, hi);
     if lo % 4 != 3 {
         let picks = two_picks(stream);
-        bc6_two_regions::paint_two(
-            false,
-            ends.first,
-            ends.second,
-            ends.third,
-            picks.map,
-            picks.indices,
-            out,
-        );
+        bc6_two_regions::paint_two_unsigned(ends, picks.map, picks.indices, out);
         return 0;
     }
-    bc6_one_region::paint_one(false, ends.first, ends.second, one_indices(stream), out)
+    bc6_one_region::paint_one_unsigned(ends, one_indices(stream), out);
+    0
 }
 
 fn show_signed(lo: u64, hi: u64, out: &mut [u16]) -> u16
@@ -76,18 +69,10 @@ fn show_signed(lo: u64, hi: u64, out: &mut [u16]) -> u16
     let ends = bc6_by_mode::signed_ends(lo, hi);
     if lo % 4 != 3 {
         let picks = two_picks(stream);
-        bc6_two_regions::paint_two(
-            true,
-            ends.first,
-            ends.second,
-            ends.third,
-            picks.map,
-            picks.indices,
-            out,
-        );
+        bc6_two_regions::paint_two_signed(ends, picks.map, picks.indices, out);
         return 0;
     }
-    bc6_one_region::paint_one(true, ends.first, ends.second, one_indices(stream), out)
+    bc6_one_region::paint_one_signed(ends, one_indices(stream), out)
 }
 
 // Sixteen black pixels: 48 zeros.

@@ -9,8 +9,8 @@ use lib.Dec.{lit<}
 use Rattle.bc6h_spec.specs.Layout.{width}
 use Rattle.bc6h_spec.specs.Fields.{modeIn, codeOf}
 use Rattle.bc6h_spec.proofs.Modes.{low-mode, mode-range, mode-code}
-use Rattle.bc6_by_mode.specs.declared.Ends.{Ends}
-use Rattle.bc6_by_mode.specs.Words.{TwoEnds, OneEnds, BlockEnds}
+use Rattle.bc6_paint.specs.declared.Ends.{Ends}
+use Rattle.bc6_by_mode.specs.Words.{EndsOf, BlockEnds}
 
 -- the codes that end in the two bits r
 abbrev pub Eight : ℕ → ℕ → Type 0
@@ -101,9 +101,13 @@ module _ (lo hi : ℕ) where
 
 -- ---- what an arm returns
 
-module _ (s : Bool) (m n : ℕ) {r : Ends} (e : modeIn n ≡ m) where
-  pub two-arm : m ≤ 10 → TwoEnds s m n r → BlockEnds s n r
-  two-arm h t = record { two = λ k. subst (λ (i : ℕ). TwoEnds s i n r) (sym e) t; one = λ k. absurd (omega (arith, e)) }
+-- four have the first two among them
+pub fewer : {s : Bool} {m n : ℕ} {r : Ends} → EndsOf 4 s m n r → EndsOf 2 s m n r
+fewer t = record { each = λ c e hc he. t .each c e hc (omega arith) }
 
-  pub one-arm : 10 < m → OneEnds s m n r → BlockEnds s n r
-  one-arm h t = record { two = λ k. absurd (omega (arith, e)); one = λ k. subst (λ (i : ℕ). OneEnds s i n r) (sym e) t }
+module _ (s : Bool) (m n : ℕ) {r : Ends} (e : modeIn n ≡ m) where
+  pub two-arm : m ≤ 10 → EndsOf 4 s m n r → BlockEnds s n r
+  two-arm h t = record { two = λ k. subst (λ (i : ℕ). EndsOf 4 s i n r) (sym e) t; one = λ k. absurd (omega (arith, e)) }
+
+  pub one-arm : 10 < m → EndsOf 2 s m n r → BlockEnds s n r
+  one-arm h t = record { two = λ k. absurd (omega (arith, e)); one = λ k. subst (λ (i : ℕ). EndsOf 2 s i n r) (sym e) t }

@@ -1,322 +1,368 @@
-// A block's endpoints, from its two words: read, transformed and unquantised, in the lanes of two or three words.
+// A block's ends, from its two words: read, transformed and unquantised on i32, four of a channel in an array; of one region its first two.
 //
-// Each mode has a function of its own in each format, so that its numbers are literals and every mask a constant.
-use bc6_endpoints::ends_signed;
-use bc6_endpoints::ends_unsigned;
-use bc6_endpoints::other_16;
-use bc6_endpoints::other_signed;
-use bc6_endpoints::other_unsigned;
-use bc6_endpoints::spread_signed;
-use bc6_endpoints::spread_unsigned;
+// Each mode has a function of its own in each format, so that its numbers are literals.
+use bc6_endpoints::moved_16;
+use bc6_endpoints::moved_signed;
+use bc6_endpoints::moved_unsigned;
+use bc6_endpoints::whole_signed;
+use bc6_endpoints::whole_unsigned;
+use bc6_paint::Ends;
 ghost use mathlib.Core.Bool.{true, false};
 ghost use Prim.Native.Nat.{_≤_};
 ghost use Rattle.bcn_util.specs.Stream.{number};
 ghost use Rattle.bc6h_spec.specs.Fields.{modeIn};
-ghost use Rattle.bc6_by_mode.specs.Words.{TwoEnds, OneEnds, BlockEnds};
-
-// A block's endpoints, worked out: of two regions a word a channel, of one region a word an endpoint and nothing in the third.
-pub struct Ends {
-    pub first: u64,
-    pub second: u64,
-    pub third: u64,
-}
+ghost use Rattle.bc6_by_mode.specs.Words.{EndsOf, BlockEnds};
 
 fn ends_1_unsigned(lo: u64, hi: u64) -> Ends
-    ensures { λ r. ⌜ TwoEnds false 1 (number (record { lo = lo; hi = hi })) r ⌝ }
+    ensures { λ r. ⌜ EndsOf 4 false 1 (number (record { lo = lo; hi = hi })) r ⌝ }
 {
     let c = bc6_runs::channels_1(lo, hi);
-    Ends {
-        first: ends_unsigned(c.red, 5, 10),
-        second: ends_unsigned(c.green, 5, 10),
-        third: ends_unsigned(c.blue, 5, 10),
-    }
+    let w = c.red;
+    let x = c.green;
+    let y = c.blue;
+    let red = moved_unsigned(w, 5, 10);
+    let green = moved_unsigned(x, 5, 10);
+    let blue = moved_unsigned(y, 5, 10);
+    Ends { red, green, blue }
 }
 
 fn ends_2_unsigned(lo: u64, hi: u64) -> Ends
-    ensures { λ r. ⌜ TwoEnds false 2 (number (record { lo = lo; hi = hi })) r ⌝ }
+    ensures { λ r. ⌜ EndsOf 4 false 2 (number (record { lo = lo; hi = hi })) r ⌝ }
 {
     let c = bc6_runs::channels_2(lo, hi);
-    Ends {
-        first: ends_unsigned(c.red, 6, 7),
-        second: ends_unsigned(c.green, 6, 7),
-        third: ends_unsigned(c.blue, 6, 7),
-    }
+    let w = c.red;
+    let x = c.green;
+    let y = c.blue;
+    let red = moved_unsigned(w, 6, 7);
+    let green = moved_unsigned(x, 6, 7);
+    let blue = moved_unsigned(y, 6, 7);
+    Ends { red, green, blue }
 }
 
 fn ends_3_unsigned(lo: u64, hi: u64) -> Ends
-    ensures { λ r. ⌜ TwoEnds false 3 (number (record { lo = lo; hi = hi })) r ⌝ }
+    ensures { λ r. ⌜ EndsOf 4 false 3 (number (record { lo = lo; hi = hi })) r ⌝ }
 {
     let c = bc6_runs::channels_3(lo, hi);
-    Ends {
-        first: ends_unsigned(c.red, 5, 11),
-        second: ends_unsigned(c.green, 4, 11),
-        third: ends_unsigned(c.blue, 4, 11),
-    }
+    let w = c.red;
+    let x = c.green;
+    let y = c.blue;
+    let red = moved_unsigned(w, 5, 11);
+    let green = moved_unsigned(x, 4, 11);
+    let blue = moved_unsigned(y, 4, 11);
+    Ends { red, green, blue }
 }
 
 fn ends_4_unsigned(lo: u64, hi: u64) -> Ends
-    ensures { λ r. ⌜ TwoEnds false 4 (number (record { lo = lo; hi = hi })) r ⌝ }
+    ensures { λ r. ⌜ EndsOf 4 false 4 (number (record { lo = lo; hi = hi })) r ⌝ }
 {
     let c = bc6_runs::channels_4(lo, hi);
-    Ends {
-        first: ends_unsigned(c.red, 4, 11),
-        second: ends_unsigned(c.green, 5, 11),
-        third: ends_unsigned(c.blue, 4, 11),
-    }
+    let w = c.red;
+    let x = c.green;
+    let y = c.blue;
+    let red = moved_unsigned(w, 4, 11);
+    let green = moved_unsigned(x, 5, 11);
+    let blue = moved_unsigned(y, 4, 11);
+    Ends { red, green, blue }
 }
 
 fn ends_5_unsigned(lo: u64, hi: u64) -> Ends
-    ensures { λ r. ⌜ TwoEnds false 5 (number (record { lo = lo; hi = hi })) r ⌝ }
+    ensures { λ r. ⌜ EndsOf 4 false 5 (number (record { lo = lo; hi = hi })) r ⌝ }
 {
     let c = bc6_runs::channels_5(lo, hi);
-    Ends {
-        first: ends_unsigned(c.red, 4, 11),
-        second: ends_unsigned(c.green, 4, 11),
-        third: ends_unsigned(c.blue, 5, 11),
-    }
+    let w = c.red;
+    let x = c.green;
+    let y = c.blue;
+    let red = moved_unsigned(w, 4, 11);
+    let green = moved_unsigned(x, 4, 11);
+    let blue = moved_unsigned(y, 5, 11);
+    Ends { red, green, blue }
 }
 
 fn ends_6_unsigned(lo: u64, hi: u64) -> Ends
-    ensures { λ r. ⌜ TwoEnds false 6 (number (record { lo = lo; hi = hi })) r ⌝ }
+    ensures { λ r. ⌜ EndsOf 4 false 6 (number (record { lo = lo; hi = hi })) r ⌝ }
 {
     let c = bc6_runs::channels_6(lo, hi);
-    Ends {
-        first: ends_unsigned(c.red, 5, 9),
-        second: ends_unsigned(c.green, 5, 9),
-        third: ends_unsigned(c.blue, 5, 9),
-    }
+    let w = c.red;
+    let x = c.green;
+    let y = c.blue;
+    let red = moved_unsigned(w, 5, 9);
+    let green = moved_unsigned(x, 5, 9);
+    let blue = moved_unsigned(y, 5, 9);
+    Ends { red, green, blue }
 }
 
 fn ends_7_unsigned(lo: u64, hi: u64) -> Ends
-    ensures { λ r. ⌜ TwoEnds false 7 (number (record { lo = lo; hi = hi })) r ⌝ }
+    ensures { λ r. ⌜ EndsOf 4 false 7 (number (record { lo = lo; hi = hi })) r ⌝ }
 {
     let c = bc6_runs::channels_7(lo, hi);
-    Ends {
-        first: ends_unsigned(c.red, 6, 8),
-        second: ends_unsigned(c.green, 5, 8),
-        third: ends_unsigned(c.blue, 5, 8),
-    }
+    let w = c.red;
+    let x = c.green;
+    let y = c.blue;
+    let red = moved_unsigned(w, 6, 8);
+    let green = moved_unsigned(x, 5, 8);
+    let blue = moved_unsigned(y, 5, 8);
+    Ends { red, green, blue }
 }
 
 fn ends_8_unsigned(lo: u64, hi: u64) -> Ends
-    ensures { λ r. ⌜ TwoEnds false 8 (number (record { lo = lo; hi = hi })) r ⌝ }
+    ensures { λ r. ⌜ EndsOf 4 false 8 (number (record { lo = lo; hi = hi })) r ⌝ }
 {
     let c = bc6_runs::channels_8(lo, hi);
-    Ends {
-        first: ends_unsigned(c.red, 5, 8),
-        second: ends_unsigned(c.green, 6, 8),
-        third: ends_unsigned(c.blue, 5, 8),
-    }
+    let w = c.red;
+    let x = c.green;
+    let y = c.blue;
+    let red = moved_unsigned(w, 5, 8);
+    let green = moved_unsigned(x, 6, 8);
+    let blue = moved_unsigned(y, 5, 8);
+    Ends { red, green, blue }
 }
 
 fn ends_9_unsigned(lo: u64, hi: u64) -> Ends
-    ensures { λ r. ⌜ TwoEnds false 9 (number (record { lo = lo; hi = hi })) r ⌝ }
+    ensures { λ r. ⌜ EndsOf 4 false 9 (number (record { lo = lo; hi = hi })) r ⌝ }
 {
     let c = bc6_runs::channels_9(lo, hi);
-    Ends {
-        first: ends_unsigned(c.red, 5, 8),
-        second: ends_unsigned(c.green, 5, 8),
-        third: ends_unsigned(c.blue, 6, 8),
-    }
+    let w = c.red;
+    let x = c.green;
+    let y = c.blue;
+    let red = moved_unsigned(w, 5, 8);
+    let green = moved_unsigned(x, 5, 8);
+    let blue = moved_unsigned(y, 6, 8);
+    Ends { red, green, blue }
 }
 
 fn ends_10_unsigned(lo: u64, hi: u64) -> Ends
-    ensures { λ r. ⌜ TwoEnds false 10 (number (record { lo = lo; hi = hi })) r ⌝ }
+    ensures { λ r. ⌜ EndsOf 4 false 10 (number (record { lo = lo; hi = hi })) r ⌝ }
 {
     let c = bc6_runs::channels_10(lo, hi);
-    Ends {
-        first: spread_unsigned(c.red, 6),
-        second: spread_unsigned(c.green, 6),
-        third: spread_unsigned(c.blue, 6),
-    }
+    let w = c.red;
+    let x = c.green;
+    let y = c.blue;
+    let red = whole_unsigned(w, 6);
+    let green = whole_unsigned(x, 6);
+    let blue = whole_unsigned(y, 6);
+    Ends { red, green, blue }
 }
 
 fn ends_11_unsigned(lo: u64, hi: u64) -> Ends
-    ensures { λ r. ⌜ OneEnds false 11 (number (record { lo = lo; hi = hi })) r ⌝ }
+    ensures { λ r. ⌜ EndsOf 4 false 11 (number (record { lo = lo; hi = hi })) r ⌝ }
 {
-    let stored = bc6_pair::read_pair(lo, hi, 0);
-    Ends {
-        first: spread_unsigned(stored.first, 10),
-        second: spread_unsigned(stored.second, 10),
-        third: 0,
-    }
+    let c = bc6_pair::read_pair(lo, hi, 0);
+    let w = c.red;
+    let x = c.green;
+    let y = c.blue;
+    let red = whole_unsigned(w, 10);
+    let green = whole_unsigned(x, 10);
+    let blue = whole_unsigned(y, 10);
+    Ends { red, green, blue }
 }
 
 fn ends_12_unsigned(lo: u64, hi: u64) -> Ends
-    ensures { λ r. ⌜ OneEnds false 12 (number (record { lo = lo; hi = hi })) r ⌝ }
+    ensures { λ r. ⌜ EndsOf 4 false 12 (number (record { lo = lo; hi = hi })) r ⌝ }
 {
-    let stored = bc6_pair::read_pair(lo, hi, 1);
-    Ends {
-        first: spread_unsigned(stored.first, 11),
-        second: other_unsigned(stored.first, stored.second, 9, 11),
-        third: 0,
-    }
+    let c = bc6_pair::read_pair(lo, hi, 1);
+    let w = c.red;
+    let x = c.green;
+    let y = c.blue;
+    let red = moved_unsigned(w, 9, 11);
+    let green = moved_unsigned(x, 9, 11);
+    let blue = moved_unsigned(y, 9, 11);
+    Ends { red, green, blue }
 }
 
 fn ends_13_unsigned(lo: u64, hi: u64) -> Ends
-    ensures { λ r. ⌜ OneEnds false 13 (number (record { lo = lo; hi = hi })) r ⌝ }
+    ensures { λ r. ⌜ EndsOf 4 false 13 (number (record { lo = lo; hi = hi })) r ⌝ }
 {
-    let stored = bc6_pair::read_pair(lo, hi, 2);
-    Ends {
-        first: spread_unsigned(stored.first, 12),
-        second: other_unsigned(stored.first, stored.second, 8, 12),
-        third: 0,
-    }
+    let c = bc6_pair::read_pair(lo, hi, 2);
+    let w = c.red;
+    let x = c.green;
+    let y = c.blue;
+    let red = moved_unsigned(w, 8, 12);
+    let green = moved_unsigned(x, 8, 12);
+    let blue = moved_unsigned(y, 8, 12);
+    Ends { red, green, blue }
 }
 
 fn ends_1_signed(lo: u64, hi: u64) -> Ends
-    ensures { λ r. ⌜ TwoEnds true 1 (number (record { lo = lo; hi = hi })) r ⌝ }
+    ensures { λ r. ⌜ EndsOf 4 true 1 (number (record { lo = lo; hi = hi })) r ⌝ }
 {
     let c = bc6_runs::channels_1(lo, hi);
-    Ends {
-        first: ends_signed(c.red, 5, 10),
-        second: ends_signed(c.green, 5, 10),
-        third: ends_signed(c.blue, 5, 10),
-    }
+    let w = c.red;
+    let x = c.green;
+    let y = c.blue;
+    let red = moved_signed(w, 5, 10);
+    let green = moved_signed(x, 5, 10);
+    let blue = moved_signed(y, 5, 10);
+    Ends { red, green, blue }
 }
 
 fn ends_2_signed(lo: u64, hi: u64) -> Ends
-    ensures { λ r. ⌜ TwoEnds true 2 (number (record { lo = lo; hi = hi })) r ⌝ }
+    ensures { λ r. ⌜ EndsOf 4 true 2 (number (record { lo = lo; hi = hi })) r ⌝ }
 {
     let c = bc6_runs::channels_2(lo, hi);
-    Ends {
-        first: ends_signed(c.red, 6, 7),
-        second: ends_signed(c.green, 6, 7),
-        third: ends_signed(c.blue, 6, 7),
-    }
+    let w = c.red;
+    let x = c.green;
+    let y = c.blue;
+    let red = moved_signed(w, 6, 7);
+    let green = moved_signed(x, 6, 7);
+    let blue = moved_signed(y, 6, 7);
+    Ends { red, green, blue }
 }
 
 fn ends_3_signed(lo: u64, hi: u64) -> Ends
-    ensures { λ r. ⌜ TwoEnds true 3 (number (record { lo = lo; hi = hi })) r ⌝ }
+    ensures { λ r. ⌜ EndsOf 4 true 3 (number (record { lo = lo; hi = hi })) r ⌝ }
 {
     let c = bc6_runs::channels_3(lo, hi);
-    Ends {
-        first: ends_signed(c.red, 5, 11),
-        second: ends_signed(c.green, 4, 11),
-        third: ends_signed(c.blue, 4, 11),
-    }
+    let w = c.red;
+    let x = c.green;
+    let y = c.blue;
+    let red = moved_signed(w, 5, 11);
+    let green = moved_signed(x, 4, 11);
+    let blue = moved_signed(y, 4, 11);
+    Ends { red, green, blue }
 }
 
 fn ends_4_signed(lo: u64, hi: u64) -> Ends
-    ensures { λ r. ⌜ TwoEnds true 4 (number (record { lo = lo; hi = hi })) r ⌝ }
+    ensures { λ r. ⌜ EndsOf 4 true 4 (number (record { lo = lo; hi = hi })) r ⌝ }
 {
     let c = bc6_runs::channels_4(lo, hi);
-    Ends {
-        first: ends_signed(c.red, 4, 11),
-        second: ends_signed(c.green, 5, 11),
-        third: ends_signed(c.blue, 4, 11),
-    }
+    let w = c.red;
+    let x = c.green;
+    let y = c.blue;
+    let red = moved_signed(w, 4, 11);
+    let green = moved_signed(x, 5, 11);
+    let blue = moved_signed(y, 4, 11);
+    Ends { red, green, blue }
 }
 
 fn ends_5_signed(lo: u64, hi: u64) -> Ends
-    ensures { λ r. ⌜ TwoEnds true 5 (number (record { lo = lo; hi = hi })) r ⌝ }
+    ensures { λ r. ⌜ EndsOf 4 true 5 (number (record { lo = lo; hi = hi })) r ⌝ }
 {
     let c = bc6_runs::channels_5(lo, hi);
-    Ends {
-        first: ends_signed(c.red, 4, 11),
-        second: ends_signed(c.green, 4, 11),
-        third: ends_signed(c.blue, 5, 11),
-    }
+    let w = c.red;
+    let x = c.green;
+    let y = c.blue;
+    let red = moved_signed(w, 4, 11);
+    let green = moved_signed(x, 4, 11);
+    let blue = moved_signed(y, 5, 11);
+    Ends { red, green, blue }
 }
 
 fn ends_6_signed(lo: u64, hi: u64) -> Ends
-    ensures { λ r. ⌜ TwoEnds true 6 (number (record { lo = lo; hi = hi })) r ⌝ }
+    ensures { λ r. ⌜ EndsOf 4 true 6 (number (record { lo = lo; hi = hi })) r ⌝ }
 {
     let c = bc6_runs::channels_6(lo, hi);
-    Ends {
-        first: ends_signed(c.red, 5, 9),
-        second: ends_signed(c.green, 5, 9),
-        third: ends_signed(c.blue, 5, 9),
-    }
+    let w = c.red;
+    let x = c.green;
+    let y = c.blue;
+    let red = moved_signed(w, 5, 9);
+    let green = moved_signed(x, 5, 9);
+    let blue = moved_signed(y, 5, 9);
+    Ends { red, green, blue }
 }
 
 fn ends_7_signed(lo: u64, hi: u64) -> Ends
-    ensures { λ r. ⌜ TwoEnds true 7 (number (record { lo = lo; hi = hi })) r ⌝ }
+    ensures { λ r. ⌜ EndsOf 4 true 7 (number (record { lo = lo; hi = hi })) r ⌝ }
 {
     let c = bc6_runs::channels_7(lo, hi);
-    Ends {
-        first: ends_signed(c.red, 6, 8),
-        second: ends_signed(c.green, 5, 8),
-        third: ends_signed(c.blue, 5, 8),
-    }
+    let w = c.red;
+    let x = c.green;
+    let y = c.blue;
+    let red = moved_signed(w, 6, 8);
+    let green = moved_signed(x, 5, 8);
+    let blue = moved_signed(y, 5, 8);
+    Ends { red, green, blue }
 }
 
 fn ends_8_signed(lo: u64, hi: u64) -> Ends
-    ensures { λ r. ⌜ TwoEnds true 8 (number (record { lo = lo; hi = hi })) r ⌝ }
+    ensures { λ r. ⌜ EndsOf 4 true 8 (number (record { lo = lo; hi = hi })) r ⌝ }
 {
     let c = bc6_runs::channels_8(lo, hi);
-    Ends {
-        first: ends_signed(c.red, 5, 8),
-        second: ends_signed(c.green, 6, 8),
-        third: ends_signed(c.blue, 5, 8),
-    }
+    let w = c.red;
+    let x = c.green;
+    let y = c.blue;
+    let red = moved_signed(w, 5, 8);
+    let green = moved_signed(x, 6, 8);
+    let blue = moved_signed(y, 5, 8);
+    Ends { red, green, blue }
 }
 
 fn ends_9_signed(lo: u64, hi: u64) -> Ends
-    ensures { λ r. ⌜ TwoEnds true 9 (number (record { lo = lo; hi = hi })) r ⌝ }
+    ensures { λ r. ⌜ EndsOf 4 true 9 (number (record { lo = lo; hi = hi })) r ⌝ }
 {
     let c = bc6_runs::channels_9(lo, hi);
-    Ends {
-        first: ends_signed(c.red, 5, 8),
-        second: ends_signed(c.green, 5, 8),
-        third: ends_signed(c.blue, 6, 8),
-    }
+    let w = c.red;
+    let x = c.green;
+    let y = c.blue;
+    let red = moved_signed(w, 5, 8);
+    let green = moved_signed(x, 5, 8);
+    let blue = moved_signed(y, 6, 8);
+    Ends { red, green, blue }
 }
 
 fn ends_10_signed(lo: u64, hi: u64) -> Ends
-    ensures { λ r. ⌜ TwoEnds true 10 (number (record { lo = lo; hi = hi })) r ⌝ }
+    ensures { λ r. ⌜ EndsOf 4 true 10 (number (record { lo = lo; hi = hi })) r ⌝ }
 {
     let c = bc6_runs::channels_10(lo, hi);
-    Ends {
-        first: spread_signed(c.red, 6),
-        second: spread_signed(c.green, 6),
-        third: spread_signed(c.blue, 6),
-    }
+    let w = c.red;
+    let x = c.green;
+    let y = c.blue;
+    let red = whole_signed(w, 6);
+    let green = whole_signed(x, 6);
+    let blue = whole_signed(y, 6);
+    Ends { red, green, blue }
 }
 
 fn ends_11_signed(lo: u64, hi: u64) -> Ends
-    ensures { λ r. ⌜ OneEnds true 11 (number (record { lo = lo; hi = hi })) r ⌝ }
+    ensures { λ r. ⌜ EndsOf 4 true 11 (number (record { lo = lo; hi = hi })) r ⌝ }
 {
-    let stored = bc6_pair::read_pair(lo, hi, 0);
-    Ends {
-        first: spread_signed(stored.first, 10),
-        second: spread_signed(stored.second, 10),
-        third: 0,
-    }
+    let c = bc6_pair::read_pair(lo, hi, 0);
+    let w = c.red;
+    let x = c.green;
+    let y = c.blue;
+    let red = whole_signed(w, 10);
+    let green = whole_signed(x, 10);
+    let blue = whole_signed(y, 10);
+    Ends { red, green, blue }
 }
 
 fn ends_12_signed(lo: u64, hi: u64) -> Ends
-    ensures { λ r. ⌜ OneEnds true 12 (number (record { lo = lo; hi = hi })) r ⌝ }
+    ensures { λ r. ⌜ EndsOf 4 true 12 (number (record { lo = lo; hi = hi })) r ⌝ }
 {
-    let stored = bc6_pair::read_pair(lo, hi, 1);
-    Ends {
-        first: spread_signed(stored.first, 11),
-        second: other_signed(stored.first, stored.second, 9, 11),
-        third: 0,
-    }
+    let c = bc6_pair::read_pair(lo, hi, 1);
+    let w = c.red;
+    let x = c.green;
+    let y = c.blue;
+    let red = moved_signed(w, 9, 11);
+    let green = moved_signed(x, 9, 11);
+    let blue = moved_signed(y, 9, 11);
+    Ends { red, green, blue }
 }
 
 fn ends_13_signed(lo: u64, hi: u64) -> Ends
-    ensures { λ r. ⌜ OneEnds true 13 (number (record { lo = lo; hi = hi })) r ⌝ }
+    ensures { λ r. ⌜ EndsOf 4 true 13 (number (record { lo = lo; hi = hi })) r ⌝ }
 {
-    let stored = bc6_pair::read_pair(lo, hi, 2);
-    Ends {
-        first: spread_signed(stored.first, 12),
-        second: other_signed(stored.first, stored.second, 8, 12),
-        third: 0,
-    }
+    let c = bc6_pair::read_pair(lo, hi, 2);
+    let w = c.red;
+    let x = c.green;
+    let y = c.blue;
+    let red = moved_signed(w, 8, 12);
+    let green = moved_signed(x, 8, 12);
+    let blue = moved_signed(y, 8, 12);
+    Ends { red, green, blue }
 }
 
-// Of sixteen bits the two formats' words are the same.
+// Of sixteen bits the two formats' numbers have the same bits.
 fn ends_14(lo: u64, hi: u64) -> Ends
-    ensures { λ r. ⌜ OneEnds false 14 (number (record { lo = lo; hi = hi })) r × OneEnds true 14 (number (record { lo = lo; hi = hi })) r ⌝ }
+    ensures { λ r. ⌜ EndsOf 2 false 14 (number (record { lo = lo; hi = hi })) r × EndsOf 2 true 14 (number (record { lo = lo; hi = hi })) r ⌝ }
 {
-    let stored = bc6_pair::read_pair(lo, hi, 6);
-    Ends {
-        first: stored.first,
-        second: other_16(stored.first, stored.second),
-        third: 0,
-    }
+    let c = bc6_pair::read_pair(lo, hi, 6);
+    let w = c.red;
+    let x = c.green;
+    let y = c.blue;
+    let red = moved_16(w);
+    let green = moved_16(x);
+    let blue = moved_16(y);
+    Ends { red, green, blue }
 }
 
 // The endpoints of a block, by the five bits that name its mode: one match for all modes, in each format.

@@ -1,2 +1,3 @@
 pub mod Unquantising
 pub mod Ends
+pub mod Stepped

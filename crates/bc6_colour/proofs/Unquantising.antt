@@ -29,18 +29,6 @@ pub uU-wide : (p n : ℕ) → 15 ≤ p → unquantizeU p n ≡ n
 unfolding unquantizeU
 uU-wide p n h = simp (le-leb 15 p h)
 
-pub uU-zero : (p n : ℕ) → p < 15 → n ≡ 0 → unquantizeU p n ≡ 0
-unfolding unquantizeU
-uU-zero p n h e = simp (lt-leb 15 p h, e)
-
-pub uU-top : (p n : ℕ) → p < 15 → eqb n 0 ≡ false → n ≡ 2 ^ p - 1 → unquantizeU p n ≡ 65535
-unfolding unquantizeU
-uU-top p n h z e = simp (lt-leb 15 p h, z, eq-eqb n (2 ^ p - 1) e)
-
-pub uU-mid : (p n : ℕ) → p < 15 → eqb n 0 ≡ false → (n ≡ 2 ^ p - 1 → ⊥) → unquantizeU p n ≡ (65536 * n + 32768) / 2 ^ p
-unfolding unquantizeU
-uU-mid p n h z e = simp (lt-leb 15 p h, z, ne-eqb n (2 ^ p - 1) e)
-
 -- ---- unquantise, signed
 pub uM-zero : (p n : ℕ) → n ≡ 0 → unquantizeM p n ≡ 0
 unfolding unquantizeM

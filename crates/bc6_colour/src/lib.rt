@@ -19,7 +19,7 @@ ghost use Rattle.bc6_mode.specs.Modes.{bitsOf};
 ghost use Rattle.bc6_colour.specs.Colours.{endOf, unquantizedOf, OfBits, black};
 
 // The first endpoint `a` is added to the delta `d`, `bits` bits are kept, and in signed format the sign is extended again.
-fn transform_one(a: i32, d: i32, bits: u8, signed: bool) -> i32
+pub fn transform_one(a: i32, d: i32, bits: u8, signed: bool) -> i32
     requires { ⌜ (0 < bits) × (bits ≤ 16) × (Within 65536 a × Within 65536 d) ⌝ }
     ensures { λ r. ⌜ r ≡ transform signed bits a d ⌝ }
 {
@@ -27,20 +27,14 @@ fn transform_one(a: i32, d: i32, bits: u8, signed: bool) -> i32
     if signed { sign_extend(sum, bits) } else { sum }
 }
 
-// Below fifteen bits: the three cases are worked out first and chosen after.
-fn unquantize_narrow(c: i32, bits: u8) -> i32
+// Below fifteen bits, as a sum: the place of c, half a step above it where c is not 0, and another half less one at the highest.
+pub fn unquantize_narrow(c: i32, bits: u8) -> i32
     requires { ⌜ (0 < bits) × (bits < 15) × Below (2 ^ bits) c ⌝ }
     ensures { λ r. ⌜ r ≡ pos (unquantizeU bits (natAbs c)) ⌝ }
 {
-    let mid = ((c << 16) + 0x8000) >> bits;
-    let top = (1 << bits) - 1;
-    if c == 0 {
-        return 0;
-    }
-    if c == top {
-        return 0xFFFF;
-    }
-    mid
+    let some = (c + ((1 << bits) - 1)) >> bits;
+    let top = (c + 1) >> bits;
+    (c << (16 - bits)) + ((some + top) << (15 - bits)) - top
 }
 
 fn unquantize_unsigned(c: i32, bits: u8) -> i32
@@ -69,7 +63,7 @@ fn unquantize_magnitude(m: i32, bits: u8) -> i32
 }
 
 // Below sixteen bits, in signed format.
-fn unquantize_signed(c: i32, bits: u8) -> i32
+pub fn unquantize_signed(c: i32, bits: u8) -> i32
     requires { ⌜ (0 < bits) × (bits ≤ 15) × InBits true bits c ⌝ }
     ensures { λ r. ⌜ r ≡ unquantized true bits c ⌝ }
 {

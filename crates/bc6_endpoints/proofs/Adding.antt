@@ -1,25 +1,20 @@
--- The first endpoint plus a difference, p bits kept, in either format. Assumes nothing.
+-- A difference added to p bits that are stored, in either format: what the definitions make of it. Assumes nothing.
 use mathlib.Core.Path.{_≡_, _∙_, refl, sym, ap, subst}
 use mathlib.Core.Bool.{Bool, true, false}
 use Prim.Native.Nat.{ℕ, zero, suc, _+_, _-_, _*_, _/_, _%_, _^_, _≤_, _<_}
 use native.Mathlib.Nat.{mul-add-mod-self-right, mod-eq-of-lt}
 use native.Mathlib.Decide.{decLt}
 use native.Mathlib.Omega.{arith}
-use lib.Dec.{eqb, lit<}
-use lib.IntN.{ℤ, pos, _+ℤ_, +ℤ-idr}
-use lib.Pow.{pow-pos, pow-mono}
-use lib.Bits.{bitXor}
+use lib.Dec.{lit≤}
+use lib.IntN.{ℤ, pos, natAbs, _+ℤ_, +ℤ-idl, +ℤ-idr}
+use lib.Pow.{pow-pos}
 use borrow.Author.Tests.{lt-ltb, le-ltb}
-use Rattle.laws.specs.Pick.{pick}
 use Rattle.laws.proofs.Off.{Off, off-same, off-add}
-use Rattle.lanes.specs.Lanes.{lane, EachBelow, InEach}
-use Rattle.lanes.proofs.Laws.{flip-low, flip-high}
-use Rattle.bc6h_spec.specs.Half.{signExtend, keep, transform}
+use Rattle.bc6h_spec.specs.Half.{signExtend, keep, transform, unquantized, unquantizeU}
 use Rattle.bc6h_spec.specs.Picture.{firstEnd, delta, otherEnd}
-use Rattle.bc6h_spec.proofs.Ranges.{twice, keep-lt}
+use Rattle.bc6h_spec.proofs.Ranges.{keep-lt}
 use Rattle.bc6h_spec.proofs.Lifted.{off-keep, lifted, lifted-off, wide}
-use Rattle.bc6_endpoints.specs.Ends.{wordOf, wholeOf, movedOf}
-use Rattle.bc6_endpoints.specs.Steps.{addedOf}
+use Rattle.bc6_endpoints.specs.Ends.{wordOf, wholeOf, movedOf, endOf}
 
 -- whole turns of 2 ^ p are dropped
 turn : (p n : ℕ) → (2 ^ p + n) % 2 ^ p ≡ n % 2 ^ p
@@ -48,34 +43,55 @@ module _ (p w n : ℕ) (own : w ≤ p) where
           (ap (λ (k : ℕ). k % 2 ^ p) (let e : 2 ^ p + first + apart ≡ 2 ^ p + (first + apart) = omega arith in e) ∙ turn p (first + apart))
       go (no l) = rw (le-ltb first (2 ^ (p - 1)) (omega arith)) refl
 
-  -- in either format the transform is of the bits
-  pub moved-is : (s : Bool) (first : ℕ) → movedOf s p w first n ≡ wholeOf s p (addedOf p w first n)
-  unfolding movedOf wholeOf addedOf otherEnd delta transform firstEnd
-  moved-is true first = ap (λ (k : ℕ). wordOf true p (signExtend p k)) (from-extended first ∙ sym (from-whole first))
+  -- in either format the transform is of the bits that are stored
+  pub moved-is : (s : Bool) (first : ℕ) → endOf s p w (pos first) (pos n) ≡ movedOf s p w first n
+  unfolding endOf movedOf otherEnd delta transform firstEnd
+  moved-is true first = ap (λ (k : ℕ). unquantized true p (signExtend p k)) (from-whole first ∙ sym (from-extended first))
   moved-is false first = refl
 
-  -- .. and the difference lies 2 ^ (w − 1) above zero where its highest bit is turned over
-  pub added-is : (first : ℕ) → 0 < w → n < 2 ^ w → (first + (bitXor n (2 ^ (w - 1)) + (2 ^ p - 2 ^ (w - 1)))) % 2 ^ p ≡ addedOf p w first n
-  unfolding addedOf lifted
-  added-is first some few = ap (λ (k : ℕ). (first + k) % 2 ^ p) (go (decLt n (2 ^ (w - 1)))) ∙ sym (from-whole first)
-    where
-      half : 2 ^ w ≡ 2 ^ (w - 1) + 2 ^ (w - 1)
-      half = twice w some
+-- p bits of the number that they stand for
+pub kept-extended : (p n : ℕ) → n < 2 ^ p → keep p (signExtend p n) ≡ n
+unfolding lifted
+kept-extended p n h =
+    off-keep p 1 (signExtend p n) (lifted p n)
+    (off-same (2 ^ p) (1 * 2 ^ p) (signExtend p n) (lifted p n) (lifted p n) (omega arith) refl (lifted-off p n))
+    ∙ go (decLt n (2 ^ (p - 1)))
+  where
+    go : Dec (n < 2 ^ (p - 1)) → lifted p n % 2 ^ p ≡ n
+    go (yes l) = rw (lt-ltb n (2 ^ (p - 1)) l) (turn p n ∙ mod-eq-of-lt h)
+    go (no l) = rw (le-ltb n (2 ^ (p - 1)) (omega arith)) (mod-eq-of-lt h)
 
-      wider : 2 ^ w ≤ 2 ^ p
-      wider = pow-mono {i = w} {j = p} own
-
-      go : Dec (n < 2 ^ (w - 1)) → bitXor n (2 ^ (w - 1)) + (2 ^ p - 2 ^ (w - 1)) ≡ apart
-      go (yes l) = rw (lt-ltb n (2 ^ (w - 1)) l) (let e = flip-low (w - 1) n l in omega (arith, e, half, wider))
-      go (no l) = rw (le-ltb n (2 ^ (w - 1)) (omega arith)) (let e = flip-high (w - 1) n (omega arith) (omega (arith, half)) in omega (arith, e, half, wider))
+-- a sum that is n, p bits kept: the end of n, stored whole
+whole-by : (s : Bool) (p w : ℕ) (base x : ℤ) (n : ℕ) → keep p (base +ℤ signExtend w (natAbs x)) ≡ n → endOf s p w base x ≡ wholeOf s p n
+unfolding endOf wholeOf transform firstEnd
+whole-by true p w base x n e = ap (λ (k : ℕ). unquantized true p (signExtend p k)) e
+whole-by false p w base x n e = ap (λ (k : ℕ). unquantized false p (pos k)) e
 
 -- a number plus no difference
 nothing : (w : ℕ) → signExtend w 0 ≡ pos 0
 unfolding signExtend
 nothing w = rw (lt-ltb 0 (2 ^ (w - 1)) (pow-pos (w - 1))) refl
 
-pub unmoved : (s : Bool) (p w first : ℕ) → w ≤ p → first < 2 ^ p → movedOf s p w first 0 ≡ wholeOf s p first
-unfolding addedOf keep
-unmoved s p w first own h =
-    moved-is p w 0 own s first
-    ∙ ap (wholeOf s p) (ap (λ (z : ℤ). keep p (pos first +ℤ z)) (nothing w) ∙ ap (keep p) (+ℤ-idr (pos first)) ∙ mod-eq-of-lt h)
+pub unmoved : (s : Bool) (p w first : ℕ) → first < 2 ^ p → endOf s p w (pos first) (pos 0) ≡ wholeOf s p first
+unfolding keep
+unmoved s p w first h =
+    whole-by s p w (pos first) (pos 0) first (ap (λ (z : ℤ). keep p (pos first +ℤ z)) (nothing w) ∙ ap (keep p) (+ℤ-idr (pos first)) ∙ mod-eq-of-lt h)
+
+-- .. and 0 plus a number
+pub from-zero : (s : Bool) (p n : ℕ) → n < 2 ^ p → endOf s p p (pos 0) (pos n) ≡ wholeOf s p n
+from-zero s p n h = whole-by s p p (pos 0) (pos n) n (ap (keep p) (+ℤ-idl (signExtend p n)) ∙ kept-extended p n h)
+
+-- ---- sixteen bits: nothing is unquantised, and a difference has four bits
+
+pub whole-16 : (s : Bool) (n : ℕ) → n < 65536 → wordOf s 16 (firstEnd s 16 n) ≡ n
+unfolding wordOf unquantized unquantizeU firstEnd keep
+whole-16 true n h = kept-extended 16 n h
+whole-16 false n h = mod-eq-of-lt h
+
+pub moved-16-is : (s : Bool) (first n : ℕ) → keep 16 (pos first +ℤ signExtend 4 n) ≡ wordOf s 16 (otherEnd s true 16 4 (firstEnd s 16 first) n)
+unfolding otherEnd delta transform firstEnd
+moved-16-is true first n =
+    let k = keep 16 (pos first +ℤ signExtend 4 n) in
+    sym (whole-16 true k (keep-lt 16 (pos first +ℤ signExtend 4 n)))
+    ∙ ap (λ (j : ℕ). wordOf true 16 (signExtend 16 j)) (from-whole 16 4 n (lit≤ tt) first ∙ sym (from-extended 16 4 n (lit≤ tt) first))
+moved-16-is false first n = sym (whole-16 false (keep 16 (pos first +ℤ signExtend 4 n)) (keep-lt 16 (pos first +ℤ signExtend 4 n)))

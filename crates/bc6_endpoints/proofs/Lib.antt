@@ -1,5 +1,3 @@
-pub mod Unsigned
-pub mod Signed
 pub mod Adding
-pub mod Lanewise
+pub mod Channels
 pub mod Sixteens

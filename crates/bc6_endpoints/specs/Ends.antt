@@ -1,53 +1,75 @@
--- The endpoints of a block, from what is stored: in signed format in two's complement. Assumes nothing.
+-- The endpoints of a block, from what is stored. Assumes nothing.
 use mathlib.Core.Path.{_≡_}
 use mathlib.Core.Bool.{Bool, true}
-use Prim.Native.Nat.{ℕ, _+_, _-_, _*_, _^_, _≤_, _<_}
-use lib.Dec.{eqb, leb}
-use lib.IntN.{ℤ}
+use mathlib.Core.List.{List}
+use Prim.Native.Nat.{ℕ, _^_, _≤_, _<_}
+use lib.Dec.{eqb}
+use lib.IntN.{ℤ, pos, natAbs, _+ℤ_}
+use lib.ListN.{getD}
 use Rattle.laws.specs.Pick.{pick}
-use Rattle.lanes.specs.Lanes.{lane, EachBelow}
-use Rattle.bc6h_spec.specs.Half.{keep, unquantized}
+use Rattle.laws.specs.Ranges.{Below}
+use Rattle.bc6h_spec.specs.Half.{signExtend, keep, transform, unquantized}
 use Rattle.bc6h_spec.specs.Picture.{firstEnd, otherEnd}
 
 -- an endpoint, unquantised, as 16 bits
 unfoldable pub wordOf : Bool → ℕ → ℤ → ℕ
 wordOf signed p z = keep 16 (unquantized signed p z)
 
--- .. of p bits that are stored whole
-unfoldable pub wholeOf : Bool → ℕ → ℕ → ℕ
-wholeOf signed p n = wordOf signed p (firstEnd signed p n)
+-- of p bits that are stored whole, unquantised
+unfoldable pub wholeOf : Bool → ℕ → ℕ → ℤ
+wholeOf signed p n = unquantized signed p (firstEnd signed p n)
 
 -- .. of a difference of w bits from a first one of p
-unfoldable pub movedOf : Bool → ℕ → ℕ → ℕ → ℕ → ℕ
-movedOf signed p w first n = wordOf signed p (otherEnd signed true p w (firstEnd signed p first) n)
+unfoldable pub movedOf : Bool → ℕ → ℕ → ℕ → ℕ → ℤ
+movedOf signed p w first n = unquantized signed p (otherEnd signed true p w (firstEnd signed p first) n)
+
+-- .. as both are worked out: the difference is added to p bits that are stored
+unfoldable pub endOf : Bool → ℕ → ℕ → ℤ → ℤ → ℤ
+endOf signed p w base x = unquantized signed p (transform signed p base (signExtend w (natAbs x)))
 
 -- endpoint e of a channel, whose stored numbers are `at`: the first is whole, the others are differences from it
-abbrev pub endFrom : Bool → ℕ → ℕ → (ℕ → ℕ) → ℕ → ℕ
+abbrev pub endFrom : Bool → ℕ → ℕ → (ℕ → ℕ) → ℕ → ℤ
 endFrom signed p w at e = pick (eqb e 0) (wholeOf signed p (at 0)) (movedOf signed p w (at 0) (at e))
 
--- ---- in lanes
+-- ---- a channel: four numbers on i32
 
--- p bits, and differences of w bits, have room in lanes
+-- number e of them, and as it is stored
+abbrev pub endAt : List ℤ → ℕ → ℤ
+endAt l e = getD l e (pos 0)
+
+abbrev pub storedIn : List ℤ → ℕ → ℕ
+storedIn l e = natAbs (endAt l e)
+
+-- p bits, and differences of w bits, of less than fifteen bits
 pub record Narrow (p w : ℕ) : Type 0 where
-  pub some : 2 ≤ w
+  pub some : 1 ≤ w
   pub own : w ≤ p
   pub most : p < 15
 
--- firsts of p bits, and differences of w bits from them
-pub record Apart (p w firsts others : ℕ) : Type 0 where
+-- p bits, and a difference of w bits from them
+pub record Apart (p w : ℕ) (base x : ℤ) : Type 0 where
   pub narrow : Narrow p w
-  pub whole : EachBelow (2 ^ p) firsts
-  pub few : EachBelow (2 ^ w) others
+  pub whole : Below (2 ^ p) base
+  pub few : Below (2 ^ w) x
 
--- each of them worked out
-pub record MovedLanes (signed : Bool) (p w firsts others r : ℕ) : Type 0 where
-  pub each : (e : ℕ) → e < 4 → lane r e ≡ movedOf signed p w (lane firsts e) (lane others e)
-
--- a channel's word: the first of p bits in lane 0, the others' differences of w bits above it
-pub record Channel (p w word : ℕ) : Type 0 where
+-- the first of p bits, and the others' differences of w bits
+pub record Channel (p w : ℕ) (n : List ℤ) : Type 0 where
   pub narrow : Narrow p w
-  pub first : lane word 0 < 2 ^ p
-  pub other : (e : ℕ) → 1 ≤ e → e < 4 → lane word e < 2 ^ w
+  pub first : Below (2 ^ p) (endAt n 0)
+  pub other : (e : ℕ) → 1 ≤ e → e < 4 → Below (2 ^ w) (endAt n e)
 
-pub record ChannelEnds (signed : Bool) (p w word r : ℕ) : Type 0 where
-  pub each : (e : ℕ) → e < 4 → lane r e ≡ endFrom signed p w (lane word) e
+pub record ChannelEnds (signed : Bool) (p w : ℕ) (n r : List ℤ) : Type 0 where
+  pub each : (e : ℕ) → e < 4 → endAt r e ≡ endFrom signed p w (storedIn n) e
+
+-- all of p bits, stored whole
+pub record Whole (p : ℕ) (n : List ℤ) : Type 0 where
+  pub narrow : Narrow p p
+  pub each : (e : ℕ) → e < 4 → Below (2 ^ p) (endAt n e)
+
+pub record WholeEnds (signed : Bool) (p : ℕ) (n r : List ℤ) : Type 0 where
+  pub each : (e : ℕ) → e < 4 → endAt r e ≡ wholeOf signed p (storedIn n e)
+
+-- sixteen bits and a difference of four, whose sum has them in its lowest sixteen
+pub record Sixteen (n r : List ℤ) : Type 0 where
+  pub first : endAt r 0 ≡ endAt n 0
+  pub second : endAt r 1 ≡ endAt n 0 +ℤ signExtend 4 (storedIn n 1)

@@ -2,3 +2,4 @@ pub mod Chosen
 pub mod Points
 pub mod Pixels
 pub mod Link
+pub mod Elements

@@ -6,7 +6,6 @@ use Prim.Native.Nat.{ℕ, zero, suc, _+_, _-_, _*_, _/_, _%_, _^_, _≤_, _<_}
 use native.Mathlib.Nat.{add-zero, add-suc, mul-add}
 use native.Mathlib.Numerals.{add-one}
 use native.Mathlib.Omega.{arith}
-use lib.Bits.{bitXor}
 use lib.Dec.{eqb, lit<, lit≤}
 use lib.ListN.{length, getD, set, take, drop, length-set, length-drop, take-append-drop, drop-of-length-le}
 use lib.Seq.{length-take-le, take-set-le, take-set-lt, drop-set-lt, drop-set-add, drop-drop}
@@ -16,12 +15,12 @@ use Rattle.laws.specs.Bit.{bit}
 use Rattle.laws.specs.Made.{made, countOf}
 use Rattle.laws.proofs.Rows.{made-none, made-store, length-made, count-le}
 use Rattle.laws.proofs.Counts.{count-append, count-last}
-use Rattle.lanes.specs.Lanes.{lane, ofThree, acrossThree, alongTwo}
-use Rattle.lanes.proofs.Laws.{lane-lt}
 use Rattle.bc6h_spec.specs.Half.{minusInfinity}
-use Rattle.bc6_paint.specs.Values.{Paired, digit, oneSecond, maskOf, TurnOf, shadeOf, selected, shadeIn, valueOf, counted, PaintedAs}
+use Rattle.bc6_paint.specs.Values.{heldAt, channelOf, endIn, digit, maskOf, TurnOf, shadeOf, selected, shadeIn, valueOf, counted, PaintedAs}
 use Rattle.bc6_paint.specs.declared.Turn.{Turn}
+use Rattle.bc6_paint.specs.declared.Ends.{Ends}
 use Rattle.bc6_paint.proofs.Chosen.{selected-is}
+use Rattle.bc6_paint.proofs.Points.{held-lt}
 
 -- ---- the two fronts
 
@@ -204,50 +203,28 @@ mask-above map k = ap (λ (n : ℕ). maskOf (eqb (n % 2) 1)) (shr-shr map 8 k)
 
 -- ---- the values of a turn
 
--- a channel's word has the ends that the pixels' regions ask for
-pub record Held (second : ℕ → Bool) (ends : ℕ → ℕ → ℕ) (words : ℕ → ℕ) : Type 0 where
-  pub front : (k c : ℕ) → c < 3 → pick (second k) (lane (words c) 2) (lane (words c) 0) ≡ pick (second k) (ends 2 c) (ends 0 c)
-  pub back : (k c : ℕ) → c < 3 → pick (second k) (lane (words c) 3) (lane (words c) 1) ≡ pick (second k) (ends 3 c) (ends 1 c)
-
--- words of channels have all of them ..
-pub channels-held : (second : ℕ → Bool) (red green blue : ℕ) → Held second (acrossThree red green blue) (ofThree red green blue)
-channels-held second red green blue = record { front = λ k c h. refl; back = λ k c h. refl }
-
--- .. and words that were made of two endpoints those of region 0
-pub pairs-held : {first second red green blue : ℕ} → Paired first second 0 red → Paired first second 1 green → Paired first second 2 blue
-    → Held oneSecond (alongTwo first second) (ofThree red green blue)
-pairs-held {first} {second} {red} {green} {blue} r g b =
-    record {
-      front = λ k. each (λ c. lane (ofThree red green blue c) 0 ≡ alongTwo first second 0 c) (r .front) (g .front) (b .front);
-      back = λ k. each (λ c. lane (ofThree red green blue c) 1 ≡ alongTwo first second 1 c) (r .back) (g .back) (b .back);
-    }
-  where
-    each : (P : ℕ → Type 0) → P 0 → P 1 → P 2 → (c : ℕ) → c < 3 → P c
-    each P x y z zero h = x
-    each P x y z (suc zero) h = y
-    each P x y z (suc (suc zero)) h = z
-    each P x y z (suc (suc (suc c))) h = absurd (omega arith)
-
 -- the values of a pixel's channels, by its mask and its weight
-abbrev pub valueAt : Bool → (ℕ → ℕ) → ℕ → ℕ → ℕ → ℕ
-valueAt s words mask w c = shadeIn s (words c) mask w
+abbrev pub valueAt : Bool → Ends → ℕ → ℕ → ℕ → ℕ
+valueAt s ends mask w c = shadeIn s (channelOf ends c) mask w
 
-module _ (s : Bool) {ends : ℕ → ℕ → ℕ} {second : ℕ → Bool} (weight : ℕ → ℕ) {words : ℕ → ℕ} (held : Held second ends words) where
+module _ (s : Bool) (ends : Ends) (second : ℕ → Bool) (weight : ℕ → ℕ) where
   -- channel c of pixel k
-  value-is : (j k c mask w : ℕ) → j ≡ 3 * k + c → c < 3 → mask ≡ maskOf (second k) → w ≡ weight k → valueAt s words mask w c ≡ valueOf s ends second weight j
+  value-is : (j k c mask w : ℕ) → j ≡ 3 * k + c → c < 3 → mask ≡ maskOf (second k) → w ≡ weight k → valueAt s ends mask w c ≡ valueOf s (endIn ends) second weight j
   unfolding shadeIn valueOf
   value-is j k c mask w e h em ew =
       let pixel : k ≡ j / 3 = omega arith in
       let channel : c ≡ j % 3 = omega arith in
-      let end : (e g : ℕ) → selected (maskOf (second k)) (lane (words c) e) (bitXor (lane (words c) e) (lane (words c) g)) ≡ pick (second k) (lane (words c) g) (lane (words c) e) =
-      λ e g. selected-is (second k) (lane (words c) e) (lane (words c) g) (lane-lt (words c) e) (lane-lt (words c) g) in
-      (λ i. valueAt s words (em i) (ew i) c)
-      ∙ (λ i. shadeOf s ((end 0 2 ∙ held .front k c h) i) ((end 1 3 ∙ held .back k c h) i) (weight k))
+      let l = channelOf ends c in
+      let end : (e g : ℕ) → selected (maskOf (second k)) (heldAt l e) (heldAt l g) ≡ pick (second k) (heldAt l g) (heldAt l e) =
+      λ e g. selected-is (second k) (heldAt l e) (heldAt l g) (held-lt l e) (held-lt l g) in
+      (λ i. valueAt s ends (em i) (ew i) c)
+      ∙ (λ i. shadeOf s (end 0 2 i) (end 1 3 i) (weight k))
       ∙ (λ i.
       let t = second (pixel i) in
-      shadeOf s (pick t (ends 2 (channel i)) (ends 0 (channel i))) (pick t (ends 3 (channel i)) (ends 1 (channel i))) (weight (pixel i)))
+      shadeOf s (pick t (endIn ends 2 (channel i)) (endIn ends 0 (channel i))) (pick t (endIn ends 3 (channel i)) (endIn ends 1 (channel i))) (weight (pixel i)))
 
-  pub shades-of : {k : ℕ} {t : Turn} → TurnOf second weight k t → Shades (valueOf s ends second weight) k (valueAt s words (t .second) (t .w)) (valueAt s words (t .second8) (t .w8))
+  pub shades-of : {k : ℕ} {t : Turn} → TurnOf second weight k t
+      → Shades (valueOf s (endIn ends) second weight) k (valueAt s ends (t .second) (t .w)) (valueAt s ends (t .second8) (t .w8))
   shades-of {k} {t} e =
       record {
         low = λ c h. value-is (3 * k + c) k c (t .second) (t .w) refl h (e .region) (e .weighs);

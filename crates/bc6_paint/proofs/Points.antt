@@ -1,22 +1,21 @@
 -- A number between two of 16 bits, and its pattern. Assumes nothing.
 use mathlib.Core.Path.{_≡_, _∙_, sym, ap, subst}
 use mathlib.Core.Bool.{Bool, true, false}
-use Prim.Native.Nat.{ℕ, _/_, _^_, _≤_, _<_}
+use mathlib.Core.List.{List}
+use Prim.Native.Nat.{ℕ, _≤_, _<_}
 use native.Mathlib.Omega.{arith}
-use lib.Bits.{bitXor, xor-lt}
 use lib.IntN.{ℤ, pos}
+use lib.ListN.{getD}
 use Rattle.laws.specs.Pick.{pick}
 use Rattle.laws.specs.Ranges.{InBits, Within}
-use Rattle.lanes.specs.Lanes.{lane}
-use Rattle.lanes.proofs.Laws.{lane-lt}
 use Rattle.bc6h_spec.specs.Half.{keep, interpolated, finished}
-use Rattle.bc6h_spec.proofs.Ranges.{interpolated-in, in-16}
+use Rattle.bc6h_spec.proofs.Ranges.{interpolated-in, in-16, keep-lt}
 use Rattle.bc6_half.specs.declared.Half.{Half}
 use Rattle.bc6_half.specs.Halves.{numberAt, halfOf, marked}
 use Rattle.bc6_half.proofs.Words.{number-in, number-kept}
 use Rattle.bc6_half.proofs.Told.{half-marked}
-use Rattle.bc6_paint.specs.Values.{pointOf, shadeOf, selected, shadeIn, counted}
-use Rattle.bc6_paint.proofs.Chosen.{selected-lt, apart-lane}
+use Rattle.bc6_paint.specs.Values.{heldAt, pointOf, shadeOf, selected, shadeIn, counted}
+use Rattle.bc6_paint.proofs.Chosen.{selected-lt}
 
 module _ (s : Bool) (a b w : ℕ) (ha : a < 65536) (hb : b < 65536) (hw : w ≤ 64) where
   -- what interpolating asks of two numbers
@@ -37,37 +36,37 @@ module _ (s : Bool) (a b w : ℕ) (ha : a < 65536) (hb : b < 65536) (hw : w ≤ 
   unfolding shadeOf
   half-is z h ez eh = eh ∙ ap (halfOf s) ez ∙ half-marked s (pointOf s a b w) point-in
 
--- what a channel's pixels are worked out of: two ends, and the bits in which those of region 1 lie apart from them
-pub record Drawn (ends a b ac bd : ℕ) : Type 0 where
-  pub front : a ≡ lane ends 0
-  pub back : b ≡ lane ends 1
-  pub front-apart : ac ≡ bitXor (lane ends 0) (lane ends 2)
-  pub back-apart : bd ≡ bitXor (lane ends 1) (lane ends 3)
+-- end e of a channel has 16 bits
+pub held-lt : (l : List ℤ) (e : ℕ) → heldAt l e < 65536
+held-lt l e = keep-lt 16 (getD l e (pos 0))
 
-pub drawn : {ends a b ac bd : ℕ} → a ≡ lane ends 0 → b ≡ lane ends 1 → ac ≡ lane (bitXor ends (ends / 2 ^ 32)) 0 → bd ≡ lane (bitXor ends (ends / 2 ^ 32)) 1 → Drawn ends a b ac bd
-drawn {ends} ea eb eac ebd = record { front = ea; back = eb; front-apart = eac ∙ apart-lane ends 0; back-apart = ebd ∙ apart-lane ends 1 }
+-- what a channel's pixels are worked out of: its ends, two of each region
+pub record Drawn (ends : List ℤ) (a b c d : ℕ) : Type 0 where
+  pub front : a ≡ heldAt ends 0
+  pub back : b ≡ heldAt ends 1
+  pub front-second : c ≡ heldAt ends 2
+  pub back-second : d ≡ heldAt ends 3
 
-module _ (s : Bool) {ends a b ac bd : ℕ} (d : Drawn ends a b ac bd) (mask w : ℕ) (hw : w ≤ 64) where
-  end-lt : {x y : ℕ} (e g : ℕ) → x ≡ lane ends e → y ≡ bitXor (lane ends e) (lane ends g) → selected mask x y < 65536
+module _ (s : Bool) {ends : List ℤ} {a b c d : ℕ} (n : Drawn ends a b c d) (mask w : ℕ) (hw : w ≤ 64) where
+  end-lt : {x y : ℕ} (e g : ℕ) → x ≡ heldAt ends e → y ≡ heldAt ends g → selected mask x y < 65536
   end-lt e g ex ey =
-      subst (λ (n : ℕ). n < 65536) (λ i. selected mask (sym ex i) (sym ey i))
-      (selected-lt mask (lane ends e) (bitXor (lane ends e) (lane ends g)) (lane-lt ends e) (xor-lt 16 (lane ends e) (lane ends g) (lane-lt ends e) (lane-lt ends g)))
+      subst (λ (n : ℕ). n < 65536) (λ i. selected mask (sym ex i) (sym ey i)) (selected-lt mask (heldAt ends e) (heldAt ends g) (held-lt ends e) (held-lt ends g))
 
-  front-lt : selected mask a ac < 65536
-  front-lt = end-lt 0 2 (d .front) (d .front-apart)
+  front-lt : selected mask a c < 65536
+  front-lt = end-lt 0 2 (n .front) (n .front-second)
 
-  back-lt : selected mask b bd < 65536
-  back-lt = end-lt 1 3 (d .back) (d .back-apart)
+  back-lt : selected mask b d < 65536
+  back-lt = end-lt 1 3 (n .back) (n .back-second)
 
   -- the number of a pixel, and its half-float
-  pub drawn-in : InBits s 16 (pointOf s (selected mask a ac) (selected mask b bd) w)
+  pub drawn-in : InBits s 16 (pointOf s (selected mask a c) (selected mask b d) w)
   drawn-in = point-in s _ _ w front-lt back-lt hw
 
-  pub half-drawn : (z : ℤ) (h : Half) → z ≡ pointOf s (selected mask a ac) (selected mask b bd) w → h ≡ halfOf s z → h ≡ marked (shadeIn s ends mask w)
+  pub half-drawn : (z : ℤ) (h : Half) → z ≡ pointOf s (selected mask a c) (selected mask b d) w → h ≡ halfOf s z → h ≡ marked (shadeIn s ends mask w)
   unfolding shadeIn
   half-drawn z h ez eh =
       half-is s _ _ w front-lt back-lt hw z h ez eh
-      ∙ (λ i. marked (shadeOf s (selected mask (d .front i) (d .front-apart i)) (selected mask (d .back i) (d .back-apart i)) w))
+      ∙ (λ i. marked (shadeOf s (selected mask (n .front i) (n .front-second i)) (selected mask (n .back i) (n .back-second i)) w))
 
 -- its pattern, and what its flag adds to a count
 pub shade : (h : Half) (v : ℕ) → h ≡ marked v → h .pattern ≡ v

@@ -3,25 +3,32 @@ use mathlib.Core.Bool.{Bool, true, false}
 use mathlib.Core.List.{List, _++_}
 use mathlib.Core.Path.{_≡_}
 use Prim.Native.Nat.{ℕ, _+_, _*_, _/_, _%_, _^_, _≤_}
-use lib.Bits.{bitAnd, bitXor}
+use lib.Bits.{bitAnd, bitOr, bitXor}
 use lib.Dec.{eqb}
 use lib.IntN.{ℤ, pos}
 use lib.ListN.{getD, set, drop}
 use Rattle.laws.specs.Pick.{pick}
 use Rattle.laws.specs.Bit.{bit}
 use Rattle.laws.specs.Made.{countOf}
-use Rattle.lanes.specs.Lanes.{lane, alongTwo}
-use Rattle.bc6h_spec.specs.Half.{minusInfinity, interpolated, finished}
+use Rattle.bc6h_spec.specs.Half.{keep, minusInfinity, interpolated, finished}
 use Rattle.bc6h_spec.specs.Picture.{weights8, weights16}
 use Rattle.bc6_half.specs.Halves.{numberAt}
 use Rattle.bc6_paint.specs.declared.Turn.{Turn}
+use Rattle.bc6_paint.specs.declared.Ends.{Ends}
 
--- ---- channel c of endpoint e: in three words, one of a channel, an endpoint in each lane; in two, one of an endpoint, a channel in each lane
+-- ---- a block's ends, as 16 bits
 
--- the word of a channel out of two, whose endpoints 2 and 3 are not asked for
-pub record Paired (first second c r : ℕ) : Type 0 where
-  pub front : lane r 0 ≡ alongTwo first second 0 c
-  pub back : lane r 1 ≡ alongTwo first second 1 c
+-- end e of a channel
+abbrev pub heldAt : List ℤ → ℕ → ℕ
+heldAt l e = keep 16 (getD l e (pos 0))
+
+-- channel c of a block
+abbrev pub channelOf : Ends → ℕ → List ℤ
+channelOf r c = pick (eqb c 0) (r .red) (pick (eqb c 1) (r .green) (r .blue))
+
+-- channel c of end e
+abbrev pub endIn : Ends → ℕ → ℕ → ℕ
+endIn r e c = heldAt (channelOf r c) e
 
 -- ---- what a pixel has: whether it lies in region 1, and its weight
 
@@ -82,16 +89,16 @@ twoValue signed ends map word = valueOf signed ends (twoSecond map) (twoWeight w
 
 -- ---- two values are stored, one 24 behind the other
 
--- a number, with those bits turned over that the mask has of another
+-- of two numbers the bits that the mask lacks, and those that it has
 abbrev pub selected : ℕ → ℕ → ℕ → ℕ
-selected mask a apart = bitXor a (bitAnd mask apart)
+selected mask a c = bitOr (bitAnd a (bitXor mask 0xFFFF)) (bitAnd c mask)
 
--- between ends of a channel's word: of lanes 0 and 2, and of lanes 1 and 3, those that the mask selects
-unfoldable pub shadeIn : Bool → ℕ → ℕ → ℕ → ℕ
+-- between ends of a channel: of 0 and 2, and of 1 and 3, those that the mask selects
+unfoldable pub shadeIn : Bool → List ℤ → ℕ → ℕ → ℕ
 shadeIn signed ends mask w =
-    shadeOf signed (selected mask (lane ends 0) (bitXor (lane ends 0) (lane ends 2))) (selected mask (lane ends 1) (bitXor (lane ends 1) (lane ends 3))) w
+    shadeOf signed (selected mask (heldAt ends 0) (heldAt ends 2)) (selected mask (heldAt ends 1) (heldAt ends 3)) w
 
-abbrev pub pairAt : Bool → Turn → ℕ → ℕ → List ℕ → List ℕ
+abbrev pub pairAt : Bool → Turn → List ℤ → ℕ → List ℕ → List ℕ
 pairAt signed t ends at out = set (set out at (shadeIn signed ends (t .second) (t .w))) (at + 24) (shadeIn signed ends (t .second8) (t .w8))
 
 -- 1 for minus infinity
@@ -99,7 +106,7 @@ abbrev pub counted : ℕ → ℕ
 counted value = pick (eqb value minusInfinity) 1 0
 
 -- .. in signed format, with how many of them are minus infinity
-pub record Pair (t : Turn) (ends at : ℕ) (out : List ℕ) (infinite : ℕ) (after : List ℕ) : Type 0 where
+pub record Pair (t : Turn) (ends : List ℤ) (at : ℕ) (out : List ℕ) (infinite : ℕ) (after : List ℕ) : Type 0 where
   pub holds : after ≡ pairAt true t ends at out
   pub counts : infinite ≡ counted (shadeIn true ends (t .second) (t .w)) + counted (shadeIn true ends (t .second8) (t .w8))
   pub few : infinite ≤ 2
@@ -110,8 +117,3 @@ pub record Pair (t : Turn) (ends at : ℕ) (out : List ℕ) (infinite : ℕ) (af
 pub record PaintedAs (values out : List ℕ) (infinite : ℕ) (after : List ℕ) : Type 0 where
   pub holds : after ≡ values ++ drop 48 out
   pub counts : infinite ≡ countOf minusInfinity values
-
--- the same in either format: of unsigned values none is counted
-pub record PaintedIn (signed : Bool) (values out : List ℕ) (infinite : ℕ) (after : List ℕ) : Type 0 where
-  pub holds : after ≡ values ++ drop 48 out
-  pub counts : infinite ≡ pick signed (countOf minusInfinity values) 0

@@ -3,10 +3,10 @@
 use bc6_half::finish_signed;
 use bc6_half::finish_unsigned;
 use bc6_half::interpolate;
+use bc6_half::kept_16;
 use bc6_half::number_16;
 use bc6_half::weight_3;
 use bc6_half::weight_4;
-use lanes::lane;
 ghost use mathlib.Core.Path.{_≡_};
 ghost use mathlib.Core.Bool.{true, false};
 ghost use Prim.Native.Nat.{_+_, _/_, _%_, _^_, _≤_, _<_};
@@ -15,8 +15,14 @@ ghost use lib.IntN.{pos};
 ghost use lib.ListN.{length, getD};
 ghost use Rattle.laws.specs.Pick.{pick};
 ghost use Rattle.laws.specs.Bit.{bit};
-ghost use Rattle.lanes.specs.Lanes.{lane};
-ghost use Rattle.bc6_paint.specs.Values.{digit, oneSecond, oneWeight, twoSecond, twoWeight, maskOf, TurnOf, pointOf, selected, Paired, pairAt, Pair};
+ghost use Rattle.bc6_paint.specs.Values.{digit, oneSecond, oneWeight, twoSecond, twoWeight, maskOf, TurnOf, pointOf, selected, pairAt, Pair};
+
+// A block's ends, unquantised: of two regions four a channel, of one region the first two.
+pub struct Ends {
+    pub red: [i32; 4],
+    pub green: [i32; 4],
+    pub blue: [i32; 4],
+}
 
 // The first eight of sixteen indices in a word, pixel 0 lowest, and the other eight: of three bits ..
 fn low_24(word: u64) -> u32
@@ -100,74 +106,61 @@ pub fn turn_two(word: u64, map: u16, k: usize) -> Turn
     }
 }
 
-// Of two numbers the one of the pixel's region: a, or a with the bits turned over in which the other lies apart.
-fn select(second: u16, a: u16, apart: u16) -> u16
-    ensures { λ r. ⌜ r ≡ selected second a apart ⌝ }
+// Of two numbers the one of the pixel's region, by its mask. (And, or: an exclusive or of the two would be taken before the loop, out of the
+// vector.)
+fn select(second: u16, a: u16, c: u16) -> u16
+    ensures { λ r. ⌜ r ≡ selected second a c ⌝ }
 {
-    a ^ (second & apart)
+    (a & (second ^ 0xFFFF)) | (c & second)
 }
 
-// The number at weight w: between a and b in region 0, between c and d in region 1. `ac` is a ^ c, `bd` is b ^ d.
-fn point_unsigned(second: u16, a: u16, b: u16, ac: u16, bd: u16, w: u16) -> u16
+// The number at weight w: between a and b in region 0, between c and d in region 1.
+fn point_unsigned(second: u16, a: u16, b: u16, c: u16, d: u16, w: u16) -> u16
     requires { ⌜ w ≤ 64 ⌝ }
-    ensures { λ r. ⌜ pos r ≡ pointOf false (selected second a ac) (selected second b bd) w ⌝ }
+    ensures { λ r. ⌜ pos r ≡ pointOf false (selected second a c) (selected second b d) w ⌝ }
 {
-    interpolate(
-        select(second, a, ac) as i32,
-        select(second, b, bd) as i32,
-        w,
-    ) as u16
+    interpolate(select(second, a, c) as i32, select(second, b, d) as i32, w) as u16
 }
 
-fn point_signed(second: u16, a: u16, b: u16, ac: u16, bd: u16, w: u16) -> i32
+fn point_signed(second: u16, a: u16, b: u16, c: u16, d: u16, w: u16) -> i32
     requires { ⌜ w ≤ 64 ⌝ }
-    ensures { λ r. ⌜ r ≡ pointOf true (selected second a ac) (selected second b bd) w ⌝ }
+    ensures { λ r. ⌜ r ≡ pointOf true (selected second a c) (selected second b d) w ⌝ }
 {
     interpolate(
-        number_16(select(second, a, ac)),
-        number_16(select(second, b, bd)),
+        number_16(select(second, a, c)),
+        number_16(select(second, b, d)),
         w,
     )
 }
 
-// A channel of a turn's pixels, whose values stand at `at` and 24 behind it, by the word of its four endpoints. The signed form takes pixel
-// k + 8 first: in the same order the compiler would choose the ends of both formats before it asks for the format, and keep them on the stack.
-pub fn channel_unsigned(t: Turn, ends: u64, at: usize, out: &mut [u16])
+// A channel of a turn's pixels, whose values stand at `at` and 24 behind it, by its four ends. (They go through 16 bits, so that the compiler
+// takes eight at a time.)
+pub fn channel_unsigned(t: Turn, ends: [i32; 4], at: usize, out: &mut [u16])
     requires { ⌜ (t .w ≤ 64) × (t .w8 ≤ 64) × (at + 24 < length (now out)) ⌝ }
     ensures { λ _. ⌜ now (out .exit) ≡ pairAt false t ends at (now (out .entry)) ⌝ }
 {
-    let a = lane(ends, 0);
-    let b = lane(ends, 1);
-    let apart = ends ^ (ends >> 32);
-    let ac = lane(apart, 0);
-    let bd = lane(apart, 1);
-    let low = finish_unsigned(point_unsigned(t.second, a, b, ac, bd, t.w));
+    let a = kept_16(ends[0]);
+    let b = kept_16(ends[1]);
+    let c = kept_16(ends[2]);
+    let d = kept_16(ends[3]);
+    let low = finish_unsigned(point_unsigned(t.second, a, b, c, d, t.w));
     out[at] = low.pattern;
-    let high = finish_unsigned(point_unsigned(t.second8, a, b, ac, bd, t.w8));
+    let high = finish_unsigned(point_unsigned(t.second8, a, b, c, d, t.w8));
     out[at + 24] = high.pattern;
 }
 
 // .. and how many of the two are minus infinity.
-pub fn channel_signed(t: Turn, ends: u64, at: usize, out: &mut [u16]) -> u16
+pub fn channel_signed(t: Turn, ends: [i32; 4], at: usize, out: &mut [u16]) -> u16
     requires { ⌜ (t .w ≤ 64) × (t .w8 ≤ 64) × (at + 24 < length (now out)) ⌝ }
     ensures { λ r. ⌜ Pair t ends at (now (out .entry)) r (now (out .exit)) ⌝ }
 {
-    let a = lane(ends, 0);
-    let b = lane(ends, 1);
-    let apart = ends ^ (ends >> 32);
-    let ac = lane(apart, 0);
-    let bd = lane(apart, 1);
-    let high = finish_signed(point_signed(t.second8, a, b, ac, bd, t.w8));
+    let a = kept_16(ends[0]);
+    let b = kept_16(ends[1]);
+    let c = kept_16(ends[2]);
+    let d = kept_16(ends[3]);
+    let high = finish_signed(point_signed(t.second8, a, b, c, d, t.w8));
     out[at + 24] = high.pattern;
-    let low = finish_signed(point_signed(t.second, a, b, ac, bd, t.w));
+    let low = finish_signed(point_signed(t.second, a, b, c, d, t.w));
     out[at] = low.pattern;
     low.counted() + high.counted()
-}
-
-// Lane k of two words, as lanes 0 and 1 of one: the word of a channel, where each of the two has an endpoint's channels.
-pub fn pair(first: u64, second: u64, k: u64) -> u64
-    requires { ⌜ k < 4 ⌝ }
-    ensures { λ r. ⌜ Paired first second k r ⌝ }
-{
-    (lane(first, k) as u64) + 0x1_0000 * (lane(second, k) as u64)
 }

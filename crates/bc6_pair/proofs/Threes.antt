@@ -2,19 +2,22 @@
 use mathlib.Core.Path.{_≡_, _∙_, refl, sym, ap, ap₂, subst}
 use mathlib.Core.List.{List, [], _∷_}
 use Prim.Native.Nat.{ℕ, zero, suc, _+_, _-_, _*_, _/_, _%_, _^_, _<_, _≤_}
-use native.Mathlib.Nat.{add-comm, add-zero, zero-mul, div-one, mul-one, one-mul, mul-assoc, mod-lt, mod-eq-of-lt, lt-of-lt-of-le, lt-of-le-of-lt, le-of-suc-le-suc, mul-le-mul-right}
+use native.Mathlib.Nat.{add-comm, add-zero, zero-add, zero-mul, div-one, mul-one, one-mul, mul-assoc, mod-lt, mod-eq-of-lt, lt-of-lt-of-le, lt-of-le-of-lt, le-of-suc-le-suc, mul-le-mul-right}
 use native.Mathlib.Omega.{arith}
 use lib.Bits.{bitAnd, and-mask, and-high, and-le-r, and-zero-r}
 use lib.Dec.{lit<, lit≤}
+use lib.IntN.{ℤ, pos}
 use lib.Pow.{pow-pos, pow-mono, pow-add, shl-lt, shr-shr, field, mod-mod-pow, high-ones}
-use Rattle.lanes.specs.Lanes.{lane, fourOf}
-use Rattle.lanes.proofs.Laws.{sums, products, whole, fourth, lane-of-four, four-fits, each-lane, and-lane}
+use Rattle.bc6_pair.proofs.Lanes.{sums, products, whole, fourth, lane-of-four, four-fits, each-lane, and-lane}
 use Rattle.bc6h_spec.specs.Layout.{row, rows, row11, row12, row13, row14, precision}
-use Rattle.bc6h_spec.specs.Fields.{gathered}
-use Rattle.bc6_pair.specs.declared.Pair.{Pair}
+use Rattle.bc6h_spec.specs.Fields.{gathered, fieldsAt}
+use Rattle.bc6h_spec.proofs.Reading.{at-endpoint, read-valid}
+use borrow.Author.Tests.{lt-leb}
+use Rattle.bc6_runs.specs.declared.Channels.{Channels}
+use Rattle.bc6_runs.specs.Ends.{fourOf as numbersOf, placesOf}
 use Rattle.bcn_util.specs.Runs.{Run, sum}
-use Rattle.bc6_pair.specs.Threes.{threeOf, ten, turnedBit, extraBits}
-use Rattle.bc6_pair.specs.Ends.{PairRead, PairBy}
+use Rattle.bc6_pair.specs.Threes.{lane, fourOf, threeOf, ten, turnedBit, extraBits}
+use Rattle.bc6_pair.specs.Ends.{twoOf, PairBy}
 use Rattle.bcn_util.proofs.Runs.{runs, run-law}
 
 -- ---- three numbers in one word
@@ -41,7 +44,7 @@ module _ (f : ℕ → ℕ) (small : (c : ℕ) → c < 3 → f c < 65536) where
   pub three-lane : (c : ℕ) → c < 3 → lane (threeOf f) c ≡ f c
   three-lane = each-three (λ c. lane (threeOf f) c ≡ f c) (lanes 0 (lit< tt)) (lanes 1 (lit< tt)) (lanes 2 (lit< tt))
 
-  pub three-top : lane (threeOf f) 3 ≡ 0
+  three-top : lane (threeOf f) 3 ≡ 0
   three-top = lanes 3 (lit< tt)
 
   pub three-fits : threeOf f < 2 ^ 64
@@ -241,33 +244,51 @@ module _ (n f extra : ℕ) (is : f ≡ threeOf (ten (n / 2 ^ 35))) (most : extra
   second-lt : (c : ℕ) → lane f c % 2 ^ (10 - extra) < 65536
   second-lt c = lt-of-lt-of-le (mod-lt (lane f c) (pow-pos (10 - extra))) (pow-mono {i = 10 - extra} {j = 16} (omega arith))
 
-  module _ (r : Pair) (ef : r .first ≡ threeOf (λ c. ten (n / 2 ^ 5) c + extraBits f extra c)) (es : r .second ≡ threeOf (λ c. lane f c % 2 ^ (10 - extra))) where
-    in-mode : (mode : ℕ) → precision mode - 10 ≡ extra → Rows mode → PairRead mode n r
-    in-mode mode e rows =
-        let sums : (l : List Run) (p : ℕ) → runs (row mode) 0 p ≡ l → sum n l ≡ gathered (row mode) n p = λ l p el. sym (ap (sum n) el) ∙ run-law (row mode) n p in
-        record {
-          first =
-              λ c h.
-              ap (λ (x : ℕ). lane x c) ef
-              ∙ three-lane _ (with-ten f (n / 2 ^ 5) extra most) c h
-              ∙ first-is c h
-              ∙ sums (firstRuns extra c) c (rows .first c h ∙ ap (λ (x : ℕ). firstRuns x c) e);
-          second =
-              λ c h.
-              ap (λ (x : ℕ). lane x c) es
-              ∙ three-lane _ (λ c h. second-lt c) c h
-              ∙ second-is c h
-              ∙ sums (secondRuns extra c) (3 + c) (rows .second c h ∙ ap (λ (x : ℕ). secondRuns x c) e);
-          first-top = ap (λ (x : ℕ). lane x 3) ef ∙ three-top _ (with-ten f (n / 2 ^ 5) extra most);
-          second-top = ap (λ (x : ℕ). lane x 3) es ∙ three-top _ (λ c h. second-lt c);
-        }
+  module _ (first second : ℕ) (ef : first ≡ threeOf (λ c. ten (n / 2 ^ 5) c + extraBits f extra c)) (es : second ≡ threeOf (λ c. lane f c % 2 ^ (10 - extra))) where
+    module _ (mode : ℕ) (low : 11 ≤ mode) (high : mode ≤ 14) (e : precision mode - 10 ≡ extra) (rows : Rows mode) where
+      by-runs : (l : List Run) (p : ℕ) → runs (row mode) 0 p ≡ l → sum n l ≡ gathered (row mode) n p
+      by-runs l p el = sym (ap (sum n) el) ∙ run-law (row mode) n p
 
-    pub pair-read : PairBy extra n r
-    pair-read =
+      first-read : (c : ℕ) → c < 3 → lane first c ≡ placesOf mode n c 0
+      first-read c h =
+          ap (λ (x : ℕ). lane x c) ef
+          ∙ three-lane _ (with-ten f (n / 2 ^ 5) extra most) c h
+          ∙ first-is c h
+          ∙ by-runs (firstRuns extra c) c (rows .first c h ∙ ap (λ (x : ℕ). firstRuns x c) e)
+          ∙ ap (gathered (row mode) n) (sym (zero-add c))
+
+      second-read : (c : ℕ) → c < 3 → lane second c ≡ placesOf mode n c 1
+      second-read c h =
+          ap (λ (x : ℕ). lane x c) es
+          ∙ three-lane _ (λ c h. second-lt c) c h
+          ∙ second-is c h
+          ∙ by-runs (secondRuns extra c) (3 + c) (rows .second c h ∙ ap (λ (x : ℕ). secondRuns x c) e)
+
+      -- no place of the other two endpoints is in the row
+      none-read : (c d : ℕ) → 2 ≤ d → d < 4 → c < 3 → 0 ≡ placesOf mode n c d
+      unfolding fieldsAt
+      none-read c d l h k =
+          sym (read-valid 0 mode n (omega arith) high (lit≤ tt) .endpoint-zero (lt-leb mode 10 low) d c l h k)
+          ∙ at-endpoint 0 mode n (omega arith) high (3 * d + c) (omega arith)
+
+      channel-read : (c : ℕ) → c < 3 → {r : List ℤ} → r ≡ twoOf (lane first c) (lane second c) → r ≡ numbersOf (placesOf mode n c)
+      channel-read c h is =
+          is
+          ∙ (λ i.
+          pos (first-read c h i) ∷ pos (second-read c h i) ∷ pos (none-read c 2 (lit≤ tt) (lit< tt) h i) ∷ pos (none-read c 3 (lit≤ tt) (lit< tt) h i) ∷ [])
+
+    pub pair-read : {r : Channels} → r .red ≡ twoOf (lane first 0) (lane second 0) → r .green ≡ twoOf (lane first 1) (lane second 1)
+        → r .blue ≡ twoOf (lane first 2) (lane second 2) → PairBy extra n r
+    pair-read er eg eb =
         record {
           of =
               λ mode low high p.
               let back : mode - 11 + 11 ≡ mode = omega arith in
               let e : precision mode - 10 ≡ extra = omega arith in
-              in-mode mode e (subst Rows back (all (mode - 11) (omega arith)));
+              let rows = subst Rows back (all (mode - 11) (omega arith)) in
+              record {
+                red = channel-read mode low high e rows 0 (lit< tt) er;
+                green = channel-read mode low high e rows 1 (lit< tt) eg;
+                blue = channel-read mode low high e rows 2 (lit< tt) eb;
+              };
         }

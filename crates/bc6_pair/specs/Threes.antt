@@ -1,6 +1,13 @@
 -- Red, green and blue in one word, a lane each: what the modes of one region read. Assumes nothing.
 use Prim.Native.Nat.{ℕ, zero, suc, _+_, _-_, _*_, _/_, _%_, _^_}
-use Rattle.lanes.specs.Lanes.{lane, fourOf}
+
+-- number e of four in a word, of sixteen bits each: lane 0 is the lowest
+abbrev pub lane : ℕ → ℕ → ℕ
+lane word e = word / 2 ^ (16 * e) % 2 ^ 16
+
+-- four numbers in one word
+abbrev pub fourOf : ℕ → ℕ → ℕ → ℕ → ℕ
+fourOf w x y z = w + 0x10000 * x + 0x100000000 * y + 0x1000000000000 * z
 
 -- three numbers, and nothing in the last lane
 abbrev pub threeOf : (ℕ → ℕ) → ℕ

@@ -1,16 +1,11 @@
-// The endpoints w and x of a block of one region, as they are stored, in lanes of sixteen bits: three fields of ten bits an endpoint, of which the second
-// leaves its highest to the first.
+// The endpoints w and x of a block of one region, as they are stored: three fields of ten bits an endpoint, of which the second leaves its highest to
+// the first. They are read in lanes of sixteen bits, and handed on as the first two of four numbers a channel.
+use bc6_runs::Channels;
 ghost use mathlib.Core.Path.{_≡_};
-ghost use Prim.Native.Nat.{_/_, _^_, _≤_};
+ghost use Prim.Native.Nat.{_/_, _^_, _≤_, _<_};
 ghost use Rattle.bcn_util.specs.Stream.{number};
-ghost use Rattle.bc6_pair.specs.Threes.{threeOf, ten, turnedBit, extraBits};
-ghost use Rattle.bc6_pair.specs.Ends.{PairBy};
-
-// A word an endpoint, red in lane 0 and nothing in the last.
-pub struct Pair {
-    pub first: u64,
-    pub second: u64,
-}
+ghost use Rattle.bc6_pair.specs.Threes.{lane, threeOf, ten, turnedBit, extraBits};
+ghost use Rattle.bc6_pair.specs.Ends.{twoOf, PairBy};
 
 // A one in each of three lanes.
 const THREE: u64 = 0x1_0001_0001;
@@ -55,14 +50,32 @@ fn extra_bits(f: u64, extra: u64) -> u64
     above
 }
 
+// Lane e of a word.
+fn lane(word: u64, e: u64) -> u16
+    requires { ⌜ e < 4 ⌝ }
+    ensures { λ r. ⌜ r ≡ lane word e ⌝ }
+{
+    ((word >> (16 * e)) % 0x1_0000) as u16
+}
+
+// A channel of two endpoints, out of lane k of their words.
+fn pair(first: u64, second: u64, k: u64) -> [i32; 4]
+    requires { ⌜ k < 4 ⌝ }
+    ensures { λ r. ⌜ r ≡ twoOf (lane first k) (lane second k) ⌝ }
+{
+    [lane(first, k) as i32, lane(second, k) as i32, 0, 0]
+}
+
 // The endpoints w and x of the mode that has `extra` bits above the tenth: 0 in M10_10, 1 in M11_9, 2 in M12_8, 6 in M16_4.
-pub fn read_pair(lo: u64, hi: u64, extra: u64) -> Pair
+pub fn read_pair(lo: u64, hi: u64, extra: u64) -> Channels
     requires { ⌜ extra ≤ 6 ⌝ }
     ensures { λ r. ⌜ PairBy extra (number (record { lo = lo; hi = hi })) r ⌝ }
 {
     let f = seconds(lo, hi);
-    Pair {
-        first: firsts(lo) + extra_bits(f, extra),
-        second: f & ((THREE << (10 - extra)) - THREE),
-    }
+    let first = firsts(lo) + extra_bits(f, extra);
+    let second = f & ((THREE << (10 - extra)) - THREE);
+    let red = pair(first, second, 0);
+    let green = pair(first, second, 1);
+    let blue = pair(first, second, 2);
+    Channels { red, green, blue }
 }

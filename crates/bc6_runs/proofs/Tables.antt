@@ -1,24 +1,29 @@
--- Tables of runs: what can be read of them, and the words of a mode's channels. Assumes nothing.
-use mathlib.Core.Path.{_≡_, _∙_, sym, ap, ap₂}
+-- Tables of runs: what can be read of them, and the numbers of a mode's channels. Assumes nothing.
+use mathlib.Core.Path.{_≡_, _∙_, refl, sym, ap, ap₂, subst}
+use mathlib.Core.Bool.{Bool, true, false}
 use mathlib.Core.List.{List, [], _∷_, _++_}
-use Prim.Native.Nat.{ℕ, zero, suc, _+_, _-_, _*_, _/_, _%_, _^_, _<_, _≤_}
-use native.Mathlib.Nat.{add-zero, zero-add, zero-mul, add-assoc, add-mul, mul-assoc, mod-lt, lt-of-lt-of-le, lt-of-le-of-lt, le-of-suc-le-suc, not-suc-le-zero, add-le-add, mul-le-mul-right, le-refl}
+use Prim.Native.Nat.{ℕ, zero, suc, zero-le, _+_, _-_, _*_, _/_, _%_, _^_, _<_, _≤_}
+use native.Mathlib.Nat.{add-zero, zero-add, add-assoc, mod-lt, lt-of-le-of-lt, le-of-suc-le-suc, not-suc-le-zero, add-le-add, mul-le-mul-right, le-refl, le-trans}
 use native.Mathlib.Omega.{arith}
-use lib.Dec.{T, leb, ltb, leb→le, ltb→lt, lit<}
-use lib.ListN.{length, getD, drop}
-use lib.Pow.{pow-pos, pow-mono, pow-add, shl-exact, le-ones}
-use lib.Seq.{drop-cons}
-use Rattle.laws.specs.Every.{every}
-use Rattle.laws.proofs.Tests.{both-left, both-right}
-use Rattle.lanes.specs.Lanes.{lane, fourOf}
-use Rattle.lanes.proofs.Laws.{made-lanes}
+use native.Mathlib.Numerals.{add-one}
+use lib.Dec.{T, eqb, leb, ltb, leb→le, ltb→lt, lit<}
+use lib.IntN.{ℤ, pos, _+ℤ_}
+use lib.ListN.{length, getD, set, take}
+use lib.Pow.{pow-pos, shl-exact, le-ones}
+use lib.Seq.{take-suc}
+use mir.Syntax.{w32}
+use mir.Val.{SFits, toZ, ofZ}
+use mir.ValLaws.{toZ-ofZ}
+use borrow.Author.Tests.{eq-eqb}
+use Rattle.laws.specs.Pick.{pick}
+use Rattle.laws.specs.Every.{every, below}
+use Rattle.laws.proofs.Num.{widened}
+use Rattle.laws.proofs.Tests.{both-left, both-right, below-at}
 use Rattle.bc6h_spec.specs.Layout.{row}
 use Rattle.bc6h_spec.specs.Fields.{gathered}
-use Rattle.bc6h_spec.proofs.Once.{row-once}
-use Rattle.bc6h_spec.proofs.Gather.{in-width}
 use Rattle.bc6_runs.specs.declared.Channels.{Channels}
-use Rattle.bcn_util.specs.Runs.{Run, part, sum, runOf, runsOf, readable, most, fits}
-use Rattle.bc6_runs.specs.Ends.{ChannelsRead}
+use Rattle.bcn_util.specs.Runs.{Run, part, sum, readable, most}
+use Rattle.bc6_runs.specs.Ends.{runIn, endOf, runsOf, sumAt, fits, fourOf, placesOf, ChannelsRead}
 use Rattle.bcn_util.proofs.Runs.{runs, run-law}
 
 -- ---- one run
@@ -60,85 +65,127 @@ sum-most : (n : ℕ) (rs : List Run) → sum n rs ≤ most rs
 sum-most n [] = le-refl 0
 sum-most n (r ∷ rs) = add-le-add (part-most n r) (sum-most n rs)
 
-every-at : (codes : List ℕ) (k : ℕ) → T (every readable (runsOf codes)) → k < length codes → T (readable (runOf (getD codes k 0)))
+every-at : (codes : List ℕ) (k : ℕ) → T (every (λ c. readable (runIn c)) codes) → k < length codes → T (readable (runIn (getD codes k 0)))
 every-at [] k t h = absurd (not-suc-le-zero h)
-every-at (c ∷ cs) zero t h = both-left (readable (runOf c)) _ t
-every-at (c ∷ cs) (suc k) t h = every-at cs k (both-right (readable (runOf c)) _ t) (le-of-suc-le-suc h)
+every-at (c ∷ cs) zero t h = both-left (readable (runIn c)) _ t
+every-at (c ∷ cs) (suc k) t h = every-at cs k (both-right (readable (runIn c)) _ t) (le-of-suc-le-suc h)
 
-module _ (n : ℕ) (codes : List ℕ) (t : T (fits (runsOf codes))) where
-  pub can-read-at : (k : ℕ) → k < length codes → T (readable (runOf (getD codes k 0)))
-  can-read-at k h = every-at codes k (both-left (every readable (runsOf codes)) _ t) h
+-- a run that may be one of endpoint e's, before others
+by-test : (n : ℕ) (b : Bool) (r : Run) (rs : List Run) → sum n (pick b (r ∷ rs) rs) ≡ pick b (part n r) 0 + sum n rs
+by-test n true r rs = refl
+by-test n false r rs = sym (zero-add (sum n rs))
 
-  pub in-a-word : sum n (runsOf codes) < 2 ^ 64
-  in-a-word = lt-of-le-of-lt (sum-most n (runsOf codes)) (ltb→lt _ _ (both-right (every readable (runsOf codes)) _ t))
+-- .. and behind them
+sum-last : (n e : ℕ) (cs : List ℕ) (c : ℕ) → sumAt n (cs ++ (c ∷ [])) e ≡ sumAt n cs e + pick (eqb (endOf c) e) (part n (runIn c)) 0
+sum-last n e [] c = by-test n (eqb (endOf c) e) (runIn c) [] ∙ add-zero _ ∙ sym (zero-add _)
+sum-last n e (x ∷ cs) c =
+    let p = pick (eqb (endOf x) e) (part n (runIn x)) 0 in
+    let q = pick (eqb (endOf c) e) (part n (runIn c)) 0 in
+    by-test n (eqb (endOf x) e) (runIn x) (runsOf e (cs ++ (c ∷ [])))
+    ∙ ap (λ (y : ℕ). p + y) (sum-last n e cs c)
+    ∙ sym (add-assoc p (sumAt n cs e) q)
+    ∙ ap (λ (y : ℕ). y + q) (sym (by-test n (eqb (endOf x) e) (runIn x) (runsOf e cs)))
 
-  -- what is summed up, with the runs that are left, is all of them
-  pub one-more : (k sofar : ℕ) {p : ℕ} → k < length codes → p ≡ part n (runOf (getD codes k 0))
-      → sofar + sum n (runsOf (drop k codes)) ≡ sum n (runsOf codes) → sofar + p + sum n (runsOf (drop (suc k) codes)) ≡ sum n (runsOf codes)
-  one-more k sofar {p} h e s =
-      add-assoc sofar p (sum n (runsOf (drop (suc k) codes)))
-      ∙ ap (λ (x : ℕ). sofar + (x + sum n (runsOf (drop (suc k) codes)))) e
-      ∙ sym (ap (λ (l : List ℕ). sofar + sum n (runsOf l)) (drop-cons codes k 0 h))
-      ∙ s
+-- the first of them make no more than all
+front-le : (n e : ℕ) (cs : List ℕ) (k : ℕ) → sumAt n (take k cs) e ≤ sumAt n cs e
+front-le n e cs zero = zero-le
+front-le n e [] (suc k) = zero-le
+front-le n e (c ∷ cs) (suc k) =
+    let p = pick (eqb (endOf c) e) (part n (runIn c)) 0 in
+    let low : sumAt n (take (suc k) (c ∷ cs)) e ≡ p + sumAt n (take k cs) e = by-test n (eqb (endOf c) e) (runIn c) (runsOf e (take k cs)) in
+    let high : sumAt n (c ∷ cs) e ≡ p + sumAt n cs e = by-test n (eqb (endOf c) e) (runIn c) (runsOf e cs) in
+    omega (arith, low, high, front-le n e cs k)
 
--- ---- the runs of a channel's word
+module _ (n : ℕ) (codes : List ℕ) (t : T (fits codes)) where
+  pub can-read-at : (k : ℕ) → k < length codes → T (readable (runIn (getD codes k 0)))
+  can-read-at k h = every-at codes k (both-left (every (λ c. readable (runIn c)) codes) _ t) h
 
--- the same runs, k bits higher
-abbrev raised : ℕ → List Run → List Run
-raised k [] = []
-raised k (r ∷ rs) = record { at = r .at; size = r .size; shift = r .shift + k } ∷ raised k rs
+  pub front-lt : (k e : ℕ) → e < 4 → sumAt n (take k codes) e < 65536
+  front-lt k e h =
+      lt-of-le-of-lt (le-trans (front-le n e codes k) (sum-most n (runsOf e codes)))
+      (ltb→lt _ _ (below-at (λ e. ltb (most (runsOf e codes)) (2 ^ 16)) 4 e (both-right (every (λ c. readable (runIn c)) codes) _ t) h))
 
-raised-sum : (n k : ℕ) (rs : List Run) → sum n (raised k rs) ≡ sum n rs * 2 ^ k
-raised-sum n k [] = sym (zero-mul (2 ^ k))
-raised-sum n k (r ∷ rs) =
-    let x = n / 2 ^ r .at % 2 ^ r .size in
-    ap₂ (λ (a b : ℕ). a + b) (ap (λ (y : ℕ). x * y) (pow-add 2 (r .shift) k) ∙ sym (mul-assoc x (2 ^ r .shift) (2 ^ k))) (raised-sum n k rs)
-    ∙ sym (add-mul (part n r) (sum n rs) (2 ^ k))
+  -- a turn adds a run to its endpoint's number
+  pub one-more : (k e : ℕ) → k < length codes → sumAt n (take (suc k) codes) e ≡ sumAt n (take k codes) e + pick (eqb (endOf (getD codes k 0)) e) (part n (runIn (getD codes k 0))) 0
+  one-more k e h = ap (λ (l : List ℕ). sumAt n l e) (take-suc codes k 0 h) ∙ sum-last n e (take k codes) (getD codes k 0)
 
-joined-sum : (n : ℕ) (rs ss : List Run) → sum n (rs ++ ss) ≡ sum n rs + sum n ss
-joined-sum n [] ss = sym (zero-add (sum n ss))
-joined-sum n (r ∷ rs) ss = ap (λ (x : ℕ). part n r + x) (joined-sum n rs ss) ∙ sym (add-assoc (part n r) (sum n rs) (sum n ss))
+-- ---- four numbers
 
--- channel c of the four endpoints, a lane each
-abbrev pub wordRuns : List ℕ → ℕ → List Run
-wordRuns l c =
-    runs l 0 (3 * 0 + c) ++ (raised 16 (runs l 0 (3 * 1 + c)) ++ (raised 32 (runs l 0 (3 * 2 + c)) ++ raised 48 (runs l 0 (3 * 3 + c))))
+pub four-at : (f : ℕ → ℕ) (e : ℕ) → e < 4 → getD (fourOf f) e (pos 0) ≡ pos (f e)
+four-at f zero h = refl
+four-at f (suc zero) h = refl
+four-at f (suc (suc zero)) h = refl
+four-at f (suc (suc (suc zero))) h = refl
+four-at f (suc (suc (suc (suc e)))) h = absurd (omega arith)
 
-module _ (l : List ℕ) (n c : ℕ) where
-  abbrev end : ℕ → List Run
-  end e = runs l 0 (3 * e + c)
+pub four-same : (f g : ℕ → ℕ) → f 0 ≡ g 0 → f 1 ≡ g 1 → f 2 ≡ g 2 → f 3 ≡ g 3 → fourOf f ≡ fourOf g
+four-same f g a b c d = λ i. pos (a i) ∷ pos (b i) ∷ pos (c i) ∷ pos (d i) ∷ []
 
-  abbrev value : ℕ → ℕ
-  value e = gathered l n (3 * e + c)
+-- one of them is stored
+module _ (f g : ℕ → ℕ) (p : ℕ) where
+  stay : (e j : ℕ) → eqb e j ≡ false → g j ≡ f j + pick (eqb e j) p 0 → pos (f j) ≡ pos (g j)
+  stay e j ne s = ap pos (sym (s ∙ ap (λ (b : Bool). f j + pick b p 0) ne ∙ add-zero (f j)))
 
-  up : (k e : ℕ) → sum n (raised k (end e)) ≡ value e * 2 ^ k
-  up k e = raised-sum n k (end e) ∙ ap (λ (x : ℕ). x * 2 ^ k) (run-law l n (3 * e + c))
+  pub four-store : (e : ℕ) (z : ℤ) → e < 4 → ((j : ℕ) → g j ≡ f j + pick (eqb e j) p 0) → z ≡ pos (f e + p) → set (fourOf f) e z ≡ fourOf g
+  four-store zero z h s ez = λ i. (ez ∙ ap pos (sym (s 0))) i ∷ stay 0 1 refl (s 1) i ∷ stay 0 2 refl (s 2) i ∷ stay 0 3 refl (s 3) i ∷ []
+  four-store (suc zero) z h s ez = λ i. stay 1 0 refl (s 0) i ∷ (ez ∙ ap pos (sym (s 1))) i ∷ stay 1 2 refl (s 2) i ∷ stay 1 3 refl (s 3) i ∷ []
+  four-store (suc (suc zero)) z h s ez = λ i. stay 2 0 refl (s 0) i ∷ stay 2 1 refl (s 1) i ∷ (ez ∙ ap pos (sym (s 2))) i ∷ stay 2 3 refl (s 3) i ∷ []
+  four-store (suc (suc (suc zero))) z h s ez = λ i. stay 3 0 refl (s 0) i ∷ stay 3 1 refl (s 1) i ∷ stay 3 2 refl (s 2) i ∷ (ez ∙ ap pos (sym (s 3))) i ∷ []
+  four-store (suc (suc (suc (suc e)))) z h s ez = absurd (omega arith)
 
-  word-law : sum n (wordRuns l c) ≡ fourOf (value 0) (value 1) (value 2) (value 3)
-  word-law =
-      let a = joined-sum n (end 0) (raised 16 (end 1) ++ (raised 32 (end 2) ++ raised 48 (end 3))) in
-      let b = joined-sum n (raised 16 (end 1)) (raised 32 (end 2) ++ raised 48 (end 3)) in
-      let d = joined-sum n (raised 32 (end 2)) (raised 48 (end 3)) in
-      let w : sum n (end 0) ≡ value 0 = run-law l n (3 * 0 + c) in
-      let x : sum n (raised 16 (end 1)) ≡ value 1 * 65536 = up 16 1 in
-      let y : sum n (raised 32 (end 2)) ≡ value 2 * 4294967296 = up 32 2 in
-      let z : sum n (raised 48 (end 3)) ≡ value 3 * 281474976710656 = up 48 3 in
-      omega arith
+-- ---- a turn: a run is added to its endpoint's number on i32
+
+module _ (n : ℕ) (codes : List ℕ) (t : T (fits codes)) (k : ℕ) (h : k < length codes) (numbers : List ℤ) (so-far : numbers ≡ fourOf (sumAt n (take k codes)))
+    (r : ℕ) (told : r ≡ part n (runIn (getD codes k 0))) where
+  abbrev e : ℕ
+  e = endOf (getD codes k 0)
+
+  in-four : e < 4
+  in-four = mod-lt _ (lit< tt)
+
+  before : getD numbers e (pos 0) ≡ pos (sumAt n (take k codes) e)
+  before = ap (λ (l : List ℤ). getD l e (pos 0)) so-far ∙ four-at (sumAt n (take k codes)) e in-four
+
+  -- both together have sixteen bits
+  total : sumAt n (take k codes) e + r < 65536
+  total =
+      let next : sumAt n (take (suc k) codes) e ≡ sumAt n (take k codes) e + part n (runIn (getD codes k 0)) =
+      one-more n codes t k e h ∙ ap (λ (b : Bool). sumAt n (take k codes) e + pick b (part n (runIn (getD codes k 0))) 0) (eq-eqb e e refl) in
+      omega (arith, next, told, front-lt n codes t (suc k) e in-four)
+
+  pub run-fits : SFits w32 (pos r)
+  run-fits = record { sfits = omega (arith, total) }
+
+  sum-is : toZ w32 (ofZ w32 (getD numbers e (pos 0))) +ℤ toZ w32 r ≡ pos (sumAt n (take k codes) e + r)
+  sum-is =
+      let old : toZ w32 (ofZ w32 (getD numbers e (pos 0))) ≡ pos (sumAt n (take k codes) e) =
+      ap (λ (z : ℤ). toZ w32 (ofZ w32 z)) before ∙ widened (let l : sumAt n (take k codes) e < 65536 = omega (arith, total) in l) in
+      λ i. old i +ℤ widened {f = r} (let l : r < 65536 = omega (arith, total) in l) i
+
+  pub sum-fits : SFits w32 (toZ w32 (ofZ w32 (getD numbers e (pos 0))) +ℤ toZ w32 r)
+  sum-fits = subst (SFits w32) (sym sum-is) (record { sfits = omega (arith, total) })
+
+  pub stored : set numbers e (toZ w32 (ofZ w32 (toZ w32 (ofZ w32 (getD numbers e (pos 0))) +ℤ toZ w32 r))) ≡ fourOf (sumAt n (take (k + 1) codes))
+  stored =
+      let z = toZ w32 (ofZ w32 (toZ w32 (ofZ w32 (getD numbers e (pos 0))) +ℤ toZ w32 r)) in
+      ap (λ (l : List ℤ). set l e z) so-far
+      ∙ four-store (sumAt n (take k codes)) (sumAt n (take (suc k) codes)) (part n (runIn (getD codes k 0))) e z in-four (λ j. one-more n codes t k j h)
+      (toZ-ofZ w32 _ sum-fits ∙ sum-is ∙ ap (λ (x : ℕ). pos (sumAt n (take k codes) e + x)) told)
+      ∙ ap (λ (j : ℕ). fourOf (sumAt n (take j codes))) (sym (add-one k))
 
 -- ---- the endpoints of a mode: a table that the compiler sees is, by computing, the runs of its row
 
--- a number at a place has sixteen bits
-pub small : (mode n p : ℕ) → 1 ≤ mode → mode ≤ 14 → p < 14 → gathered (row mode) n p < 65536
-small mode n p low high h =
-    lt-of-lt-of-le (in-width mode n p low high h) (pow-mono (le-of-suc-le-suc (row-once mode low high .narrow p h)))
+-- the numbers of channel c, by the runs of its places
+abbrev pub rowSums : List ℕ → ℕ → ℕ → ℕ → ℕ
+rowSums l n c e = sum n (runs l 0 (3 * e + c))
 
-module _ (mode n : ℕ) (low : 1 ≤ mode) (high : mode ≤ 14) where
-  lanes-read : (c : ℕ) {r : ℕ} → c < 3 → r ≡ sum n (wordRuns (row mode) c) → (e : ℕ) → e < 4 → lane r e ≡ gathered (row mode) n (3 * e + c)
-  lanes-read c {r} h is =
-      made-lanes r (λ e. gathered (row mode) n (3 * e + c)) (is ∙ word-law (row mode) n c)
-      (λ e k. small mode n (3 * e + c) low high (omega arith))
+module _ (mode n : ℕ) where
+  row-read : (c : ℕ) {r : List ℤ} → r ≡ fourOf (rowSums (row mode) n c) → r ≡ fourOf (placesOf mode n c)
+  row-read c is =
+      is
+      ∙ four-same (rowSums (row mode) n c) (placesOf mode n c) (run-law (row mode) n (3 * 0 + c)) (run-law (row mode) n (3 * 1 + c)) (run-law (row mode) n (3 * 2 + c))
+      (run-law (row mode) n (3 * 3 + c))
 
-  pub channels-read : {r : Channels} → r .red ≡ sum n (wordRuns (row mode) 0) → r .green ≡ sum n (wordRuns (row mode) 1)
-      → r .blue ≡ sum n (wordRuns (row mode) 2) → ChannelsRead mode n r
-  channels-read er eg eb =
-      record { red = λ e h. lanes-read 0 (lit< tt) er e h ∙ ap (gathered (row mode) n) (add-zero (3 * e)); green = lanes-read 1 (lit< tt) eg; blue = lanes-read 2 (lit< tt) eb }
+  pub channels-read : {r : Channels} → r .red ≡ fourOf (rowSums (row mode) n 0) → r .green ≡ fourOf (rowSums (row mode) n 1)
+      → r .blue ≡ fourOf (rowSums (row mode) n 2) → ChannelsRead mode n r
+  channels-read er eg eb = record { red = row-read 0 er; green = row-read 1 eg; blue = row-read 2 eb }

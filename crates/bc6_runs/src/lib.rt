@@ -1,36 +1,39 @@
 // The endpoints of a block of two regions, as they are stored: what decoding reads. The places are red, green and blue of the endpoints w, x,
-// y and z, in lanes of sixteen bits. The mode is read elsewhere.
+// y and z, four numbers a channel. The mode is read elsewhere.
 use bcn_util::BitStream;
 ghost use mathlib.Core.Path.{_≡_};
 ghost use Prim.Native.Nat.{_+_, _*_, _/_, _%_, _^_, _≤_};
 ghost use lib.Dec.{T};
 ghost use Rattle.bcn_util.specs.Stream.{number};
-ghost use Rattle.bcn_util.specs.Runs.{part, sum, runOf, runsOf, readable, fits};
-ghost use Rattle.bc6_runs.specs.Ends.{ChannelsRead};
+ghost use Rattle.bcn_util.specs.Runs.{part, readable};
+ghost use Rattle.bc6_runs.specs.Ends.{fourOf, runIn, sumAt, fits, ChannelsRead};
 
-// A run of bits, by a code of two hexadecimal digits each: from which bit on, how many, and as which bit of the word the lowest is read.
+// A run of bits, by a code: two hexadecimal digits from which bit on, two how many, one of which endpoint, and one as which of its bits the
+// lowest is read.
 fn run(stream: BitStream, code: u32) -> u64
-    requires { ⌜ T (readable (runOf code)) ⌝ }
-    ensures { λ r. ⌜ r ≡ part (number stream) (runOf code) ⌝ }
+    requires { ⌜ T (readable (runIn code)) ⌝ }
+    ensures { λ r. ⌜ r ≡ part (number stream) (runIn code) ⌝ }
 {
     let at = (code / 0x1_0000) as u64;
     let size = ((code / 0x100) % 0x100) as u64;
-    let shift = (code % 0x100) as u64;
+    let shift = (code % 0x10) as u64;
     let rest = stream.skip(at);
     let read = rest.consume_bits(size);
     read.bits << shift
 }
 
-// The runs of a table. (A caller's table is literal: the compiler writes the runs out one after the other.)
-fn word(stream: BitStream, runs: &[u32]) -> u64
-    requires { ⌜ T (fits (runsOf (now runs))) ⌝ }
-    ensures { λ r. ⌜ r ≡ sum (number stream) (runsOf (now (runs .entry))) ⌝ }
+// The runs of a table, each added to its endpoint's number. (A caller's table is literal: the compiler writes the runs out one after the other.)
+fn word(stream: BitStream, runs: &[u32]) -> [i32; 4]
+    requires { ⌜ T (fits (now runs)) ⌝ }
+    ensures { λ r. ⌜ r ≡ fourOf (sumAt (number stream) (now (runs .entry))) ⌝ }
 {
-    let mut word = 0u64;
+    let mut numbers = [0i32; 4];
     for k in 0..runs.len() {
-        word = word + run(stream, runs[k]);
+        let code = runs[k];
+        let e = ((code / 0x10) % 4) as usize;
+        numbers[e] = numbers[e] + (run(stream, code) as i32);
     }
-    word
+    numbers
 }
 
 // The partition of a mode of two regions.
@@ -40,11 +43,11 @@ pub fn read_partition(stream: BitStream) -> u16
     run(stream, 0x4D0500) as u16
 }
 
-// A word a channel, endpoint w in lane 0.
+// Four numbers a channel, endpoint w the first.
 pub struct Channels {
-    pub red: u64,
-    pub green: u64,
-    pub blue: u64,
+    pub red: [i32; 4],
+    pub green: [i32; 4],
+    pub blue: [i32; 4],
 }
 
 // M10_555
@@ -65,10 +68,13 @@ pub fn channels_1(lo: u64, hi: u64) -> Channels
         0x460132,
         0x4C0133,
     ];
+    let r = word(s, &red);
+    let g = word(s, &green);
+    let b = word(s, &blue);
     Channels {
-        red: word(s, &red),
-        green: word(s, &green),
-        blue: word(s, &blue),
+        red: r,
+        green: g,
+        blue: b,
     }
 }
 
@@ -99,10 +105,13 @@ pub fn channels_2(lo: u64, hi: u64) -> Channels
         0x210135,
         0x220134,
     ];
+    let r = word(s, &red);
+    let g = word(s, &green);
+    let b = word(s, &blue);
     Channels {
-        red: word(s, &red),
-        green: word(s, &green),
-        blue: word(s, &blue),
+        red: r,
+        green: g,
+        blue: b,
     }
 }
 
@@ -123,10 +132,13 @@ pub fn channels_3(lo: u64, hi: u64) -> Channels
         0x460132,
         0x4C0133,
     ];
+    let r = word(s, &red);
+    let g = word(s, &green);
+    let b = word(s, &blue);
     Channels {
-        red: word(s, &red),
-        green: word(s, &green),
-        blue: word(s, &blue),
+        red: r,
+        green: g,
+        blue: b,
     }
 }
 
@@ -155,10 +167,13 @@ pub fn channels_4(lo: u64, hi: u64) -> Channels
         0x460132,
         0x4C0133,
     ];
+    let r = word(s, &red);
+    let g = word(s, &green);
+    let b = word(s, &blue);
     Channels {
-        red: word(s, &red),
-        green: word(s, &green),
-        blue: word(s, &blue),
+        red: r,
+        green: g,
+        blue: b,
     }
 }
 
@@ -180,10 +195,13 @@ pub fn channels_5(lo: u64, hi: u64) -> Channels
         0x4B0134,
         0x4C0133,
     ];
+    let r = word(s, &red);
+    let g = word(s, &green);
+    let b = word(s, &blue);
     Channels {
-        red: word(s, &red),
-        green: word(s, &green),
-        blue: word(s, &blue),
+        red: r,
+        green: g,
+        blue: b,
     }
 }
 
@@ -205,10 +223,13 @@ pub fn channels_6(lo: u64, hi: u64) -> Channels
         0x460132,
         0x4C0133,
     ];
+    let r = word(s, &red);
+    let g = word(s, &green);
+    let b = word(s, &blue);
     Channels {
-        red: word(s, &red),
-        green: word(s, &green),
-        blue: word(s, &blue),
+        red: r,
+        green: g,
+        blue: b,
     }
 }
 
@@ -229,10 +250,13 @@ pub fn channels_7(lo: u64, hi: u64) -> Channels
         0x320130,
         0x3C0131,
     ];
+    let r = word(s, &red);
+    let g = word(s, &green);
+    let b = word(s, &blue);
     Channels {
-        red: word(s, &red),
-        green: word(s, &green),
-        blue: word(s, &blue),
+        red: r,
+        green: g,
+        blue: b,
     }
 }
 
@@ -263,10 +287,13 @@ pub fn channels_8(lo: u64, hi: u64) -> Channels
         0x460132,
         0x4C0133,
     ];
+    let r = word(s, &red);
+    let g = word(s, &green);
+    let b = word(s, &blue);
     Channels {
-        red: word(s, &red),
-        green: word(s, &green),
-        blue: word(s, &blue),
+        red: r,
+        green: g,
+        blue: b,
     }
 }
 
@@ -290,10 +317,13 @@ pub fn channels_9(lo: u64, hi: u64) -> Channels
         0x460132,
         0x4C0133,
     ];
+    let r = word(s, &red);
+    let g = word(s, &green);
+    let b = word(s, &blue);
     Channels {
-        red: word(s, &red),
-        green: word(s, &green),
-        blue: word(s, &blue),
+        red: r,
+        green: g,
+        blue: b,
     }
 }
 
@@ -325,9 +355,12 @@ pub fn channels_10(lo: u64, hi: u64) -> Channels
         0x210135,
         0x220134,
     ];
+    let r = word(s, &red);
+    let g = word(s, &green);
+    let b = word(s, &blue);
     Channels {
-        red: word(s, &red),
-        green: word(s, &green),
-        blue: word(s, &blue),
+        red: r,
+        green: g,
+        blue: b,
     }
 }

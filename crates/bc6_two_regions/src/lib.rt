@@ -1,8 +1,9 @@
-// The values of a block of two regions, each worked out from its endpoints and its pixel's index: no palette. They lie between endpoints 0
-// and 1 in region 0, between 2 and 3 in region 1.
+// The values of a block of two regions, each worked out from its ends and its pixel's index: no palette. They lie between ends 0 and 1 in
+// region 0, between 2 and 3 in region 1.
 //
-// The endpoints are three words, each of a channel's four endpoints in its lanes. A turn paints pixels k and k + 8, one channel of both after
-// the other: of that the compiler makes vector code of eight pixels whose numbers stay in registers.
+// A turn paints pixels k and k + 8, one channel of both after the other: of that the compiler makes vector code of eight pixels whose numbers
+// stay in registers. Each format has a caller of its own, into which it is inlined: the ends then never go through memory.
+use bc6_paint::Ends;
 use bc6_paint::channel_signed;
 use bc6_paint::channel_unsigned;
 use bc6_paint::turn_two;
@@ -12,14 +13,16 @@ ghost use mathlib.Core.List.{_++_};
 ghost use Prim.Native.Nat.{_≤_};
 ghost use lib.ListN.{length, drop};
 ghost use Rattle.laws.specs.Made.{made};
-ghost use Rattle.lanes.specs.Lanes.{acrossThree};
-ghost use Rattle.bc6_paint.specs.Values.{twoValue};
+ghost use Rattle.bc6_paint.specs.Values.{endIn, twoValue};
 
 // In unsigned format.
-fn paint_two_unsigned(red: u64, green: u64, blue: u64, map: u16, word: u64, out: &mut [u16])
+pub fn paint_two_unsigned(ends: Ends, map: u16, word: u64, out: &mut [u16])
     requires { ⌜ 48 ≤ length (now out) ⌝ }
-    ensures { λ _. ⌜ now (out .exit) ≡ made (twoValue false (acrossThree red green blue) map word) 48 ++ drop 48 (now (out .entry)) ⌝ }
+    ensures { λ _. ⌜ now (out .exit) ≡ made (twoValue false (endIn ends) map word) 48 ++ drop 48 (now (out .entry)) ⌝ }
 {
+    let red = ends.red;
+    let green = ends.green;
+    let blue = ends.blue;
     for k in 0..8usize {
         let t = turn_two(word, map, k);
         let at = 3 * k;
@@ -30,35 +33,18 @@ fn paint_two_unsigned(red: u64, green: u64, blue: u64, map: u16, word: u64, out:
 }
 
 // .. and in signed. No value of a block of two regions is minus infinity: its flags are not added up.
-fn paint_two_signed(red: u64, green: u64, blue: u64, map: u16, word: u64, out: &mut [u16])
+pub fn paint_two_signed(ends: Ends, map: u16, word: u64, out: &mut [u16])
     requires { ⌜ 48 ≤ length (now out) ⌝ }
-    ensures { λ _. ⌜ now (out .exit) ≡ made (twoValue true (acrossThree red green blue) map word) 48 ++ drop 48 (now (out .entry)) ⌝ }
+    ensures { λ _. ⌜ now (out .exit) ≡ made (twoValue true (endIn ends) map word) 48 ++ drop 48 (now (out .entry)) ⌝ }
 {
+    let red = ends.red;
+    let green = ends.green;
+    let blue = ends.blue;
     for k in 0..8usize {
         let t = turn_two(word, map, k);
         let at = 3 * k;
         channel_signed(t, red, at, out);
         channel_signed(t, green, at + 1, out);
         channel_signed(t, blue, at + 2, out);
-    }
-}
-
-// In either format.
-pub fn paint_two(
-    signed: bool,
-    red: u64,
-    green: u64,
-    blue: u64,
-    map: u16,
-    word: u64,
-    out: &mut [u16],
-)
-    requires { ⌜ 48 ≤ length (now out) ⌝ }
-    ensures { λ _. ⌜ now (out .exit) ≡ made (twoValue signed (acrossThree red green blue) map word) 48 ++ drop 48 (now (out .entry)) ⌝ }
-{
-    if signed {
-        paint_two_signed(red, green, blue, map, word, out);
-    } else {
-        paint_two_unsigned(red, green, blue, map, word, out);
     }
 }

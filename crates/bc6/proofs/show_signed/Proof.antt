@@ -14,7 +14,7 @@ returns c =
     let test = picks .before in
     let ends = test .before in
     let s = ends .before .before in
-    two-painted true 1 _ (lit≤ tt) (s .pre .0) (ends .signed-ends .ensures) (words-two _ _ (test .if1 .taken)) _ (picks .two-picks .ensures) (paint .paint-two .ensures)
+    two-painted true 1 _ (lit≤ tt) (s .pre .0) (ends .signed-ends .ensures) (words-two _ _ (test .if1 .taken)) _ (picks .two-picks .ensures) (paint .paint-two-signed .ensures)
 
 returns-2 : tie.Need-returns-2
 returns-2 c =
@@ -23,7 +23,7 @@ returns-2 c =
     let test = indices .before in
     let ends = test .before in
     let s = ends .before .before in
-    one-painted true 1 _ (lit≤ tt) (s .pre .0) (ends .signed-ends .ensures) (words-one _ _ (test .if1 .left)) _ (indices .one-indices .ensures) (paint .paint-one .ensures)
+    one-painted true 1 _ (lit≤ tt) (s .pre .0) (ends .signed-ends .ensures) (words-one _ _ (test .if1 .left)) _ (indices .one-indices .ensures) (paint .paint-one-signed .ensures)
 
 pub show-signed-spec : {M : Type 1} → statement M
 show-signed-spec =

@@ -1,9 +1,10 @@
 -- `bc6::show_unsigned` meets its contract: the parts, joined, by the number of regions. Assumes nothing.
 use borrow.Author.Needs.{needs}
+use mathlib.Core.Path.{refl}
 use mathlib.Core.Bool.{false}
 use lib.Dec.{lit≤}
 use Rattle.bc6.proofs.Codes.{words-two, words-one}
-use Rattle.bc6.proofs.Link.{two-painted, one-painted}
+use Rattle.bc6.proofs.Link.{two-painted, one-written}
 use Rattle.bc6.proofs.show_unsigned.Statement.{statement}
 use Rattle.bc6.proofs.show_unsigned.Tie as tie
 
@@ -14,7 +15,7 @@ returns c =
     let test = picks .before in
     let ends = test .before in
     let s = ends .before .before in
-    two-painted false 0 _ (lit≤ tt) (s .pre .0) (ends .unsigned-ends .ensures) (words-two _ _ (test .if1 .taken)) _ (picks .two-picks .ensures) (paint .paint-two .ensures)
+    two-painted false 0 _ (lit≤ tt) (s .pre .0) (ends .unsigned-ends .ensures) (words-two _ _ (test .if1 .taken)) _ (picks .two-picks .ensures) (paint .paint-two-unsigned .ensures)
 
 returns-2 : tie.Need-returns-2
 returns-2 c =
@@ -23,7 +24,7 @@ returns-2 c =
     let test = indices .before in
     let ends = test .before in
     let s = ends .before .before in
-    one-painted false 0 _ (lit≤ tt) (s .pre .0) (ends .unsigned-ends .ensures) (words-one _ _ (test .if1 .left)) _ (indices .one-indices .ensures) (paint .paint-one .ensures)
+    one-written false 0 _ (lit≤ tt) (s .pre .0) (ends .unsigned-ends .ensures) (words-one _ _ (test .if1 .left)) _ (indices .one-indices .ensures) refl (paint .paint-one-unsigned .ensures)
 
 pub show-unsigned-spec : {M : Type 1} → statement M
 show-unsigned-spec =

@@ -2,7 +2,7 @@
 use borrow.Author.Needs.{needs}
 use mathlib.Core.Bool.{false}
 use lib.Dec.{lit<}
-use Rattle.bc6_by_mode.proofs.Ending.{mode-10, channel-whole, two-whole}
+use Rattle.bc6_by_mode.proofs.Ending.{channel-whole, whole-done, mode-10}
 use Rattle.bc6_by_mode.proofs.ends_10_unsigned.Statement.{statement}
 use Rattle.bc6_by_mode.proofs.ends_10_unsigned.Tie as tie
 
@@ -11,10 +11,10 @@ ends-10-unsigned-spec =
     tie.close
     (tie.spec
     (λ c κs. search needs)
-    (λ c κs. channel-whole mode-10 (c .channels-10 .ensures) 0 (lit< tt))
-    (λ c κs. channel-whole mode-10 (c .before .channels-10 .ensures) 1 (lit< tt))
-    (λ c κs. channel-whole mode-10 (c .before .before .channels-10 .ensures) 2 (lit< tt))
+    (λ c κs. channel-whole mode-10 (c .before .before .before .channels-10 .ensures) 0 (lit< tt))
+    (λ c κs. channel-whole mode-10 (c .before .before .before .before .channels-10 .ensures) 1 (lit< tt))
+    (λ c κs. channel-whole mode-10 (c .before .before .before .before .before .channels-10 .ensures) 2 (lit< tt))
     (λ c.
     let green = c .before in
     let red = green .before in
-    two-whole mode-10 (red .before .channels-10 .ensures) false (red .spread-unsigned .ensures) (green .spread-unsigned2 .ensures) (c .spread-unsigned3 .ensures)))
+    whole-done mode-10 (red .before .before .before .before .channels-10 .ensures) false (red .whole-unsigned .ensures) (green .whole-unsigned2 .ensures) (c .whole-unsigned3 .ensures)))

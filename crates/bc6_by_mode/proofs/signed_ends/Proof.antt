@@ -4,7 +4,7 @@ use mathlib.Core.Path.{refl}
 use mathlib.Core.Bool.{true}
 use lib.Dec.{lit<, lit≤}
 use Rattle.bc6h_spec.specs.Fields.{modeIn}
-use Rattle.bc6_by_mode.proofs.Codes.{mode-1, mode-2, mode-at, last-mode, two-arm, one-arm}
+use Rattle.bc6_by_mode.proofs.Codes.{mode-1, mode-2, mode-at, last-mode, fewer, two-arm, one-arm}
 use Rattle.bc6_by_mode.proofs.signed_ends.Statement.{statement}
 use Rattle.bc6_by_mode.proofs.signed_ends.Tie as tie
 
@@ -37,7 +37,7 @@ signed-ends-spec =
     (λ c. two-arm true 8 _ (mode-at _ _ 8 (c .before .match .keys8) refl) (lit≤ tt) (c .ends-8-signed .ensures))
     (λ c. two-arm true 9 _ (mode-at _ _ 9 (c .before .match .keys9) refl) (lit≤ tt) (c .ends-9-signed .ensures))
     (λ c. two-arm true 10 _ (mode-at _ _ 10 (c .before .match .keys10) refl) (lit≤ tt) (c .ends-10-signed .ensures))
-    (λ c. one-arm true 11 _ (mode-at _ _ 11 (c .before .match .keys11) refl) (lit< tt) (c .ends-11-signed .ensures))
-    (λ c. one-arm true 12 _ (mode-at _ _ 12 (c .before .match .keys12) refl) (lit< tt) (c .ends-12-signed .ensures))
-    (λ c. one-arm true 13 _ (mode-at _ _ 13 (c .before .match .keys13) refl) (lit< tt) (c .ends-13-signed .ensures))
+    (λ c. one-arm true 11 _ (mode-at _ _ 11 (c .before .match .keys11) refl) (lit< tt) (fewer (c .ends-11-signed .ensures)))
+    (λ c. one-arm true 12 _ (mode-at _ _ 12 (c .before .match .keys12) refl) (lit< tt) (fewer (c .ends-12-signed .ensures)))
+    (λ c. one-arm true 13 _ (mode-at _ _ 13 (c .before .match .keys13) refl) (lit< tt) (fewer (c .ends-13-signed .ensures)))
     (λ c. one-arm true 14 _ (last-mode _ _ (c .before .match .rest) (c .before .before .pre)) (lit< tt) (c .ends-14 .ensures .1)))

@@ -4,7 +4,7 @@ use mathlib.Core.Path.{refl}
 use mathlib.Core.Bool.{false}
 use lib.Dec.{lit<, lit≤}
 use Rattle.bc6h_spec.specs.Fields.{modeIn}
-use Rattle.bc6_by_mode.proofs.Codes.{mode-1, mode-2, mode-at, last-mode, two-arm, one-arm}
+use Rattle.bc6_by_mode.proofs.Codes.{mode-1, mode-2, mode-at, last-mode, fewer, two-arm, one-arm}
 use Rattle.bc6_by_mode.proofs.unsigned_ends.Statement.{statement}
 use Rattle.bc6_by_mode.proofs.unsigned_ends.Tie as tie
 
@@ -37,7 +37,7 @@ unsigned-ends-spec =
     (λ c. two-arm false 8 _ (mode-at _ _ 8 (c .before .match .keys8) refl) (lit≤ tt) (c .ends-8-unsigned .ensures))
     (λ c. two-arm false 9 _ (mode-at _ _ 9 (c .before .match .keys9) refl) (lit≤ tt) (c .ends-9-unsigned .ensures))
     (λ c. two-arm false 10 _ (mode-at _ _ 10 (c .before .match .keys10) refl) (lit≤ tt) (c .ends-10-unsigned .ensures))
-    (λ c. one-arm false 11 _ (mode-at _ _ 11 (c .before .match .keys11) refl) (lit< tt) (c .ends-11-unsigned .ensures))
-    (λ c. one-arm false 12 _ (mode-at _ _ 12 (c .before .match .keys12) refl) (lit< tt) (c .ends-12-unsigned .ensures))
-    (λ c. one-arm false 13 _ (mode-at _ _ 13 (c .before .match .keys13) refl) (lit< tt) (c .ends-13-unsigned .ensures))
+    (λ c. one-arm false 11 _ (mode-at _ _ 11 (c .before .match .keys11) refl) (lit< tt) (fewer (c .ends-11-unsigned .ensures)))
+    (λ c. one-arm false 12 _ (mode-at _ _ 12 (c .before .match .keys12) refl) (lit< tt) (fewer (c .ends-12-unsigned .ensures)))
+    (λ c. one-arm false 13 _ (mode-at _ _ 13 (c .before .match .keys13) refl) (lit< tt) (fewer (c .ends-13-unsigned .ensures)))
     (λ c. one-arm false 14 _ (last-mode _ _ (c .before .match .rest) (c .before .before .pre)) (lit< tt) (c .ends-14 .ensures .0)))

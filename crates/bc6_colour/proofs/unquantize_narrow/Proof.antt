@@ -1,71 +1,95 @@
--- `bc6_colour::unquantize_narrow` meets its contract: one law of `unquantizeU` for each return. Assumes nothing.
+-- `bc6_colour::unquantize_narrow` meets its contract: the sum, step by step. Assumes nothing.
 use borrow.Author.Needs.{needs}
-use mathlib.Core.Path.{_≡_, sym, ap, _∙_}
+use mathlib.Core.Path.{_≡_, refl, sym, ap, _∙_}
 use native.Mathlib.Omega.{arith}
-use native.Mathlib.Nat.{mul-comm}
-use Prim.Native.Nat.{ℕ, _+_, _*_, _/_, _^_, _<_, _≤_}
-use lib.IntN.{ℤ, pos, natAbs}
+use Prim.Native.Nat.{ℕ, _+_, _-_, _*_, _^_, _<_, _≤_}
+use lib.IntN.{ℤ, pos, natAbs, _+ℤ_, _-ℤ_}
 use lib.Pow.{pow-mono}
-use lib.Signed.{pos-natAbs}
-use Rattle.laws.proofs.Num.{Num, lit, add, shl, shr, ones, need, kept, same, differ, abs-below}
-use Rattle.bc6_colour.proofs.Unquantising.{nonzero, is-zero, uU-zero, uU-top, uU-mid}
+use lib.Signed.{pos-natAbs, shrZ}
+use Rattle.laws.proofs.Num.{Num, arg, lit, add, sub, shl, shr, ones, named, diff, need, kept, abs-below}
+use Rattle.bc6_colour.proofs.Stepped.{shl-of, someOf, topOf, Summed, summed}
 use Rattle.bc6_colour.proofs.unquantize_narrow.Statement.{statement}
 use Rattle.bc6_colour.proofs.unquantize_narrow.Tie as tie
 
--- the parameter as a natural number
-abs : (s : tie.Start) → pos (natAbs (s .args .c)) ≡ s .args .c
-abs s = pos-natAbs (s .args .c) (s .pre .2 .nonneg)
+module _ (s : tie.Start) where
+  abbrev p : ℕ
+  p = s .args .bits
 
-room : (s : tie.Start) → natAbs (s .args .c) * 65536 ≤ 1073741824
-room s =
-    let h : natAbs (s .args .c) < 2 ^ s .args .bits = abs-below (s .args .c) (s .pre .2 .nonneg) (s .pre .2 .below) in
-    let l : 2 ^ s .args .bits ≤ 16384 = pow-mono {j = 14} (omega arith) in
-    omega arith
+  abbrev x : ℕ
+  x = natAbs (s .args .c)
 
-abbrev mask : tie.Start → Num
-mask s = ones (s .args .bits) (omega arith)
+  abs : s .args .c ≡ pos x
+  abs = sym (pos-natAbs (s .args .c) (s .pre .2 .nonneg))
 
-abbrev sum : tie.Start → ℤ → Num
-sum s k = add (shl (s .args .c) (s .pre .2 .nonneg) 65536 1073741824 (room s) tt) (lit k)
+  few : x < 2 ^ p
+  few = abs-below (s .args .c) (s .pre .2 .nonneg) (s .pre .2 .below)
 
-add-mid : tie.Need-add-mid
-add-mid c = need (sum c _) tt
+  all : Summed p x
+  all = summed p x (s .pre .0) (s .pre .1) few
 
-sub-top : tie.Need-sub-top
-sub-top c = need (mask c) tt
+  abbrev number : Num
+  number = let l : 2 ^ p ≤ 16384 = pow-mono {j = 14} (omega arith) in arg 16384 (s .fits .c) (omega (arith, l, s .pre .2 .below))
+
+  abbrev mask : Num
+  mask = ones p (omega arith)
+
+  abbrev above : Num
+  above = add number (kept mask tt)
+
+  some-is : shrZ (s .args .c +ℤ pos (2 ^ p - 1)) (2 ^ p) ≡ pos (someOf p x)
+  some-is = ap (λ (z : ℤ). shrZ (z +ℤ pos (2 ^ p - 1)) (2 ^ p)) abs
+
+  abbrev some : Num
+  some = named (shr (2 ^ p) (kept above tt)) some-is
+
+  -- `one` is the literal
+  abbrev further : ℤ → Num
+  further one = add number (lit one)
+
+  top-is : shrZ (s .args .c +ℤ pos 1) (2 ^ p) ≡ pos (topOf p x)
+  top-is = ap (λ (z : ℤ). shrZ (z +ℤ pos 1) (2 ^ p)) abs
+
+  abbrev top : Num
+  top = named (shr (2 ^ p) (kept (further (pos 1)) tt)) top-is
+
+  abbrev both : Num
+  both = add (kept some tt) (kept top tt)
+
+  abbrev place : Num
+  place = shl (s .args .c) (s .pre .2 .nonneg) (2 ^ (16 - p)) 65536 (all .place) tt
+
+  abbrev steps : Num
+  steps = shl-of both (someOf p x + topOf p x) refl (2 ^ (15 - p)) 65536 (all .steps) tt
+
+  abbrev whole : Num
+  whole = sub (kept (add place steps) tt) (kept top tt)
 
 returns : tie.Need-returns
 returns c =
-    let s = c .before in
-    ap pos (sym (uU-zero (s .args .bits) (natAbs (s .args .c)) (s .pre .1) (is-zero (s .args .c) (s .pre .2 .nonneg) (c .if1 .taken))))
-
-returns-2 : tie.Need-returns-2
-returns-2 c =
-    let s = c .before .before in
-    ap pos (sym (uU-top (s .args .bits) (natAbs (s .args .c)) (s .pre .1)
-    (nonzero (s .args .c) (s .pre .2 .nonneg) (c .before .if1 .left))
-    (ap natAbs (same (s .fits .c) (mask s) tt (c .if2 .taken)))))
-
-returns-3 : tie.Need-returns-3
-returns-3 c =
-    let s = c .before .before in
-    let k = natAbs (s .args .c) in
-    kept (shr (2 ^ s .args .bits) (kept (sum s (pos 32768)) tt)) tt .is
-    ∙ ap (λ (k : ℕ). pos ((k + 32768) / 2 ^ s .args .bits)) (mul-comm k 65536)
-    ∙ ap pos (sym (uU-mid (s .args .bits) k (s .pre .1)
-    (nonzero (s .args .c) (s .pre .2 .nonneg) (c .before .if1 .left))
-    (λ e. differ (mask s) (c .if2 .left) (sym (abs s) ∙ ap pos e))))
+    kept (whole c) tt .is
+    ∙ diff (x c * 2 ^ (16 - p c) + (someOf (p c) (x c) + topOf (p c) (x c)) * 2 ^ (15 - p c)) (topOf (p c) (x c)) (all c .covers)
+    ∙ ap pos (all c .is)
 
 pub unquantize-narrow-spec : {M : Type 1} → statement M
 unquantize-narrow-spec =
     tie.close
     (tie.spec
-    add-mid
+    (λ c. search needs)
+    (λ c. search needs)
+    (λ c. need (mask c) tt)
+    (λ c. need (above c) tt)
+    (λ c. search needs)
+    (λ c. search needs)
+    (λ c. need (further c _) tt)
     (λ c. search needs)
     (λ c. search needs)
     (λ c. search needs)
     (λ c. search needs)
-    sub-top
-    returns
-    returns-2
-    returns-3)
+    (λ c. search needs)
+    (λ c. need (both c) tt)
+    (λ c. search needs)
+    (λ c. search needs)
+    (λ c. search needs)
+    (λ c. need (add (place c) (steps c)) tt)
+    (λ c. need (whole c) tt)
+    returns)

@@ -3,18 +3,18 @@ use mathlib.Core.Bool.{false}
 use Prim.Native.Nat.{ℕ, _-_, _*_, _<_}
 use native.Mathlib.Numerals.{add-one-dec}
 use native.Mathlib.Omega.{arith}
-use lib.Dec.{lit<, lit≤}
-use Rattle.lanes.specs.Lanes.{alongTwo, ofThree}
-use Rattle.bc6_paint.specs.Values.{oneWeight, oneValue}
-use Rattle.bc6_paint.proofs.Pixels.{Fronts, none-painted, all-painted, Stores, stores-of, stores-on, first-asks, next-asks, Shades, pairs-held, valueAt, shades-of, turn-painted}
+use lib.Dec.{lit≤}
+use Rattle.bc6_paint.specs.Values.{endIn, oneSecond, oneWeight, oneValue}
+use Rattle.bc6_paint.proofs.Pixels.{Fronts, none-painted, Stores, stores-of, stores-on, first-asks, next-asks, Shades, valueAt, shades-of, turn-painted, all-painted}
 use Rattle.bc6_one_region.proofs.paint_one_unsigned.Statement.{statement}
 use Rattle.bc6_one_region.proofs.paint_one_unsigned.Tie as tie
 
 abbrev Inv-loop : tie.InvT-loop
-Inv-loop first second word out₀ k₀ out k = Fronts (oneValue false (alongTwo first second) word) (3 * k) out₀ out
+Inv-loop word out₀ red green blue k₀ out k =
+    Fronts (oneValue false (endIn (record { red = red; green = green; blue = blue })) word) (3 * k) out₀ out
 
 abbrev μ-loop : tie.MeasureT-loop
-μ-loop first second word out₀ k₀ out k = 8 - k
+μ-loop word out₀ red green blue k₀ out k = 8 - k
 
 -- where a turn stands before its stores
 module _ (c : tie.After-turn-one Inv-loop μ-loop) where
@@ -22,7 +22,7 @@ module _ (c : tie.After-turn-one Inv-loop μ-loop) where
   at = c .before .before
 
   abbrev start : tie.Start Inv-loop μ-loop
-  start = at .before .before
+  start = at .before .before .before .before .before
 
   abbrev k : ℕ
   k = at .loop .k
@@ -30,30 +30,33 @@ module _ (c : tie.After-turn-one Inv-loop μ-loop) where
   below : k < 8
   below = c .before .loop-test .taken
 
+  abbrev shade : ℕ → ℕ → ℕ → ℕ
+  shade = valueAt false (start .args .ends)
+
+  shades : Shades (oneValue false (endIn (start .args .ends)) (start .args .word)) k (shade (c .turn-one .result .second) (c .turn-one .result .w)) (shade (c .turn-one .result .second8) (c .turn-one .result .w8))
+  shades = shades-of false (start .args .ends) oneSecond (oneWeight (start .args .word)) (c .turn-one .ensures)
+
   first : Stores k (at .loop .out)
   first = stores-of (at .loop .inv) below
 
 -- .. after one channel, and after two
-abbrev one : tie.After-channel-unsigned Inv-loop μ-loop → tie.After-turn-one Inv-loop μ-loop
-one c = c .before .before .before
-
-second : (c : tie.After-channel-unsigned Inv-loop μ-loop) → Stores (k (one c)) (c .channel-unsigned .last .1 .1 .1 .0)
-second c = stores-on (first (one c)) _ _ _ _ (c .channel-unsigned .ensures)
+second : (c : tie.After-channel-unsigned Inv-loop μ-loop) → Stores (k (c .before .before)) (c .channel-unsigned .last .1 .1 .1 .0)
+second c = stores-on (first (c .before .before)) _ _ _ _ (c .channel-unsigned .ensures)
 
 abbrev two : tie.After-channel-unsigned2 Inv-loop μ-loop → tie.After-channel-unsigned Inv-loop μ-loop
-two c = c .before .before .before .before .before
+two c = c .before .before .before .before
 
-third : (c : tie.After-channel-unsigned2 Inv-loop μ-loop) → Stores (k (one (two c))) (c .channel-unsigned2 .last .1 .1 .1 .0)
+third : (c : tie.After-channel-unsigned2 Inv-loop μ-loop) → Stores (k (two c .before .before)) (c .channel-unsigned2 .last .1 .1 .1 .0)
 third c = stores-on (second (two c)) _ _ _ _ (c .channel-unsigned2 .ensures)
 
 channel-unsigned-requires : tie.Need-channel-unsigned-requires Inv-loop μ-loop
-channel-unsigned-requires c κs = let r = c .before .before in first-asks (first r) (r .turn-one .ensures)
+channel-unsigned-requires c κs = let r = c .before in first-asks (first r) (r .turn-one .ensures)
 
 channel-unsigned-requires-2 : tie.Need-channel-unsigned-requires-2 Inv-loop μ-loop
-channel-unsigned-requires-2 c κs = let o = c .before .before .before .before in next-asks (second o) (one o .turn-one .ensures) 1 (lit≤ tt)
+channel-unsigned-requires-2 c κs = let o = c .before .before .before in next-asks (second o) (o .before .before .turn-one .ensures) 1 (lit≤ tt)
 
 channel-unsigned-requires-3 : tie.Need-channel-unsigned-requires-3 Inv-loop μ-loop
-channel-unsigned-requires-3 c κs = let o = c .before .before .before .before in next-asks (third o) (one (two o) .turn-one .ensures) 2 (lit≤ tt)
+channel-unsigned-requires-3 c κs = let o = c .before .before .before in next-asks (third o) (two o .before .before .turn-one .ensures) 2 (lit≤ tt)
 
 -- the whole turn
 module _ (c : tie.After-slice-known4 Inv-loop μ-loop) where
@@ -61,26 +64,18 @@ module _ (c : tie.After-slice-known4 Inv-loop μ-loop) where
   o₃ = c .before .before
 
   abbrev o₂ : tie.After-channel-unsigned2 Inv-loop μ-loop
-  o₂ = o₃ .before .before .before .before .before
+  o₂ = o₃ .before .before .before .before
 
   abbrev o₁ : tie.After-channel-unsigned Inv-loop μ-loop
   o₁ = two o₂
 
   abbrev ready : tie.After-turn-one Inv-loop μ-loop
-  ready = one o₁
-
-  abbrev shade : ℕ → ℕ → ℕ → ℕ
-  shade = valueAt false (ofThree (o₁ .before .before .pair .result) (o₂ .before .before .pair2 .result) (o₃ .before .before .pair3 .result))
-
-  shades : Shades (oneValue false (alongTwo (start ready .args .first) (start ready .args .second)) (start ready .args .word)) (k ready) (shade (ready .turn-one .result .second) (ready .turn-one .result .w)) (shade (ready .turn-one .result .second8) (ready .turn-one .result .w8))
-  shades =
-      shades-of false (oneWeight (start ready .args .word))
-      (pairs-held (o₁ .before .before .pair .ensures) (o₂ .before .before .pair2 .ensures) (o₃ .before .before .pair3 .ensures)) (ready .turn-one .ensures)
+  ready = o₁ .before .before
 
 loop-again : tie.Need-loop-again Inv-loop μ-loop
 loop-again c =
     let r = ready c in
-    turn-painted (shades c) (at r .loop .inv) (below r) (o₁ c .channel-unsigned .ensures) (o₂ c .channel-unsigned2 .ensures) (o₃ c .channel-unsigned3 .ensures)
+    turn-painted (shades r) (at r .loop .inv) (below r) (o₁ c .channel-unsigned .ensures) (o₂ c .channel-unsigned2 .ensures) (o₃ c .channel-unsigned3 .ensures)
 
 returns : tie.Need-returns Inv-loop μ-loop
 returns c = let left = c .loop-test .left in all-painted (c .before .loop .inv) (omega arith)
@@ -91,16 +86,13 @@ paint-one-unsigned-spec =
     (tie.spec
     Inv-loop
     μ-loop
-    (λ c. none-painted _ _ (c .before .pre))
+    (λ c. none-painted _ _ (c .before .before .before .before .pre))
     (λ c κs. c .loop-test .taken)
     (λ c. let h = below c in record { fits = omega arith })
-    (λ c κs. lit< tt)
     channel-unsigned-requires
-    (λ c κs. lit< tt)
-    (λ c. let h = below (one (c .before .before .before)) in record { fits = omega arith })
+    (λ c. let h = below (c .before .before .before .before) in record { fits = omega arith })
     channel-unsigned-requires-2
-    (λ c κs. lit< tt)
-    (λ c. let h = below (one (two (c .before .before .before))) in record { fits = omega arith })
+    (λ c. let h = below (two (c .before .before) .before .before) in record { fits = omega arith })
     channel-unsigned-requires-3
     (λ c. let h = below (ready c) in record { fits = omega arith })
     (λ c. add-one-dec 8 _ (below (ready c)))

@@ -4,21 +4,29 @@ use mathlib.Core.Path.{_∙_}
 use mathlib.Core.Bool.{true}
 use Prim.Native.Nat.{_+_}
 use native.Mathlib.Omega.{arith}
-use lib.Dec.{lit<}
 use lib.ListN.{set, length-set}
 use lib.Seq.{set-comm}
 use Rattle.laws.proofs.Num.{read}
-use Rattle.bc6_paint.proofs.Points.{Drawn, drawn, drawn-in, half-drawn, shade, adds}
+use Rattle.bc6_paint.proofs.Elements.{held-is}
+use Rattle.bc6_paint.proofs.Points.{Drawn, drawn-in, half-drawn, shade, adds}
 use Rattle.bc6_paint.proofs.channel_signed.Statement.{statement}
 use Rattle.bc6_paint.proofs.channel_signed.Tie as tie
 
--- what is drawn of the channel's word
-module _ (c : tie.After-lane4) where
+-- what is drawn of the channel's ends
+module _ (c : tie.After-kept-164) where
   abbrev start : tie.Start
-  start = c .before .before .before .before .before
+  start = c .before .before .before .before .before .before .before .before .before
 
-  ends-drawn : Drawn (start .args .ends) (c .before .before .before .lane .result) (c .before .before .lane2 .result) (c .before .lane3 .result) (c .lane4 .result)
-  ends-drawn = drawn (c .before .before .before .lane .ensures) (c .before .before .lane2 .ensures) (c .before .lane3 .ensures) (c .lane4 .ensures)
+  ends-drawn : Drawn (start .args .t2) (c .before .before .before .before .before .before .kept-16 .result) (c .before .before .before .before .kept-162 .result) (c .before .before .kept-163 .result) (c .kept-164 .result)
+  ends-drawn =
+      let good = start .good .1 .0 in
+      let l = start .args .t2 in
+      record {
+        front = held-is l _ 0 (good .1 .1) (c .before .before .before .before .before .before .kept-16 .ensures);
+        back = held-is l _ 1 (good .1 .1) (c .before .before .before .before .kept-162 .ensures);
+        front-second = held-is l _ 2 (good .1 .1) (c .before .before .kept-163 .ensures);
+        back-second = held-is l _ 3 (good .1 .1) (c .kept-164 .ensures);
+      }
 
 finish-signed-requires : tie.Need-finish-signed-requires
 finish-signed-requires c κs =
@@ -52,10 +60,14 @@ pub channel-signed-spec : {M : Type 1} → statement M
 channel-signed-spec =
     tie.close
     (tie.spec
-    (λ c κs. lit< tt)
-    (λ c κs. lit< tt)
-    (λ c κs. lit< tt)
-    (λ c κs. lit< tt)
+    (λ c. search needs)
+    (λ c κs. search needs)
+    (λ c. search needs)
+    (λ c κs. search needs)
+    (λ c. search needs)
+    (λ c κs. search needs)
+    (λ c. search needs)
+    (λ c κs. search needs)
     (λ c κs. search needs)
     finish-signed-requires
     (λ c. search needs)

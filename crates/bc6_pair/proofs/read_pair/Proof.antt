@@ -25,17 +25,20 @@ module _ (c : tie.After-extra-bits) where
       ap₂ (λ (x y : ℕ). x + y) (c .before .firsts .ensures ∙ first-tens (c .before .before .before .args .lo) (c .before .before .before .args .hi)) (c .extra-bits .ensures)
       ∙ three-sum (ten (n / 2 ^ 5)) (extraBits f extra)
 
-add-t7 : tie.Need-add-t7
-add-t7 c =
+add-first : tie.Need-add-first
+add-first c =
     record { fits = subst (λ (x : ℕ). x < 2 ^ 64) (sym (first-is c)) (three-fits _ (with-ten (f c) (n c / 2 ^ 5) (extra c) (c .before .before .before .pre))) }
 
-sub-t10 : tie.Need-sub-t10
-sub-t10 c = ones-fit (2 ^ (10 - extra c)) (pow-pos (10 - extra c)) (pow-mono {i = 10 - extra c} {j = 10} (omega arith))
+sub-second-2 : tie.Need-sub-second-2
+sub-second-2 c = ones-fit (2 ^ (10 - extra c)) (pow-pos (10 - extra c)) (pow-mono {i = 10 - extra c} {j = 10} (omega arith))
 
 returns : tie.Need-returns
 returns c =
-    pair-read (n c) (f c) (extra c) (c .before .before .seconds .ensures) (c .before .before .before .pre) _ (first-is c)
-    (kept-are (f c) (10 - extra c) (omega arith))
+    let green = c .before in
+    let red = green .before in
+    let x = red .before in
+    pair-read (n x) (f x) (extra x) (x .before .before .seconds .ensures) (x .before .before .before .pre) _ _ (first-is x)
+    (kept-are (f x) (10 - extra x) (omega arith)) (red .pair .ensures) (green .pair2 .ensures) (c .pair3 .ensures)
 
 pub read-pair-spec : {M : Type 1} → statement M
 read-pair-spec =
@@ -44,8 +47,11 @@ read-pair-spec =
     (λ c κs. search needs)
     (λ c κs. search needs)
     (λ c κs. search needs)
-    add-t7
+    add-first
     (λ c. search needs)
     (λ c. search needs)
-    sub-t10
+    sub-second-2
+    (λ c κs. search needs)
+    (λ c κs. search needs)
+    (λ c κs. search needs)
     returns)

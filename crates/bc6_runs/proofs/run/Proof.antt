@@ -1,12 +1,12 @@
 -- `bc6_runs::run` meets its contract. Assumes nothing.
 use borrow.Author.Needs.{needs}
-use Rattle.bcn_util.specs.Runs.{runOf}
+use Rattle.bc6_runs.specs.Ends.{runIn}
 use Rattle.bc6_runs.proofs.Tables.{Readable, can-read, part-read}
 use Rattle.bc6_runs.proofs.run.Statement.{statement}
 use Rattle.bc6_runs.proofs.run.Tie as tie
 
-good : (c : tie.Start) → Readable (runOf (c .args .code))
-good c = can-read (runOf (c .args .code)) (c .pre)
+good : (c : tie.Start) → Readable (runIn (c .args .code))
+good c = can-read (runIn (c .args .code)) (c .pre)
 
 returns : tie.Need-returns
 returns c = part-read _ _ (good (c .before .before .before)) (c .before .before .skip .ensures) (c .before .consume-bits .ensures .next)

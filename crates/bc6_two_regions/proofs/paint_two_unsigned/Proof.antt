@@ -4,17 +4,17 @@ use Prim.Native.Nat.{ℕ, _-_, _*_, _<_}
 use native.Mathlib.Numerals.{add-one-dec}
 use native.Mathlib.Omega.{arith}
 use lib.Dec.{lit≤}
-use Rattle.lanes.specs.Lanes.{acrossThree, ofThree}
-use Rattle.bc6_paint.specs.Values.{twoSecond, twoWeight, twoValue}
-use Rattle.bc6_paint.proofs.Pixels.{Fronts, none-painted, all-painted, Stores, stores-of, stores-on, first-asks, next-asks, Shades, channels-held, valueAt, shades-of, turn-painted}
+use Rattle.bc6_paint.specs.Values.{endIn, twoSecond, twoWeight, twoValue}
+use Rattle.bc6_paint.proofs.Pixels.{Fronts, none-painted, Stores, stores-of, stores-on, first-asks, next-asks, Shades, valueAt, shades-of, turn-painted, all-painted}
 use Rattle.bc6_two_regions.proofs.paint_two_unsigned.Statement.{statement}
 use Rattle.bc6_two_regions.proofs.paint_two_unsigned.Tie as tie
 
 abbrev Inv-loop : tie.InvT-loop
-Inv-loop red green blue map word out₀ k₀ out k = Fronts (twoValue false (acrossThree red green blue) map word) (3 * k) out₀ out
+Inv-loop map word out₀ red green blue k₀ out k =
+    Fronts (twoValue false (endIn (record { red = red; green = green; blue = blue })) map word) (3 * k) out₀ out
 
 abbrev μ-loop : tie.MeasureT-loop
-μ-loop red green blue map word out₀ k₀ out k = 8 - k
+μ-loop map word out₀ red green blue k₀ out k = 8 - k
 
 -- where a turn stands before its stores
 module _ (c : tie.After-turn-two Inv-loop μ-loop) where
@@ -22,10 +22,7 @@ module _ (c : tie.After-turn-two Inv-loop μ-loop) where
   at = c .before .before
 
   abbrev start : tie.Start Inv-loop μ-loop
-  start = at .before .before
-
-  abbrev words : ℕ → ℕ
-  words = ofThree (start .args .red) (start .args .green) (start .args .blue)
+  start = at .before .before .before .before .before
 
   abbrev k : ℕ
   k = at .loop .k
@@ -34,10 +31,10 @@ module _ (c : tie.After-turn-two Inv-loop μ-loop) where
   below = c .before .loop-test .taken
 
   abbrev shade : ℕ → ℕ → ℕ → ℕ
-  shade = valueAt false words
+  shade = valueAt false (start .args .ends)
 
-  shades : Shades (twoValue false (acrossThree (start .args .red) (start .args .green) (start .args .blue)) (start .args .map) (start .args .word)) k (shade (c .turn-two .result .second) (c .turn-two .result .w)) (shade (c .turn-two .result .second8) (c .turn-two .result .w8))
-  shades = shades-of false (twoWeight (start .args .word)) (channels-held (twoSecond (start .args .map)) _ _ _) (c .turn-two .ensures)
+  shades : Shades (twoValue false (endIn (start .args .ends)) (start .args .map) (start .args .word)) k (shade (c .turn-two .result .second) (c .turn-two .result .w)) (shade (c .turn-two .result .second8) (c .turn-two .result .w8))
+  shades = shades-of false (start .args .ends) (twoSecond (start .args .map)) (twoWeight (start .args .word)) (c .turn-two .ensures)
 
   first : Stores k (at .loop .out)
   first = stores-of (at .loop .inv) below
@@ -89,7 +86,7 @@ paint-two-unsigned-spec =
     (tie.spec
     Inv-loop
     μ-loop
-    (λ c. none-painted _ _ (c .before .pre))
+    (λ c. none-painted _ _ (c .before .before .before .before .pre))
     (λ c κs. c .loop-test .taken)
     (λ c. let h = below c in record { fits = omega arith })
     channel-unsigned-requires

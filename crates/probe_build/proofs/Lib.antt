@@ -1,0 +1,5 @@
+pub mod Numbers
+pub mod Records
+pub mod Builds
+pub mod Edging
+pub mod Shown

@@ -1,0 +1,46 @@
+use native.Mathlib.Omega.{arith}
+use Rattle.probe_build.proofs.Builds.{no-edge, long-edge, bad-format, bad-blocks, short, unrefused}
+use borrow.Author.Needs.{needs}
+use Rattle.probe_build.proofs.build_refusal.Statement.{statement}
+use Rattle.probe_build.proofs.build_refusal.Tie as tie
+
+returns : tie.Need-returns
+returns c = no-edge _ _ _ _ (search needs)
+
+returns-2 : tie.Need-returns-2
+returns-2 c = long-edge _ _ _ _ (search needs)
+
+returns-3 : tie.Need-returns-3
+returns-3 c = bad-format _ _ _ _ (search needs) (search needs) (search needs)
+
+record-count-requires : tie.Need-record-count-requires
+record-count-requires c κs = search needs
+
+mul-if4 : tie.Need-mul-if4
+mul-if4 c = search needs
+
+returns-4 : tie.Need-returns-4
+returns-4 c = bad-blocks _ _ _ _ (search needs) (search needs) (search needs) (λ e. omega arith)
+
+mul-if5 : tie.Need-mul-if5
+mul-if5 c = search needs
+
+returns-5 : tie.Need-returns-5
+returns-5 c = short _ _ _ _ (search needs) (search needs) (search needs) (search needs) (search needs)
+
+returns-6 : tie.Need-returns-6
+returns-6 c = unrefused _ _ _ _ (search needs) (search needs) (search needs) (search needs) (search needs)
+
+pub build-refusal-spec : {M : Type 1} → statement M
+build-refusal-spec =
+    tie.close
+    (tie.spec
+    returns
+    returns-2
+    returns-3
+    record-count-requires
+    mul-if4
+    returns-4
+    mul-if5
+    returns-5
+    returns-6)

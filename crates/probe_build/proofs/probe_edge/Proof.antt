@@ -1,0 +1,68 @@
+use Prim.Native.Nat.{_≤_, _-_}
+use mathlib.Core.Path.{_≡_}
+use lib.ListN.{length}
+use Rattle.laws.specs.First.{firstBelow}
+use Rattle.laws.proofs.Firsts.{first-none}
+use Rattle.probe.specs.Probe.{edgeLimit}
+use Rattle.probe_build.specs.Edges.{isEdge}
+use Rattle.probe_build.proofs.Edging.{count-is, edge-here, edge-next, edge-none}
+use borrow.Author.Needs.{needs}
+use Rattle.probe_build.proofs.probe_edge.Statement.{statement}
+use Rattle.probe_build.proofs.probe_edge.Tie as tie
+
+abbrev Inv-loop : tie.InvT-loop
+Inv-loop store k₀ k = (k ≤ edgeLimit) × (firstBelow (isEdge (length store)) k ≡ k)
+
+abbrev μ-loop : tie.MeasureT-loop
+μ-loop store k₀ k = edgeLimit - k
+
+loop-holds : tie.Need-loop-holds Inv-loop μ-loop
+loop-holds c = (search needs, first-none _)
+
+add-wide : tie.Need-add-wide Inv-loop μ-loop
+add-wide c = search needs
+
+wide-requires : tie.Need-wide-requires Inv-loop μ-loop
+wide-requires c κs = search needs
+
+record-count-requires : tie.Need-record-count-requires Inv-loop μ-loop
+record-count-requires c κs = search needs
+
+mul-if1 : tie.Need-mul-if1 Inv-loop μ-loop
+mul-if1 c = search needs
+
+add-result : tie.Need-add-result Inv-loop μ-loop
+add-result c = search needs
+
+returns : tie.Need-returns Inv-loop μ-loop
+returns c = edge-here _ _ (count-is (c .before .before .wide .ensures) (c .before .record-count .ensures .0)) (c .before .before .before .before .loop .inv .1) (search needs) (c .if1 .taken)
+
+add-k : tie.Need-add-k Inv-loop μ-loop
+add-k c = search needs
+
+loop-less : tie.Need-loop-less Inv-loop μ-loop
+loop-less c = search needs
+
+loop-again : tie.Need-loop-again Inv-loop μ-loop
+loop-again c = (search needs, edge-next _ _ (count-is (c .before .before .wide .ensures) (c .before .record-count .ensures .0)) (c .before .before .before .before .loop .inv .1) (c .if1 .left))
+
+returns-2 : tie.Need-returns-2 Inv-loop μ-loop
+returns-2 c = edge-none _ _ (c .before .loop .inv .1) (search needs) (search needs)
+
+pub probe-edge-spec : {M : Type 1} → statement M
+probe-edge-spec =
+    tie.close
+    (tie.spec
+    Inv-loop
+    μ-loop
+    loop-holds
+    add-wide
+    wide-requires
+    record-count-requires
+    mul-if1
+    add-result
+    returns
+    add-k
+    loop-less
+    loop-again
+    returns-2)

@@ -1,0 +1,120 @@
+-- A probe built of the blocks of its six faces: beyond document 02's T-12. Assumes nothing.
+use mathlib.Core.Path.{_≡_, refl}
+use mathlib.Core.List.{List, [], _∷_, _++_}
+use Prim.Native.Nat.{ℕ, zero, suc, _+_, _*_, _/_, _%_, _^_}
+use lib.Dec.{eqb, ltb}
+use lib.ListN.{length, getD, drop}
+use Rattle.laws.specs.Pick.{pick, both}
+use Rattle.laws.specs.Made.{made, join}
+use Rattle.bc6h_spec.specs.Answers.{done, badFormat, shortOutput, badBlocks, badEdge}
+use Rattle.bc6h_spec.specs.Bits.{blockSize}
+use Rattle.places.specs.declared.Place.{Place}
+use Rattle.places.specs.Places.{placeSize}
+use Rattle.probe.specs.Probe.{edgeLimit, placeOf}
+use Rattle.probe_build.specs.declared.Built.{Built}
+
+-- "6 edge² placed records"
+unfoldable pub recordCount : ℕ → ℕ
+recordCount edge = 6 * edge * edge
+
+-- ---- record n
+
+-- "record n = face n div edge², row (n mod edge²) div edge, column n mod edge"
+unfoldable pub placeFor : ℕ → ℕ → Place
+placeFor edge n = placeOf (n / (edge * edge)) (n % edge) (n % (edge * edge) / edge)
+
+-- "tile first_tile + n wrapping modulo 2^32"
+abbrev pub tileFor : ℕ → ℕ → ℕ
+tileFor first n = (first + n) % 2 ^ 32
+
+-- "tile 4 LE, format, face, column u16 LE, row u16 LE, six zero bytes"
+unfoldable pub headOf : ℕ → ℕ → Place → List ℕ
+headOf tile format p =
+    tile % 0x100 ∷ tile / 0x100 % 0x100 ∷ tile / 0x10000 % 0x100 ∷ tile / 0x1000000 % 0x100 ∷ format ∷ p .face ∷
+    p .column % 0x100 ∷ p .column / 0x100 % 0x100 ∷ p .row % 0x100 ∷ p .row / 0x100 % 0x100 ∷
+    0 ∷ 0 ∷ 0 ∷ 0 ∷ 0 ∷ 0 ∷ []
+
+-- the sixteen bytes of block n
+unfoldable pub blockByte : List ℕ → ℕ → ℕ → ℕ
+blockByte blocks n k = getD blocks (blockSize * n + k) 0
+
+abbrev pub blockBytes : List ℕ → ℕ → List ℕ
+blockBytes blocks n = made (blockByte blocks n) blockSize
+
+-- ".., block 16"
+unfoldable pub recordWith : List ℕ → ℕ → ℕ → ℕ → Place → List ℕ
+recordWith blocks n tile format p = headOf tile format p ++ blockBytes blocks n
+
+unfoldable pub recordOf : List ℕ → ℕ → ℕ → ℕ → ℕ → List ℕ
+recordOf blocks format edge first n = recordWith blocks n (tileFor first n) format (placeFor edge n)
+
+-- the store: its records from the first
+unfoldable pub builtOf : List ℕ → ℕ → ℕ → ℕ → List ℕ
+builtOf blocks format edge first = join (made (recordOf blocks format edge first) (recordCount edge))
+
+-- ---- the checks
+
+-- "19 (edge not 1..16), 1 (format above 1), 15 (block bytes not 16*6*edge*edge), 3 (room below 32 bytes a record)"
+unfoldable pub buildRefusal : ℕ → ℕ → ℕ → ℕ → ℕ
+buildRefusal size format edge room =
+    pick (both (ltb 0 edge) (ltb edge (edgeLimit + 1)))
+    (pick (ltb 1 format) badFormat
+    (pick (eqb size (blockSize * recordCount edge)) (pick (ltb room (placeSize * recordCount edge)) shortOutput done) badBlocks))
+    badEdge
+
+-- ---- the call
+
+-- the number, and how many records were written: none on a refusal
+abbrev pub builtAt : ℕ → ℕ → Built
+builtAt zero count = record { answer = done; records = count }
+builtAt (suc number) count = record { answer = suc number; records = 0 }
+
+-- "the rest of out stays; a refusal writes nothing"
+abbrev pub bytesAt : ℕ → List ℕ → List ℕ → List ℕ
+bytesAt zero built lent = built ++ drop (length built) lent
+bytesAt (suc number) built lent = lent
+
+pub record BuiltTo (blocks : List ℕ) (format edge first : ℕ) (lent : List ℕ) (r : Built) (after : List ℕ) : Type 0 where
+  pub answers : r ≡ builtAt (buildRefusal (length blocks) format edge (length lent)) (recordCount edge)
+  pub holds : after ≡ bytesAt (buildRefusal (length blocks) format edge (length lent)) (builtOf blocks format edge first) lent
+
+-- ---- examples
+
+-- the order of the checks
+two-blocks : buildRefusal 192 1 2 1000 ≡ badBlocks
+unfolding buildRefusal recordCount
+two-blocks = refl
+
+edge-before-format : buildRefusal 0 2 17 0 ≡ badEdge
+unfolding buildRefusal recordCount
+edge-before-format = refl
+
+format-before-blocks : buildRefusal 0 2 1 0 ≡ badFormat
+unfolding buildRefusal recordCount
+format-before-blocks = refl
+
+blocks-before-room : buildRefusal 95 1 1 0 ≡ badBlocks
+unfolding buildRefusal recordCount
+blocks-before-room = refl
+
+room-last : buildRefusal 96 1 1 191 ≡ shortOutput
+unfolding buildRefusal recordCount
+room-last = refl
+
+built : buildRefusal 96 1 1 192 ≡ done
+unfolding buildRefusal recordCount
+built = refl
+
+-- record 23 of an edge of 2 is the last of face 5; record 5 is column 1 of row 0 of face 1
+last-of-five : placeFor 2 23 ≡ placeOf 5 1 1
+unfolding placeFor
+last-of-five = refl
+
+first-row : placeFor 2 5 ≡ placeOf 1 1 0
+unfolding placeFor
+first-row = refl
+
+-- the tile number wraps
+wrapped : headOf (tileFor 0xFFFFFFFF 5) 1 (placeOf 1 1 0) ≡ 4 ∷ 0 ∷ 0 ∷ 0 ∷ 1 ∷ 1 ∷ 1 ∷ 0 ∷ 0 ∷ 0 ∷ 0 ∷ 0 ∷ 0 ∷ 0 ∷ 0 ∷ 0 ∷ []
+unfolding headOf
+wrapped = refl

@@ -27,19 +27,15 @@ def run(words):
 
 def cleaned(store):
     """The bytes of the cleaned store, and the report."""
-    left, report = house.program("cleaning", store)
-    if report.startswith(b"store refused "):
-        raise house.Refused(int(report.split()[2]), report)
-    if not is_whole(store, left, report):
-        raise house.Trouble("the program cleaning did not write all of its result")
-    return left, report
+    output, told = house.program("cleaning", store)
+    if output.startswith(b"store refused "):
+        raise house.Refused(int(output.split()[2]), output)
+    parts = re.fullmatch(rb"((?:[0-9]+ [0-9]+ [0-9]+ [0-9]+\n)*stays ([0-9]+) removed ([0-9]+)\n)(.*)", output, re.DOTALL)
+    if parts is None or not is_whole(store, parts[4], parts[1], int(parts[2]), int(parts[3])):
+        raise house.Trouble(f"the program cleaning did not write all of its result{house.told_last(told)}")
+    return parts[4], parts[1]
 
 
-def is_whole(store, left, report):
+def is_whole(store, left, report, stay, removed):
     """Whether the program came to its end: a line for each removed record, the counts, and a record for each that stays."""
-    *lines, last = report.splitlines() or [b""]
-    counts = re.fullmatch(rb"kept (\d+) removed (\d+)", last)
-    if counts is None:
-        return False
-    kept, removed = int(counts[1]), int(counts[2])
-    return len(left) == kept * house.RECORD and len(lines) == removed and len(store) == (kept + removed) * house.RECORD
+    return len(left) == stay * house.RECORD and report.count(b"\n") == removed + 1 and len(store) == (stay + removed) * house.RECORD

@@ -1,21 +1,24 @@
--- The lines of a clean-up, as a loop over the records makes them, and the whole text. Assumes nothing.
+-- The lines of a clean-up, as a loop over the records makes them, the whole text, and the cleaned store behind it. Assumes nothing.
 use mathlib.Core.Path.{_≡_, refl, sym, ap, ap₂, _∙_}
 use mathlib.Core.Bool.{true, false}
 use mathlib.Core.List.{List, _++_, append-nil}
-use Prim.Native.Nat.{ℕ, zero, suc, _+_, _≤_, _<_}
+use Prim.Native.Nat.{ℕ, zero, suc, _+_, _*_, _≤_, _<_}
 use native.Mathlib.Omega.{arith}
-use lib.ListN.{length}
-use borrow.Author.Tests.{lt-ltb, le-ltb}
+use lib.Dec.{eqb}
+use lib.ListN.{length, take, length-take}
+use borrow.Author.Tests.{lt-ltb, le-ltb, eqb-true, eqb-false}
 use Rattle.laws.specs.Made.{made}
 use Rattle.laws.proofs.Joined.{run-more}
+use Rattle.laws.proofs.Tests.{cases}
 use Rattle.bc6h_spec.specs.Answers.{done}
-use Rattle.records.specs.Store.{recordsIn, tileAt}
+use Rattle.records.specs.Store.{recordSize, storeLimit, recordsIn, tileAt}
 use Rattle.twins_spec.specs.Twins.{listRefusal, mostRecords}
 use Rattle.clean.specs.declared.Cleaned.{Cleaned}
-use Rattle.clean.specs.Clean.{firstOf, goes, stayCount, goneCount, answerAt}
+use Rattle.clean.specs.Clean.{firstOf, goes, stayCount, goneCount, answerAt, CleanedInto}
+use Rattle.clean.proofs.Cleaning as cleaning
 use Rattle.text.specs.Text.{lineFeed, decimal, field, refusalLine, Written}
 use Rattle.text.proofs.Texts.{then, said}
-use Rattle.clean_text.specs.CleanText.{removedLine, lineOf, removedLines, countsLine, cleaningText}
+use Rattle.clean_text.specs.CleanText.{removedLine, lineOf, removedLines, countsLine, cleaningText, leftAt, cleaningOutput}
 
 -- ---- a line
 
@@ -74,3 +77,36 @@ module _ (store : List ℕ) where
 
     pub few : cleaned .answer ≡ done → listRefusal (length store) mostRecords ≡ done
     few z = sym (number (listRefusal (length store) mostRecords) refl) ∙ z
+
+-- ---- the cleaned store behind the text
+
+module _ {store lent after : List ℕ} {r : Cleaned} (room : length lent ≡ storeLimit) (d : CleanedInto store lent r after) where
+  number-is : r .answer ≡ listRefusal (length store) mostRecords
+  number-is = rw room at (cleaning.answer-number d)
+
+  pub cleaned-is : r ≡ answerAt (listRefusal (length store) mostRecords) store
+  cleaned-is = rw room at (d .answers)
+
+  pub left-size : r .kept * recordSize ≤ storeLimit
+  left-size =
+      cases (eqb (r .answer) done)
+      (λ t. let z = eqb-true _ _ t in
+      let w = cleaning.whole d z in
+      let a = cleaning.counts-add-up d z in
+      omega arith)
+      (λ f. rw (cleaning.refused-alone d (eqb-false _ _ f)) (omega arith))
+
+  pub left-fits : length (take (r .kept * recordSize) after) ≤ storeLimit
+  left-fits = let n = left-size in simp length-take (omega arith)
+
+  left-is : take (r .kept * recordSize) after ≡ leftAt (listRefusal (length store) mostRecords) store
+  left-is = go (listRefusal (length store) mostRecords) refl
+    where
+      go : (k : ℕ) → listRefusal (length store) mostRecords ≡ k → take (r .kept * recordSize) after ≡ leftAt k store
+      go zero q = cleaning.front-is d (number-is ∙ q)
+      go (suc k) q = rw (cleaning.refused-alone d (λ z. omega (arith, q, number-is, z)))
+
+  pub output-put : {l m₁ m₂ : List ℕ} {e₁ e₂ : ℕ} → Written l 0 (cleaningText store) e₁ m₁ → Written m₁ e₁ (take (r .kept * recordSize) after) e₂ m₂
+      → Written l 0 (cleaningOutput store) e₂ m₂
+  unfolding cleaningOutput
+  output-put x y = then x (said y left-is)

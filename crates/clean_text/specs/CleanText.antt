@@ -1,13 +1,14 @@
--- What the clean-up program tells of a store: a line for each record that is removed, and a last line with the counts; or the line of a
--- refused store. Assumes nothing.
+-- What the clean-up program writes of a store: a line for each record that is removed, a last line with the counts, and behind it the
+-- cleaned store; or the line of a refused store alone. Assumes nothing.
+use mathlib.Core.Path.{_≡_}
 use mathlib.Core.List.{List, [], _∷_, _++_}
-use Prim.Native.Nat.{ℕ, zero, suc}
-use lib.ListN.{length}
+use Prim.Native.Nat.{ℕ, zero, suc, _+_}
+use lib.ListN.{length, take}
 use Rattle.laws.specs.Pick.{pick}
 use Rattle.laws.specs.Made.{made, join}
-use Rattle.records.specs.Store.{recordsIn, tileAt}
+use Rattle.records.specs.Store.{storeLimit, recordsIn, tileAt}
 use Rattle.twins_spec.specs.Twins.{listRefusal, mostRecords}
-use Rattle.clean.specs.Clean.{firstOf, goes, stayCount, goneCount}
+use Rattle.clean.specs.Clean.{firstOf, goes, cleanedOf, stayCount, goneCount}
 use Rattle.text.specs.Text.{lineFeed, decimal, field, refusalLine}
 
 -- number and tile of the record, and of the one that stays for it
@@ -21,10 +22,10 @@ lineOf store n = pick (goes store n) (removedLine store n (firstOf store n)) []
 unfoldable pub removedLines : List ℕ → ℕ → List ℕ
 removedLines store count = join (made (lineOf store) count)
 
--- `kept `, ` removed `
+-- `stays `, ` removed `
 unfoldable pub countsLine : ℕ → ℕ → List ℕ
-countsLine kept removed =
-    107 ∷ 101 ∷ 112 ∷ 116 ∷ 32 ∷ [] ++ decimal kept ++ (32 ∷ 114 ∷ 101 ∷ 109 ∷ 111 ∷ 118 ∷ 101 ∷ 100 ∷ 32 ∷ [] ++ decimal removed) ++ lineFeed
+countsLine stay removed =
+    115 ∷ 116 ∷ 97 ∷ 121 ∷ 115 ∷ 32 ∷ [] ++ decimal stay ++ (32 ∷ 114 ∷ 101 ∷ 109 ∷ 111 ∷ 118 ∷ 101 ∷ 100 ∷ 32 ∷ [] ++ decimal removed) ++ lineFeed
 
 abbrev pub cleaningAt : ℕ → List ℕ → List ℕ
 cleaningAt zero store = removedLines store (recordsIn store) ++ countsLine (stayCount store) (goneCount store)
@@ -32,3 +33,15 @@ cleaningAt (suc number) store = refusalLine (suc number)
 
 unfoldable pub cleaningText : List ℕ → List ℕ
 cleaningText store = cleaningAt (listRefusal (length store) mostRecords) store
+
+-- behind the text, the records that stay; of a refused store none
+abbrev pub leftAt : ℕ → List ℕ → List ℕ
+leftAt zero store = cleanedOf store
+leftAt (suc number) store = []
+
+unfoldable pub cleaningOutput : List ℕ → List ℕ
+cleaningOutput store = cleaningText store ++ leftAt (listRefusal (length store) mostRecords) store
+
+-- The program reads one byte more than a store may have: no byte past that makes a difference.
+abbrev pub ReadEnough : Type 0
+ReadEnough = (store : List ℕ) → cleaningOutput (take (storeLimit + 1) store) ≡ cleaningOutput store

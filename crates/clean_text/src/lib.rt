@@ -1,16 +1,17 @@
-// What a clean-up tells of a store as text: a line for each record that is removed, its number and tile and those of the record that stays
-// for it, and a last line with the counts; or the line of a refused store.
+// A clean-up as one run of bytes: a line for each record that is removed, its number and tile and those of the record that stays for it, a
+// last line with the counts, and the cleaned store; or the line of a refused store alone.
 
 ghost use mathlib.Core.Path.{_≡_};
 ghost use Prim.Native.Nat.{_+_, _*_, _≤_};
 ghost use lib.ListN.{length};
-ghost use Rattle.records.specs.Store.{recordsIn};
+ghost use Rattle.records.specs.Store.{recordsIn, storeLimit};
 ghost use Rattle.twins_spec.specs.Twins.{listRefusal, mostRecords};
 ghost use Rattle.clean.specs.Clean.{answerAt};
 ghost use Rattle.text.specs.Text.{Written};
-ghost use Rattle.clean_text.specs.CleanText.{removedLine, removedLines, countsLine, cleaningText};
+ghost use Rattle.clean_text.specs.CleanText.{removedLine, removedLines, countsLine, cleaningText, cleaningOutput};
 use bc6h_spec::Answer;
 use clean::Cleaned;
+use clean::clean_store;
 use clean::first_of;
 use records::Record;
 use records::tile_at;
@@ -26,10 +27,10 @@ pub struct Cleaning {
 }
 
 impl Cleaning {
-    // The most bytes of a line, and the room for a line a record and one more.
+    // The most bytes of a line; the room for a line a record, the counts and a store.
     const LINE: usize = 128;
 
-    pub const ROOM: usize = (TwinList::RECORDS + 1) * Cleaning::LINE;
+    pub const ROOM: usize = (TwinList::RECORDS + 1) * Cleaning::LINE + Record::STORE;
 }
 
 // The line of record n, which is removed, and of the record that stays for it.
@@ -45,12 +46,12 @@ fn put_removed(text: &mut [u8], at: usize, store: &[u8], n: usize, first: usize)
     put(text, end, b"\n")
 }
 
-fn put_counts(text: &mut [u8], at: usize, kept: usize, removed: usize) -> usize
+fn put_counts(text: &mut [u8], at: usize, stay: usize, removed: usize) -> usize
     requires { ⌜ at + 128 ≤ length (now text) ⌝ }
     ensures { λ r. ⌜ r ≤ at + 128 ⌝ }
-    ensures { λ r. ⌜ Written (now (text .entry)) at (countsLine kept removed) r (now (text .exit)) ⌝ }
+    ensures { λ r. ⌜ Written (now (text .entry)) at (countsLine stay removed) r (now (text .exit)) ⌝ }
 {
-    let mut end = put_count(text, at, b"kept ", kept as u64);
+    let mut end = put_count(text, at, b"stays ", stay as u64);
     end = put_count(text, end, b" removed ", removed as u64);
     put(text, end, b"\n")
 }
@@ -74,10 +75,10 @@ fn put_lines(text: &mut [u8], store: &[u8]) -> usize
 }
 
 // What is told of a store that was cleaned so, at the start of `text`; answers how many bytes it has.
-pub fn put_cleaning(text: &mut [u8], store: &[u8], cleaned: Cleaned) -> usize
+fn put_text(text: &mut [u8], store: &[u8], cleaned: Cleaned) -> usize
     requires { ⌜ (mostRecords + 1) * 128 ≤ length (now text) ⌝ }
     requires { ⌜ cleaned ≡ answerAt (listRefusal (length (now store)) mostRecords) (now store) ⌝ }
-    ensures { λ r. ⌜ r ≤ length (now (text .exit)) ⌝ }
+    ensures { λ r. ⌜ r ≤ (mostRecords + 1) * 128 ⌝ }
     ensures { λ r. ⌜ Written (now (text .entry)) 0 (cleaningText (now (store .entry))) r (now (text .exit)) ⌝ }
 {
     if cleaned.answer != Answer::DONE {
@@ -85,4 +86,17 @@ pub fn put_cleaning(text: &mut [u8], store: &[u8], cleaned: Cleaned) -> usize
     }
     let end = put_lines(text, store);
     put_counts(text, end, cleaned.kept, cleaned.removed)
+}
+
+// The clean-up of a store at the start of `out`; answers how many bytes it has. A refused store has no record that stays.
+pub fn put_cleaning(out: &mut [u8], store: &[u8]) -> usize
+    requires { ⌜ (mostRecords + 1) * 128 + storeLimit ≤ length (now out) ⌝ }
+    ensures { λ r. ⌜ r ≤ length (now (out .exit)) ⌝ }
+    ensures { λ r. ⌜ Written (now (out .entry)) 0 (cleaningOutput (now (store .entry))) r (now (out .exit)) ⌝ }
+{
+    let mut left = [0u8; Record::STORE];
+    let cleaned = clean_store(store, &mut left);
+    let end = put_text(out, store, cleaned);
+    let size = cleaned.kept * Record::SIZE;
+    put(out, end, &left[..size])
 }

@@ -1,56 +1,62 @@
-use mathlib.Core.Path.{refl}
+use mathlib.Core.Path.{_≡_, sym}
+use Prim.Native.Nat.{ℕ}
 use native.Mathlib.Omega.{arith}
-use Rattle.twins_spec.proofs.Listing.{whole-when}
-use Rattle.text.proofs.Texts.{said, written-length}
+use lib.ListN.{length, replicate, length-replicate}
+use lib.Seq.{length-take-le}
+use Rattle.records.specs.Store.{storeLimit}
 use Rattle.clean_text.proofs.Lines as lines
 use borrow.Author.Needs.{needs}
 use Rattle.clean_text.proofs.put_cleaning.Statement.{statement}
 use Rattle.clean_text.proofs.put_cleaning.Tie as tie
 
-put-refusal-requires : tie.Need-put-refusal-requires
-put-refusal-requires c κs = search needs
+room : length (replicate {A = ℕ} storeLimit 0) ≡ storeLimit
+room = length-replicate {A = ℕ} storeLimit 0
+
+slice-aggregate-clean-store : tie.Need-slice-aggregate-clean-store
+slice-aggregate-clean-store c = search needs
+
+clean-store-requires : tie.Need-clean-store-requires
+clean-store-requires c κs = search needs
+
+put-text-requires : tie.Need-put-text-requires
+put-text-requires c κs =
+    (search needs, lines.cleaned-is room (c .before .before .clean-store .ensures))
+
+mul-size : tie.Need-mul-size
+mul-size c =
+    let n = lines.left-size room (c .before .before .before .before .before .before .clean-store .ensures) in omega arith
+
+array-share-prefix-left : tie.Need-array-share-prefix-left
+array-share-prefix-left c =
+    let n = lines.left-size room (c .before .before .before .before .before .before .before .clean-store .ensures) in omega arith
+
+slice-aggregate-put : tie.Need-slice-aggregate-put
+slice-aggregate-put c =
+    let n = lines.left-size room (c .before .before .before .before .before .before .before .before .clean-store .ensures) in sym (length-take-le _ _ (omega arith))
+
+put-requires : tie.Need-put-requires
+put-requires c κs =
+    let f = lines.left-fits room (c .before .before .before .before .before .before .before .before .clean-store .ensures) in omega arith
 
 same-length : tie.Need-same-length
 same-length c = search needs
 
 returns : tie.Need-returns
 returns c =
-    let s = c .before .before .before .before .before .before .before .before in
-    (search needs, said (c .before .before .put-refusal .ensures .1) (lines.refused-text (s .args .store .now) (s .args .cleaned) (s .pre .1) (c .before .before .before .before .if1 .taken)))
-
-put-lines-requires : tie.Need-put-lines-requires
-put-lines-requires c κs =
-    let s = c .before .before .before .before .before in
-    let w = whole-when refl (lines.few (s .args .store .now) (s .args .cleaned) (s .pre .1) (c .before .if1 .left)) in
-    omega arith
-
-put-counts-requires : tie.Need-put-counts-requires
-put-counts-requires c κs =
-    let s = c .before .before .before .before .before .before .before .before .before in
-    let w = whole-when refl (lines.few (s .args .store .now) (s .args .cleaned) (s .pre .1) (c .before .before .before .before .before .if1 .left)) in
-    let h = c .before .before .before .put-lines .ensures in
-    let l = written-length (h .1) in
-    omega arith
-
-same-length-2 : tie.Need-same-length-2
-same-length-2 c = search needs
-
-returns-2 : tie.Need-returns-2
-returns-2 c =
-    let s = c .before .before .before .before .before .before .before .before .before .before .before .before in
-    let w = whole-when refl (lines.few (s .args .store .now) (s .args .cleaned) (s .pre .1) (c .before .before .before .before .before .before .before .before .if1 .left)) in
-    let h = c .before .before .before .before .before .before .put-lines .ensures in
-    let l = written-length (h .1) in
-    (search needs, lines.done-text (s .args .store .now) (s .args .cleaned) (s .pre .1) (c .before .before .before .before .before .before .before .before .if1 .left) (h .1) (c .before .before .put-counts .ensures .1))
+    let d = c .before .before .before .before .before .before .before .before .before .before .before .clean-store .ensures in
+    let f = lines.left-fits room d in
+    (search needs, lines.output-put room d (c .before .before .before .before .before .before .before .before .put-text .ensures .1) (c .before .before .put .ensures .1))
 
 pub put-cleaning-spec : {M : Type 1} → statement M
 put-cleaning-spec =
     tie.close
     (tie.spec
-    put-refusal-requires
+    slice-aggregate-clean-store
+    clean-store-requires
+    put-text-requires
+    mul-size
+    array-share-prefix-left
+    slice-aggregate-put
+    put-requires
     same-length
-    returns
-    put-lines-requires
-    put-counts-requires
-    same-length-2
-    returns-2)
+    returns)

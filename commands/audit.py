@@ -1,17 +1,18 @@
 """Audits the twins of a store, before any of them is deleted.
 
-usage: knot audit [--json] [STORE]
+usage: knot audit [--json] [--as-store] [STORE]
 
 Without a STORE it is read from standard input. First, behind '#', the version, the commit and the kit, and the store's name, SHA-256,
 bytes and records; then a line that names the columns, and a line a twin: number and tile, number and tile of the record that stays, the
 verdict, and 'covered' where the copies theorem speaks of the two. 'copy' has the same format and the same sixteen bytes as the record that
 stays, and 'knot clean' removes it; 'alike' has other bytes, and stays. The last line has the counts; 'copies' is what 'knot clean' tells as
 removed. --json tells the same facts for other programs. Of a refused store the line 'store refused' and the number are all.
+Of a file that looks like something else standard error says so; --as-store leaves that out.
 """
 import hashlib
 import json
 
-from . import house
+from . import house, kinds
 
 ENDS = "copies [0-9]+ alike [0-9]+ covered [0-9]+ before [0-9]+"
 
@@ -52,11 +53,11 @@ def headed(text, facts):
 
 
 def run(words):
-    as_json = words[:1] == ["--json"]
-    rest = words[1:] if as_json else words
+    words, as_store = house.flagged(words, "--as-store")
+    rest, as_json = house.flagged(words, "--json")
     if len(rest) > 1 or rest[:1] and rest[0].startswith("--"):
         raise house.Usage("it takes --json and one STORE")
-    store = house.read(rest[0] if rest else None, house.STORE)
+    store = kinds.store_to_show(rest[0] if rest else None, as_store)
     try:
         text, facts = audited(house.read_last, store)
     except house.Refused as error:

@@ -2,13 +2,14 @@
 
 usage: knot block TEXT OUT                    OUT then has the sixteen bytes of the block
        knot block TEXT --into STORE N OUT     OUT then has the store with the block in record N, whose tile and format stay
+                                              (--as-store: even where STORE looks like something else)
        knot block --picture TEXT              what the fields show, pixel by pixel, red, green and blue in hex; nothing is written
 
 Lines may come in any order. Those that a one-region block does not have may be left out, and so may region1, which follows from the
 partition. Of text that does not parse, or whose fields no block has, the reason is told and nothing is written. TEXT may be - for
 standard input.
 """
-from . import fieldtext, house
+from . import fieldtext, house, kinds
 
 
 def show(path):
@@ -18,6 +19,7 @@ def show(path):
 
 
 def run(words):
+    words, as_store = house.flagged(words, "--as-store")
     if words[:1] == ["--picture"] and len(words) == 2:
         show(words[1])
         return
@@ -31,7 +33,7 @@ def run(words):
     if not into:
         house.write_whole(out, fieldtext.block_of(said, name))
         return
-    store, n = house.read(words[2], house.STORE), house.number(words[3], "N")
+    store, n = kinds.store_to_change(words[2], as_store), house.number(words[3], "N")
     record = house.record_in(store, n)
     if said["format"] != [record[4]]:
         said_format, own = fieldtext.FORMATS[said["format"][0]], fieldtext.FORMATS[record[4]]

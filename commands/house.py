@@ -47,6 +47,9 @@ read_last = None
 # The programs that are known to be built, in this run.
 built = set()
 
+# What a command has to say of its input beside its result: a line of its own, or the end of the line that tells a refusal.
+remarks = []
+
 
 class Usage(Exception):
     """The words of the command line do not fit: status 2."""
@@ -161,6 +164,16 @@ def keep_apart(out, *inputs):
     for given in inputs:
         if same_file(out, given):
             raise Usage(f"{shown(out)} is {shown(given)} itself, which it would overwrite: name another file")
+
+
+def remark(text):
+    """Says something of what was read last, on standard error, when the command has ended."""
+    remarks.append((read_last, text))
+
+
+def flagged(words, flag):
+    """The words without a flag, and whether it was among them."""
+    return [word for word in words if word != flag], flag in words
 
 
 def number(word, what):
@@ -309,12 +322,15 @@ def main(words):
     said = " ".join(["knot", *words[:1]]) if words[:1] and words[0] in COMMANDS else "knot"
     try:
         dispatch(words)
+        for name, text in remarks:
+            tell(f"{said}: {name}: {text}")
         return DONE
     except Usage as error:
         tell(f"{said}: {error}; '{said} --help' tells how it is called")
         return USAGE
     except Refused as error:
-        tell(f"{said}: {error.name + ': ' if error.name else ''}refused, {error.number}: {error}")
+        reasons = [str(error), *(text for _, text in remarks)]
+        tell(f"{said}: {error.name + ': ' if error.name else ''}refused, {error.number}: {'; '.join(reasons)}")
         try:
             put(error.line)
         except Trouble as trouble:

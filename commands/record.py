@@ -6,9 +6,10 @@ usage: knot record take STORE N OUT              OUT then has record N, 24 bytes
        knot record make TILE FORMAT BLOCK OUT    OUT then has a record of a tile number, signed or unsigned, and a block's 16 bytes
 
 A record of 24 bytes is a store of one, and an empty file a store of none. A RECORD that the record call refuses is not put into a store.
+A STORE that looks like something else is refused with 28, unless --as-store is said.
 OUT is written whole or not at all, and is none of the files that are read.
 """
-from . import fieldtext, house
+from . import fieldtext, house, kinds
 
 
 def checked(store, n):
@@ -26,31 +27,31 @@ def whole_record(path):
     return house.record_in(record, 0)
 
 
-def take(store_path, n_word, out):
+def take(as_store, store_path, n_word, out):
     n = house.number(n_word, "N")
     house.keep_apart(out, store_path)
-    store = house.read(store_path, house.STORE)
+    store = kinds.store_to_change(store_path, as_store)
     checked(store, n)
     house.write_whole(out, store[n * house.RECORD:(n + 1) * house.RECORD])
 
 
-def put(store_path, n_word, record_path, out):
+def put(as_store, store_path, n_word, record_path, out):
     n = house.number(n_word, "N")
     house.keep_apart(out, store_path, record_path)
-    store = house.read(store_path, house.STORE)
+    store = kinds.store_to_change(store_path, as_store)
     checked(store, n)
     house.write_whole(out, store[:n * house.RECORD] + whole_record(record_path) + store[(n + 1) * house.RECORD:])
 
 
-def append(store_path, record_path, out):
+def append(as_store, store_path, record_path, out):
     house.keep_apart(out, store_path, record_path)
-    store = house.read(store_path, house.STORE)
+    store = kinds.store_to_change(store_path, as_store)
     if len(house.record_answers(store)) == house.STORE // house.RECORD:
         raise house.record_refused(5, "it has 2,000 records, the most that a store has")
     house.write_whole(out, store + whole_record(record_path))
 
 
-def make(tile_word, format_word, block_path, out):
+def make(as_store, tile_word, format_word, block_path, out):
     tile = house.number(tile_word, "TILE")
     if tile >= 2 ** 32 or format_word not in fieldtext.FORMATS:
         raise house.Usage("TILE is below 4,294,967,296 and FORMAT is signed or unsigned")
@@ -66,7 +67,8 @@ PARTS = {"take": (take, 3), "put": (put, 4), "append": (append, 3), "make": (mak
 
 
 def run(words):
+    words, as_store = house.flagged(words, "--as-store")
     part, count = PARTS.get(words[0] if words else "", (None, 0))
     if part is None or len(words) != 1 + count:
         raise house.Usage("it takes take, put, append or make, and their words")
-    part(*words[1:])
+    part(as_store, *words[1:])

@@ -1,0 +1,107 @@
+"""Which kind of file a file is: a store of 24-byte records, a store of records with a place, or neither.
+
+Neither form has a header, so that the bytes of one may pass for the other: the 32-byte records of a whole probe always have a length that
+24 divides. Document 01's calls take such a file as it is given. The commands look at both readings first, by the proved program `checking`.
+A file looks like something else than the store that it is given as when one of its records is refused and
+
+- it begins as a DDS file or a Portable Float Map does, or
+- the other reading has records, and none of them is refused, or
+- it has more than one record, and more than half of them are refused.
+
+A length that no such store has counts as a refused record. So a store without a refused record always passes, as an empty one does, and a
+single refused record is told as what it is: a faulty record. A store of black tiles reads as records with a place too, nearly all of them in
+one place: as such a store counts only one of which three quarters of the placed records have places of their own.
+"""
+import re
+
+from . import house
+
+# The two forms of a store by the bytes of a record; face, column and row of a record that is not placed.
+PLAIN, PLACED = 24, 32
+NO_PLACE = b"\xff\0\0\0\0"
+# The most bytes of a store of either form: of a longer file one byte more is read, which is enough to refuse it.
+MOST = house.PLACED_STORE
+
+SIGNATURES = {
+    rb"DDS \x7c\0\0\0": "a DDS file",
+    rb"PF\n[0-9]+ [0-9]+\n": "a Portable Float Map",
+}
+FAULT = rb"(\d+) (\d+) (\d+)\n"
+COUNTS = rb"records (\d+) refused (\d+) damaged (\d+)\n"
+
+
+class Reading:
+    """What the record calls say of a file in one of the two forms: its faulty records as (record, tile, cause), and the counts. `bad_length`
+    is 5 or 6 for a length that no store of that form has, else 0."""
+
+    def __init__(self, data, form):
+        self.form = form
+        self.places = [place for place in (data[at + 5:at + 10] for at in range(0, len(data), PLACED)) if place != NO_PLACE]
+        text, _ = house.program("checking", bytes([form]) + data)
+        length = re.fullmatch(rb"store refused ([56])\n", text)
+        self.bad_length = int(length[1]) if length else 0
+        whole = re.fullmatch(rb"((?:\d+ \d+ \d+\n)*)" + COUNTS, text)
+        self.faults = [tuple(map(int, fault)) for fault in re.findall(FAULT, whole[1])] if whole else []
+        self.records, self.refused, self.damaged = map(int, whole.groups()[1:]) if whole else (0, 0, 0)
+        if not length and not (whole and len(self.faults) == self.refused + self.damaged and len(data) == self.records * form):
+            raise house.Trouble("the program checking did not end its text")
+
+    def has_refused(self):
+        return self.bad_length != 0 or self.refused > 0
+
+    def fits(self):
+        """There are records, none is refused, and their places are not nearly all one."""
+        return self.records > 0 and not self.has_refused() and (self.form == PLAIN or 4 * len(set(self.places)) >= 3 * len(self.places))
+
+    def mostly_refused(self):
+        return self.records > 1 and 2 * self.refused > self.records
+
+
+def store_in_words(form, records):
+    return f"a store of {records:,} record{'' if records == 1 else 's'}{' with a place, such as a probe' if form == PLACED else ' of 24 bytes'}"
+
+
+def looks_like(data, form):
+    """What a file that is given as a store of `form` looks like instead, in words; None where it may well be that store."""
+    own = Reading(data, form)
+    if not own.has_refused():
+        return None
+    for signature, words in SIGNATURES.items():
+        if re.match(signature, data):
+            return words
+    other = Reading(data, PLACED if form == PLAIN else PLAIN)
+    if other.fits():
+        return store_in_words(other.form, other.records)
+    return f"no store at all: {own.refused:,} of its {own.records:,} records are refused" if own.mostly_refused() else None
+
+
+def form_of(data):
+    """The form in which a file is a store by the rule above: that of 24-byte records unless only the other one fits."""
+    return PLACED if Reading(data, PLAIN).has_refused() and Reading(data, PLACED).fits() else PLAIN
+
+
+def to_change(path, form, as_store):
+    data = house.read(path, MOST)
+    looks = None if as_store else looks_like(data, form)
+    if looks:
+        raise house.Refused(28, "store refused 28\n", f"it looks like {looks}; --as-store overrides this")
+    return data
+
+
+def store_to_change(path, as_store=False):
+    """The bytes of a store of 24-byte records for a command that writes, or that people sign: refused with 28 where it looks like something else."""
+    return to_change(path, PLAIN, as_store)
+
+
+def placed_to_change(path, as_store=False):
+    """The same of a store of records with a place."""
+    return to_change(path, PLACED, as_store)
+
+
+def store_to_show(path, as_store=False):
+    """The bytes of a store of 24-byte records for a command that only shows: with a remark where it looks like something else."""
+    data = house.read(path, MOST)
+    looks = None if as_store else looks_like(data, PLAIN)
+    if looks:
+        house.remark(f"it looks like {looks}; --as-store silences this")
+    return data

@@ -1,20 +1,21 @@
 """Audits the twins of a store, before any of them is deleted.
 
-usage: knot audit [--json] [--as-store] [STORE]
-
-Without a STORE it is read from standard input. First, behind '#', the version, the commit and the kit, and the store's name, SHA-256,
-bytes and records; then a line that names the columns, and a line a twin: number and tile, number and tile of the record that stays, the
-verdict, and 'covered' where the copies theorem speaks of the two. 'copy' has the same format and the same sixteen bytes as the record that
-stays, and 'knot clean' removes it; 'alike' has other bytes, and stays. The last line has the counts; 'copies' is what 'knot clean' tells as
-removed. --json tells the same facts for other programs. Of a refused store the line 'store refused' and the number are all.
-Of a file that looks like something else standard error says so; --as-store leaves that out.
+Without a STORE it reads standard input. Lines that begin with '#' have the version, the commit and the kit, and the store's name, SHA-256,
+bytes and records. Then a line names the columns, and a line follows for each twin: number and tile, number and tile of the record that stays, the
+verdict, and 'covered' where the copies theorem speaks of the two. A 'copy' has the same format and the same sixteen bytes as the record that
+stays, and 'knot clean' removes it; an 'alike' has other bytes, and stays. The last line has the counts. A refused store is the line 'store
+refused' and the number.
 """
-import hashlib
-import json
-
 from . import house, kinds
+from .line import AS_STORE, JSON, Line
 
-ENDS = "copies [0-9]+ alike [0-9]+ covered [0-9]+ before [0-9]+"
+LINE = Line("[STORE]", options=[JSON, AS_STORE], example="knot audit samples/covered.store")
+ENDS = house.Text(
+    "[0-9]+ [0-9]+ [0-9]+ [0-9]+ (?:copy|alike) (?:covered|-)",
+    "(?:damaged D refused X )?copies C alike A covered V before B",
+    rows=lambda damaged, refused, copies, alike, covered, before: copies + alike,
+    head="record tile stays its-tile verdict theorem\n",
+)
 
 
 def identity():
@@ -24,6 +25,7 @@ def identity():
 
 def audited(name, store):
     """What the audit tells of a store: the program's text, and the same facts by their names."""
+    import hashlib
     text = house.over_store("audit", store, ENDS).decode()
     _, *rows, last = [line.split() for line in text.splitlines()]
     twins = [
@@ -52,16 +54,14 @@ def headed(text, facts):
     return "\n".join(lines) + "\n" + text
 
 
-def run(words):
-    words, as_store = house.flagged(words, "--as-store")
-    rest, as_json = house.flagged(words, "--json")
-    if len(rest) > 1 or rest[:1] and rest[0].startswith("--"):
-        raise house.Usage("it takes --json and one STORE")
-    store = kinds.store_to_show(rest[0] if rest else None, as_store)
-    try:
-        text, facts = audited(house.read_last, store)
-    except house.Refused as error:
-        if as_json:
-            error.line = json.dumps({"refused": error.number}) + "\n"
-        raise
-    house.put(json.dumps(facts, indent=1) + "\n" if as_json else headed(text, facts).encode(errors="surrogateescape"))
+def in_colour(text):
+    return text.replace(" copy ", f" {house.painted('copy', 'good')} ").replace(" alike -", f" {house.painted('alike', 'doubtful')} -")
+
+
+def run(asked):
+    store = kinds.store_to_show(asked.store, asked.as_store)
+    text, facts = audited(house.read_last, store)
+    if asked.json:
+        house.put_json(facts)
+    else:
+        house.put(headed(in_colour(text), facts))

@@ -11,6 +11,8 @@ FORMATS = ["unsigned", "signed"]
 CHANNELS = ["red", "green", "blue"]
 # The most bytes of a text: some thirty times what a text has.
 TEXT = 16_384
+# An answer of write_blocks, a number and the block; one of show_fields, a number and the 48 values.
+ANSWER, PICTURE = 17, 97
 
 NUMBER = "([0-9]{1,9})"
 ENDPOINT = " ".join(f"{channel} {NUMBER}" for channel in CHANNELS)
@@ -21,6 +23,13 @@ LINES |= {"partition": (NUMBER, 1), "region1": (NUMBER, 1)}
 LINES |= {f"indices {row}": (" ".join(4 * [NUMBER]), 1) for row in range(4)}
 # What is 0 where a text does not say it: the text of a one-region block has none of these lines. The count of region 1 is the partition's.
 LEFT_OUT = {"endpoint 2": [0, 0, 0], "endpoint 3": [0, 0, 0], "partition": [0]}
+
+
+def format_number(word):
+    """The number of a format that the command line names."""
+    if word not in FORMATS:
+        raise house.Usage(f"a format is signed or unsigned, and not '{house.shown(word, 40)}'")
+    return FORMATS.index(word)
 
 
 def refused(reason, name=None):
@@ -77,12 +86,11 @@ def record_of(said):
 def written(texts):
     """The block that the proved writer makes of each, None for a refused one."""
     records = [record_of(said) for said in texts]
-    answers, _ = house.program("write_blocks", b"".join(record for record in records if record))
-    made = iter([answers[k:k + 17] for k in range(0, len(answers), 17)])
-    blocks = [next(made, b"") if record else b"\n" for record in records]
-    if any(len(answer) not in (1, 17) for answer in blocks):
-        raise house.Trouble("the program write_blocks did not answer every record")
-    return [answer[1:] if answer[0] == 0 else None for answer in blocks]
+    asked = [record for record in records if record]
+    answers = house.ask("write_blocks", b"".join(asked), lambda answers: len(answers) == ANSWER * len(asked))
+    made = iter([answers[k:k + ANSWER] for k in range(0, len(answers), ANSWER)])
+    blocks = [next(made) if record else None for record in records]
+    return [answer[1:] if answer and answer[0] == 0 else None for answer in blocks]
 
 
 def plain(said, **changes):
@@ -145,16 +153,14 @@ def block_of(said, name=None):
     said = {"region1": [region1]} | said
     block = written([said])[0]
     if block is None:
-        raise refused("; ".join(causes(said, region1)) or house.MEANINGS[10], name)
+        raise refused("; ".join(causes(said, region1)) or house.meaning(10), name)
     return block
 
 
 def picture_of(fields):
     """The text of what the 44 bytes of a record show, before any block is written of them: a line a pixel, its three patterns in hex."""
     numbers = [*fields[:2], *struct.unpack("<12H", fields[2:26]), *fields[26:]]
-    shown, _ = house.program("show_fields", struct.pack("<32H", *numbers))
-    if len(shown) != 97:
-        raise house.Trouble("the program show_fields gave no picture")
+    shown = house.ask("show_fields", struct.pack("<32H", *numbers), lambda answer: len(answer) == PICTURE)
     if shown[0] != 0:
         raise house.Refused(shown[0], f"block refused {shown[0]}\n")
     values = struct.unpack("<48H", shown[1:])

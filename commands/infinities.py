@@ -1,18 +1,26 @@
 """Names the records of a store in which a value is minus infinity.
 
-usage: knot infinities [--as-store] [STORE]
-
-Without a STORE it is read from standard input. A line a record that has such a value: number, tile, how many of its 48 values are minus
-infinity, and the pixel and channel of the first; then the counts. Of a refused store the line 'store refused' and the number are all.
-Of a file that looks like something else standard error says so; --as-store leaves that out.
+Without a STORE it reads standard input. It prints a line for each such record: number, tile, how many of its 48 values are minus infinity,
+and the pixel and channel of the first. The last line has the counts. A refused store is the line 'store refused' and the number.
 """
 from . import house, kinds
+from .line import AS_STORE, JSON, Line
 
-ENDS = "records [0-9]+ values [0-9]+"
+LINE = Line("[STORE]", options=[JSON, AS_STORE], example="knot infinities samples/four.store")
+ENDS = house.Text("[0-9]+ [0-9]+ [0-9]+ [0-9]+ (?:red|green|blue)", "records R values V", rows=lambda records, values: records)
 
 
-def run(words):
-    words, as_store = house.flagged(words, "--as-store")
-    if len(words) > 1 or words[:1] and words[0].startswith("--"):
-        raise house.Usage("it takes one STORE")
-    house.put(house.over_store("infinities", kinds.store_to_show(words[0] if words else None, as_store), ENDS))
+def facts_of(text):
+    *rows, last = [line.split() for line in text.decode().splitlines()]
+    return {
+        "records": [{"record": int(n), "tile": int(tile), "values": int(values), "pixel": int(pixel), "channel": channel} for n, tile, values, pixel, channel in rows],
+        "counts": {word: int(number) for word, number in zip(last[::2], last[1::2])},
+    }
+
+
+def run(asked):
+    text = house.over_store("infinities", kinds.store_to_show(asked.store, asked.as_store), ENDS)
+    if asked.json:
+        house.put_json({"name": house.read_last, **facts_of(text)})
+    else:
+        house.put(text)

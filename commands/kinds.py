@@ -26,8 +26,12 @@ SIGNATURES = {
     rb"DDS \x7c\0\0\0": "a DDS file",
     rb"PF\n[0-9]+ [0-9]+\n": "a Portable Float Map",
 }
-FAULT = rb"(\d+) (\d+) (\d+)\n"
-COUNTS = rb"records (\d+) refused (\d+) damaged (\d+)\n"
+CHECKING = house.Text(
+    "[0-9]+ [0-9]+ (?:1|7|12|17)",
+    "records R refused X damaged D",
+    rows=lambda records, refused, damaged: refused + damaged,
+    records=lambda records, refused, damaged: records,
+)
 
 
 class Reading:
@@ -35,23 +39,27 @@ class Reading:
     is 5 or 6 for a length that no store of that form has, else 0."""
 
     def __init__(self, data, form):
-        self.form = form
+        self.form, self.bad_length, self.faults = form, 0, []
+        self.records = self.refused = self.damaged = 0
         self.places = [place for place in (data[at + 5:at + 10] for at in range(0, len(data), PLACED)) if place != NO_PLACE]
-        text, _ = house.program("checking", bytes([form]) + data)
-        length = re.fullmatch(rb"store refused ([56])\n", text)
-        self.bad_length = int(length[1]) if length else 0
-        whole = re.fullmatch(rb"((?:\d+ \d+ \d+\n)*)" + COUNTS, text)
-        self.faults = [tuple(map(int, fault)) for fault in re.findall(FAULT, whole[1])] if whole else []
-        self.records, self.refused, self.damaged = map(int, whole.groups()[1:]) if whole else (0, 0, 0)
-        if not length and not (whole and len(self.faults) == self.refused + self.damaged and len(data) == self.records * form):
-            raise house.Trouble("the program checking did not end its text")
+        try:
+            *rows, counts = house.over_store("checking", bytes([form]) + data, CHECKING, size=form).split(b"\n")[:-1]
+        except house.Refused as error:
+            self.bad_length = error.number
+            return
+        self.faults = [tuple(map(int, row.split())) for row in rows]
+        self.records, self.refused, self.damaged = map(int, counts.split()[1::2])
 
     def has_refused(self):
         return self.bad_length != 0 or self.refused > 0
 
+    def has_places_apart(self):
+        """Three quarters of the placed records have places of their own, which those of a true store of that form have."""
+        return self.form == PLAIN or 4 * len(set(self.places)) >= 3 * len(self.places)
+
     def fits(self):
         """There are records, none is refused, and their places are not nearly all one."""
-        return self.records > 0 and not self.has_refused() and (self.form == PLAIN or 4 * len(set(self.places)) >= 3 * len(self.places))
+        return self.records > 0 and not self.has_refused() and self.has_places_apart()
 
     def mostly_refused(self):
         return self.records > 1 and 2 * self.refused > self.records
@@ -75,9 +83,13 @@ def looks_like(data, form):
     return f"no store at all: {own.refused:,} of its {own.records:,} records are refused" if own.mostly_refused() else None
 
 
-def form_of(data):
-    """The form in which a file is a store by the rule above: that of 24-byte records unless only the other one fits."""
-    return PLACED if Reading(data, PLAIN).has_refused() and Reading(data, PLACED).fits() else PLAIN
+def likelier_reading(data):
+    """The reading of a file that has fewer of its records refused: that of 24-byte records where both have as many."""
+    def share(reading):
+        return 2 if reading.bad_length or not reading.has_places_apart() else reading.refused / max(reading.records, 1)
+
+    plain = Reading(data, PLAIN)
+    return min(plain, Reading(data, PLACED), key=share) if plain.has_refused() else plain
 
 
 def to_change(path, form, as_store):

@@ -1,18 +1,45 @@
 """Lists a store of tiles, record by record.
 
-usage: knot list [--strict] [--as-store] [STORE]
-
-Without a STORE it is read from standard input. A line a record: number, tile, answer, mode, mark (0 kept, 1 twin, 2 refused) and pixel
-15's three values in hex; then the counts. With --strict a store in which a record that is not refused has a reserved mode is refused
-whole, and standard error has the number of the first such record. Of a refused store the line 'store refused' and the number are all.
-A file that looks like something else is listed all the same, and standard error says what it looks like; --as-store leaves that out.
+Without a STORE it reads standard input. It prints a line for each record: number, tile, answer, mode, mark and the three values of pixel 15
+in hex. Mark 0 is the first record of its picture, 1 a twin of an earlier one, 2 a refused record. The last line has the counts of the three marks.
+A refused store is the line 'store refused' and the number. If the file looks like something else, it is listed all the same and standard
+error says what it looks like.
 """
 from . import house, kinds
+from .line import AS_STORE, JSON, Line, Option
+
+LINE = Line(
+    "[STORE]",
+    options=[
+        Option("--strict", "refuse the store with 12 where a record that is not refused has a reserved mode; standard error names the first"),
+        Option("--head", "print a line of column headings first"),
+        JSON,
+        AS_STORE,
+    ],
+    example="knot list samples/four.store",
+)
+HEADINGS = "record tile answer mode mark red green blue"
 
 
-def run(words):
-    words, as_store = house.flagged(words, "--as-store")
-    rest, strict = house.flagged(words, "--strict")
-    if len(rest) > 1 or rest[:1] and rest[0].startswith("--"):
-        raise house.Usage("it takes --strict and one STORE")
-    house.put(house.listed(kinds.store_to_show(rest[0] if rest else None, as_store), strict))
+def facts_of(text):
+    """A listing by names: what document 01 prints as '-' is null."""
+    def value(word):
+        return None if word == "-" else int(word)
+
+    *rows, last = [line.split() for line in text.decode().splitlines()]
+    return {
+        "records": [
+            {"record": int(n), "tile": int(tile), "answer": int(answer), "mode": value(mode), "mark": int(mark), "pixel15": None if values[0] == "-" else values}
+            for n, tile, answer, mode, mark, *values in rows
+        ],
+        "counts": {word: int(number) for word, number in zip(last[::2], last[1::2])},
+    }
+
+
+def run(asked):
+    store = kinds.store_to_show(asked.store, asked.as_store)
+    text = house.listed(store, asked.strict)
+    if asked.json:
+        house.put_json({"name": house.read_last, **facts_of(text)})
+        return
+    house.put((HEADINGS + "\n").encode() + text if asked.head else text)

@@ -1,26 +1,29 @@
 """Writes the picture of a DDS file of at most 64 by 64 pixels as a Portable Float Map.
 
-usage: knot pfm IN.dds OUT.pfm
-
-OUT is a colour Portable Float Map, little-endian, rows from the bottom up; each value is exactly its half-float pattern, and minus infinity
-stays so. Of what is refused the line 'file refused' and the number are all, and nothing is written: 13 the header is not ours, 14 a side is
-not 1 to 64, 15 the block bytes are short or left over, 16 a side is no multiple of 4.
+OUT is a colour Portable Float Map, little-endian, rows from the bottom up. Each value is exactly its half-float pattern, and minus infinity
+stays so. A refused file is the line 'file refused' and the number, and nothing is written: 13 the header is not ours, 14 a side is not 1 to 64,
+15 the block bytes are short or left over, 16 a side is no multiple of 4.
 """
 from . import house
-from .dds import apart, refused
+from .dds import refused, word_at
+from .line import Line
 
-# the bytes of the largest file that is taken: the header and 256 blocks
-MOST = 4244
+LINE = Line("FILE OUT.pfm", example="knot pfm samples/eight.dds eight.pfm")
+# The bytes of the largest file that is taken, the header and 256 blocks, and its sides.
+MOST, MOST_SIDE = 4244, 64
 
 
-def run(words):
-    if len(words) != 2 or any(word.startswith("--") for word in words):
-        raise house.Usage("it takes IN.dds and OUT.pfm")
-    given, out = words
-    apart(given, out)
-    told, _ = house.program("pfm_files", house.read(given, MOST))
-    if len(told) == 1 and told != b"\0":
-        raise refused(told[0])
-    if told[:4] != b"\0PF\n":
-        raise house.Trouble("the program pfm_files gave no answer")
-    house.write_whole(out, told[1:])
+def is_whole(data, answer):
+    """A refusal's number; or 0 and the whole file of the sides that the header says."""
+    width, height = word_at(data, 16), word_at(data, 12)
+    head = b"\0PF\n%d %d\n-1.0\n" % (width, height)
+    return len(answer) == 1 and answer != b"\0" or answer.startswith(head) and len(answer) == len(head) + 12 * width * height
+
+
+def run(asked):
+    house.keep_apart(asked.out, asked.file)
+    data = house.read(asked.file, MOST)
+    told = house.ask("pfm_files", data, lambda answer: is_whole(data, answer))
+    if told[0] != 0:
+        raise refused(told[0], data, MOST_SIDE)
+    house.write_whole(asked.out, told[1:])

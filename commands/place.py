@@ -1,13 +1,14 @@
 """Moves a store of 24-byte records to records with a place.
 
-usage: knot place [--as-store] OLD NEW
-
-NEW becomes a store of 32-byte records, none of them placed, with the tiles, formats and blocks of OLD; 'moved' and the number of records
-are printed. 'knot unplace' moves it back to the same bytes. Where OLD is refused, the line 'store refused' and the number are all, and
-NEW stays as it is: 5 or 6 for the store's length, then the first refused record's 1 or 7. A file that looks like something else is refused with 28, unless --as-store is said. NEW may not be OLD.
+MADE becomes a store of 32-byte records, none of them placed, with the tiles, formats and blocks of GIVEN. It prints 'moved' and the number of
+records. 'knot unplace' moves the store back to the same bytes. A refused store is the line 'store refused' and the number, and MADE stays as it
+is: 28 where the file looks like something else, 5 or 6 for its length, then 1 or 7 of the first refused record. MADE may not be GIVEN.
 """
 from . import kinds, moving
+from .line import AS_STORE, Line
+
+LINE = Line("GIVEN MADE", options=[AS_STORE], example="knot place samples/twins.store new.store")
 
 
-def run(words):
-    moving.move(words, "place_tiles", kinds.store_to_change, kinds.PLAIN, kinds.PLACED)
+def run(asked):
+    moving.move(asked, "place_tiles", kinds.store_to_change, kinds.PLAIN, kinds.PLACED)

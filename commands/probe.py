@@ -1,42 +1,55 @@
 """Says whether a store is a probe, or writes a face of it.
 
-usage: knot probe [--as-store] STORE EDGE
-       knot probe [--as-store] STORE EDGE FACE OUT.pfm
-
-STORE has records with a place; EDGE is the blocks on an edge, 1 to 16. Of a probe the line 'probe', its edge and the number of its records
-is printed. Else the line is 'store refused', the number of the refusal, and 'record' and the number of the first faulty record where a
-record is why. With a FACE, 0 to 5, that face is written as a Portable Float Map, and nothing is printed: each block in the format of its own
-record, so that signed and unsigned ones may stand on one face. On a refusal no file is written.
-A file that looks like something else is refused with 28, unless --as-store is said.
+STORE has records with a place, and EDGE is the number of blocks on an edge, 1 to 16. If the store is a probe, it prints 'probe', the edge and
+the number of records. Else it prints 'store refused', the number and, if a record is why, 'record' and the number of the first such record.
+With a FACE, 0 to 5, it prints nothing and writes that face as a Portable Float Map: each block in the format of its own record, so that signed
+and unsigned ones may be on one face. A refusal writes no file. A file that looks like something else is refused with 28.
 """
+import re
+
 from . import house, kinds
+from .line import AS_STORE, JSON, Line
 
+LINE = Line("STORE EDGE", "STORE EDGE FACE OUT.pfm", options=[JSON, AS_STORE], example="knot probe samples/small.probe 2\nknot probe samples/small.probe 2 0 face.pfm")
 TELL, FACE = 0, 1
+# The program takes an edge and a face of four bytes: a higher number is refused as this one is.
 MOST = 2**32 - 1
+REFUSED = rb"store refused ([0-9]+)(?: record ([0-9]+))?\n"
 
 
-def number(word):
-    if not word.isascii() or not word.isdigit():
-        raise house.Usage(f"'{word[:40]}' is not a number")
-    return min(int(word[:400]), MOST).to_bytes(4, "little")
-
-
-def ask(path, kind, edge, face, as_store):
-    store = kinds.placed_to_change(path, as_store)
-    answer, told = house.program("probe_store", bytes([kind]) + edge + face + store)
-    if answer.startswith(b"store refused "):
-        raise house.Refused(int(answer.split()[2]), answer)
+def ask(asked, kind, edge, face, is_whole):
+    """What the program answers, where it does not refuse."""
+    store = kinds.placed_to_change(asked.store, asked.as_store)
+    question = bytes([kind]) + b"".join(min(number, MOST).to_bytes(4, "little") for number in (edge, face))
+    answer = house.ask("probe_store", question + store, lambda answer: re.fullmatch(REFUSED, answer) or is_whole(answer, len(store)))
+    refused = re.fullmatch(REFUSED, answer)
+    if refused:
+        record = {"record": int(refused[2])} if refused[2] else {}
+        reason = house.meaning(int(refused[1])) + (f": record {record['record']}" if record else "")
+        raise house.Refused(int(refused[1]), answer, reason, **record)
     return answer
 
 
-def run(words):
-    words, as_store = house.flagged(words, "--as-store")
-    if len(words) == 2:
-        house.put(ask(words[0], TELL, number(words[1]), bytes(4), as_store))
-    elif len(words) == 4:
-        path, edge, face, out = words
-        if house.same_file(path, out):
-            raise house.Usage("the face would be written over the store")
-        house.write_whole(out, ask(path, FACE, number(edge), number(face), as_store))
+def tell(asked, edge):
+    records = 6 * edge * edge
+    line = f"probe edge {edge} records {records}\n".encode()
+    ask(asked, TELL, edge, 0, lambda answer, length: answer == line and length == records * kinds.PLACED)
+    if asked.json:
+        house.put_json({"name": house.read_last, "edge": edge, "records": records})
     else:
-        raise house.Usage("it takes STORE and EDGE, or STORE, EDGE, FACE and OUT.pfm")
+        house.put(house.painted(line.decode().rstrip("\n"), "good") + "\n")
+
+
+def write_face(asked, edge, face):
+    house.keep_apart(asked.out, asked.store)
+    head = b"PF\n%d %d\n-1.0\n" % (4 * edge, 4 * edge)
+    size = len(head) + 12 * (4 * edge) ** 2
+    house.write_whole(asked.out, ask(asked, FACE, edge, face, lambda answer, _: answer.startswith(head) and len(answer) == size))
+
+
+def run(asked):
+    edge = house.number(asked.edge, "EDGE")
+    if asked.face is None:
+        tell(asked, edge)
+    else:
+        write_face(asked, edge, house.number(asked.face, "FACE"))

@@ -1,22 +1,22 @@
 """Takes a record out of a store, puts one back, appends one, or makes one of a block.
 
-usage: knot record take STORE N OUT              OUT then has record N, 24 bytes, whatever is in it
-       knot record put STORE N RECORD OUT        OUT then has the store with RECORD as its record N
-       knot record append STORE RECORD OUT       OUT then has the store with RECORD behind its last
-       knot record make TILE FORMAT BLOCK OUT    OUT then has a record of a tile number, signed or unsigned, and a block's 16 bytes
-
-A record of 24 bytes is a store of one, and an empty file a store of none. A RECORD that the record call refuses is not put into a store.
-A STORE that looks like something else is refused with 28, unless --as-store is said.
-OUT is written whole or not at all, and is none of the files that are read.
+take writes record N of STORE, 24 bytes, whatever is in it. put writes STORE with RECORD as its record N. append writes STORE with RECORD
+behind its last. make writes a record of a tile number, a FORMAT (signed or unsigned) and the 16 bytes of a BLOCK. A record of 24 bytes is a
+store of one, and an empty file a store of none. A RECORD that the record call refuses is not put into a store, and a STORE that looks like
+something else is refused with 28. OUT is written whole or not at all, and is none of the files that are read.
 """
 from . import fieldtext, house, kinds
+from .line import AS_STORE, Line
 
-
-def checked(store, n):
-    """There is a record n, whatever the record call answers for it."""
-    count = len(house.record_answers(store))
-    if n >= count:
-        raise house.no_record(n, count)
+LINE = Line(
+    "take STORE N OUT",
+    "put STORE N RECORD OUT",
+    "append STORE RECORD OUT",
+    "make TILE FORMAT BLOCK OUT",
+    options=[AS_STORE],
+    example="knot record take samples/four.store 1 one.record",
+)
+HIGHEST_TILE = 2**32 - 1
 
 
 def whole_record(path):
@@ -27,48 +27,46 @@ def whole_record(path):
     return house.record_in(record, 0)
 
 
-def take(as_store, store_path, n_word, out):
-    n = house.number(n_word, "N")
-    house.keep_apart(out, store_path)
-    store = kinds.store_to_change(store_path, as_store)
-    checked(store, n)
-    house.write_whole(out, store[n * house.RECORD:(n + 1) * house.RECORD])
+def store_with(asked):
+    """The store, and where its record N begins: there is one, whatever the record call answers for it."""
+    n = house.number(asked.n, "N")
+    store = kinds.store_to_change(asked.store, asked.as_store)
+    count = len(house.record_answers(store))
+    if n >= count:
+        raise house.no_record(n, count)
+    return store, n * house.RECORD
 
 
-def put(as_store, store_path, n_word, record_path, out):
-    n = house.number(n_word, "N")
-    house.keep_apart(out, store_path, record_path)
-    store = kinds.store_to_change(store_path, as_store)
-    checked(store, n)
-    house.write_whole(out, store[:n * house.RECORD] + whole_record(record_path) + store[(n + 1) * house.RECORD:])
+def take(asked):
+    house.keep_apart(asked.out, asked.store)
+    store, at = store_with(asked)
+    return store[at:at + house.RECORD]
 
 
-def append(as_store, store_path, record_path, out):
-    house.keep_apart(out, store_path, record_path)
-    store = kinds.store_to_change(store_path, as_store)
+def put(asked):
+    house.keep_apart(asked.out, asked.store, asked.record)
+    store, at = store_with(asked)
+    return store[:at] + whole_record(asked.record) + store[at + house.RECORD:]
+
+
+def append(asked):
+    house.keep_apart(asked.out, asked.store, asked.record)
+    store = kinds.store_to_change(asked.store, asked.as_store)
     if len(house.record_answers(store)) == house.STORE // house.RECORD:
         raise house.record_refused(5, "it has 2,000 records, the most that a store has")
-    house.write_whole(out, store + whole_record(record_path))
+    return store + whole_record(asked.record)
 
 
-def make(as_store, tile_word, format_word, block_path, out):
-    tile = house.number(tile_word, "TILE")
-    if tile >= 2 ** 32 or format_word not in fieldtext.FORMATS:
-        raise house.Usage("TILE is below 4,294,967,296 and FORMAT is signed or unsigned")
-    house.keep_apart(out, block_path)
-    block = house.read(block_path, house.BLOCK)
+def make(asked):
+    tile = house.number(asked.tile, "TILE", HIGHEST_TILE)
+    form = fieldtext.format_number(asked.format)
+    house.keep_apart(asked.out, asked.block)
+    block = house.read(asked.block, house.BLOCK)
     if len(block) != house.BLOCK:
         raise house.Refused(2, "block refused 2\n")
-    house.write_whole(out, tile.to_bytes(4, "little") + bytes([fieldtext.FORMATS.index(format_word), 0, 0, 0]) + block)
+    return tile.to_bytes(4, "little") + bytes([form, 0, 0, 0]) + block
 
 
-# What each does, and how many words it takes.
-PARTS = {"take": (take, 3), "put": (put, 4), "append": (append, 3), "make": (make, 4)}
-
-
-def run(words):
-    words, as_store = house.flagged(words, "--as-store")
-    part, count = PARTS.get(words[0] if words else "", (None, 0))
-    if part is None or len(words) != 1 + count:
-        raise house.Usage("it takes take, put, append or make, and their words")
-    part(as_store, *words[1:])
+def run(asked):
+    part = {"take": take, "put": put, "append": append, "make": make}[asked.chosen.split()[0]]
+    house.write_whole(asked.out, part(asked))

@@ -1,13 +1,14 @@
 """Moves a store of records with a place back to 24-byte records.
 
-usage: knot unplace [--as-store] NEW OLD
-
-No record of NEW may be placed. OLD becomes the store of 24-byte records, the same bytes that 'knot place' made NEW of; 'moved' and the
-number of records are printed. Where NEW is refused, the line 'store refused' and the number are all, and OLD stays as it is: 5 or 6 for
-the store's length, then the first refused record's 1, 7, 17 or 18, a placed record. A file that looks like something else is refused with 28, unless --as-store is said. OLD may not be NEW.
+No record of GIVEN may be placed. MADE becomes the store of 24-byte records, the same bytes that 'knot place' made GIVEN of. It prints 'moved'
+and the number of records. A refused store is the line 'store refused' and the number, and MADE stays as it is: 28 where the file looks like
+something else, 5 or 6 for its length, then 1, 7, 17 of the first refused record, or 18 for a placed one. MADE may not be GIVEN.
 """
 from . import kinds, moving
+from .line import AS_STORE, Line
+
+LINE = Line("GIVEN MADE", options=[AS_STORE], example="knot unplace new.store old.store")
 
 
-def run(words):
-    moving.move(words, "unplace_tiles", kinds.placed_to_change, kinds.PLACED, kinds.PLAIN)
+def run(asked):
+    moving.move(asked, "unplace_tiles", kinds.placed_to_change, kinds.PLACED, kinds.PLAIN)

@@ -1,0 +1,45 @@
+"""Names every faulty record of a store, of 24-byte records or of records with a place.
+
+Without a STORE it reads standard input. It prints a line for each faulty record: number, tile, 'refused' or 'damaged', the number of the cause,
+and the cause in words. A record is refused where the record call refuses it, and damaged where it is not refused and its block has a reserved
+mode. The last line has the form and the counts. The form is the one in which fewer records are refused, and that of 24 bytes where both
+have as many; --form decides it. A store of a length that its form does not have is the line 'store refused' and the number.
+"""
+from . import house, kinds
+from .line import JSON, Line, Option
+
+LINE = Line(
+    "[STORE]",
+    options=[Option("--form", "read records of 24 bytes, or of 32 with a place", "24|32"), JSON],
+    example="knot check samples/refused.store",
+    statuses="status: 0 no record is faulty; 1 one is, or the store is refused; 2 the words do not fit; 3 input, output or an unexpected error",
+)
+DAMAGED = 12
+WORDS = {DAMAGED: "its block has a reserved mode"}
+
+
+def fault(record, tile, cause):
+    return {"record": record, "tile": tile, "verdict": "damaged" if cause == DAMAGED else "refused", "cause": cause, "words": WORDS.get(cause) or house.meaning(cause)}
+
+
+def told(fault):
+    verdict = house.painted(fault["verdict"], "doubtful" if fault["verdict"] == "damaged" else "bad")
+    return f"{fault['record']} {fault['tile']} {verdict} {fault['cause']} {fault['words']}\n"
+
+
+def run(asked):
+    if asked.form not in (None, "24", "32"):
+        raise house.Usage(f"--form is 24 or 32, and not '{house.shown(asked.form, 40)}'")
+    data = house.read(asked.store, kinds.MOST)
+    reading = kinds.Reading(data, int(asked.form)) if asked.form else kinds.likelier_reading(data)
+    if reading.bad_length:
+        raise house.Refused(reading.bad_length, f"store refused {reading.bad_length}\n")
+    faults = [fault(*found) for found in reading.faults]
+    counts = {"form": reading.form, "records": reading.records, "refused": reading.refused, "damaged": reading.damaged}
+    if asked.json:
+        house.put_json({"name": house.read_last, **counts, "faults": faults})
+    else:
+        closing = " ".join(f"{word} {number}" for word, number in counts.items())
+        house.put("".join(map(told, faults)) + (closing if faults else house.painted(closing, "good")) + "\n")
+    if faults:
+        raise house.Faulty(f"of {reading.records:,} records {reading.refused:,} are refused and {reading.damaged:,} damaged")

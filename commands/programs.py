@@ -1,0 +1,160 @@
+"""Running the proved programs, and whether what they wrote is whole.
+
+A program that could not read its input, or write its output, leaves less than the whole: so each command says what whole output of its
+program is, and takes nothing else. What a program writes to standard error is never part of a result.
+"""
+import os
+import re
+
+from .ends import ROOT, Refused, Trouble, meaning, module_at
+from .files import reason, shown
+
+INSTALLED = os.path.join(ROOT, "programs")
+# The SHA-256 sums of an installation, by the paths below its prefix.
+SUMS = os.path.join(ROOT, "sums")
+PREFIX = os.path.dirname(os.path.dirname(ROOT))
+
+# The programs that are known to be as they were built, in this run.
+held = set()
+
+
+def sums():
+    """The sum of each file of this installation, by its path."""
+    try:
+        with open(SUMS, encoding="utf-8") as file:
+            return {name: summed for summed, name in (line.split("  ", 1) for line in file.read().splitlines())}
+    except (OSError, ValueError) as error:
+        raise Trouble(f"this installation has no list of its sums, which 'knot --check' needs: {reason(error)}") from None
+
+
+def sum_of(path):
+    import hashlib
+    with open(path, "rb") as file:
+        return hashlib.sha256(file.read()).hexdigest()
+
+
+def hold_installed(name, path):
+    """An installed program is the one that was built: another one would print whatever it likes."""
+    try:
+        if sums().get(os.path.relpath(path, PREFIX)) != sum_of(path):
+            raise Trouble(f"the program {name} is not the one that was installed: 'knot --check' looks at all of them")
+    except OSError as error:
+        raise Trouble(f"the program {name}: {reason(error)}") from None
+
+
+def hold_built(name):
+    """A program of this repository is proved, and built of the sources as they are."""
+    if module_at("tools/built.py")["is_as_seen"](name):
+        return
+    import subprocess
+    if subprocess.run([os.path.join(ROOT, "tools/prove"), name], stdin=subprocess.DEVNULL, stdout=subprocess.DEVNULL).returncode != 0:
+        raise Trouble(f"the program {name} is not built: the reason stands above")
+
+
+def program_at(name):
+    """Where a proved program is: beside the commands where knot is installed, else below target/."""
+    installed = os.path.join(INSTALLED, name)
+    is_installed = os.path.isfile(installed)
+    if name not in held:
+        hold_installed(name, installed) if is_installed else hold_built(name)
+        held.add(name)
+    return installed if is_installed else os.path.join(ROOT, "target/built", name)
+
+
+def program(name, data, words=()):
+    """Runs a proved program over `data`: what it writes to standard output and to standard error."""
+    path = program_at(name)
+    runner = [] if os.uname().machine == "x86_64" else [os.path.join(ROOT, "tools/run")]
+    status, out, told = run([*runner, path, *words], data)
+    if status != 0:
+        ended = f"was ended by signal {-status}" if status < 0 else f"failed with status {status}"
+        raise Trouble(f"the program {name} {ended}{told_last(told)}")
+    return out, told
+
+
+def run(words, data):
+    """A program's status, or less than 0 for a signal, and what it writes to both streams. The three streams are files in memory."""
+    streams = [os.memfd_create("knot") for _ in range(3)]
+    child = None
+    try:
+        rest = memoryview(data)
+        while rest:
+            rest = rest[os.write(streams[0], rest):]
+        os.lseek(streams[0], 0, os.SEEK_SET)
+        actions = [(os.POSIX_SPAWN_DUP2, stream, number) for number, stream in enumerate(streams)]
+        child = os.posix_spawn(words[0], words, os.environ, file_actions=actions)
+        status = os.waitstatus_to_exitcode(os.waitpid(child, 0)[1])
+        child = None
+        return status, contents(streams[1]), contents(streams[2])
+    except OSError as error:
+        raise Trouble(f"the program {os.path.basename(words[0])} could not be run: {reason(error)}") from None
+    finally:
+        if child is not None:
+            os.kill(child, 9)
+            os.waitpid(child, 0)
+        for stream in streams:
+            os.close(stream)
+
+
+def contents(stream):
+    size = os.fstat(stream).st_size
+    os.lseek(stream, 0, os.SEEK_SET)
+    with open(stream, "rb", buffering=0, closefd=False) as file:
+        return file.read(size)
+
+
+def told_last(told):
+    """The last line that a program told on standard error, as the end of a reason."""
+    lines = told.decode(errors="replace").split("\n")
+    return "".join(f": {shown(line)}" for line in [line for line in lines if line.strip()][-1:])
+
+
+def ask(name, data, is_whole, words=()):
+    """What a program writes of `data`, where `is_whole` takes it for whole."""
+    out, told = program(name, data, words)
+    if not is_whole(out):
+        raise Trouble(f"the program {name} did not end its output, {len(out):,} bytes of it{told_last(told)}")
+    return out
+
+
+class Text:
+    """What the text of a program over a store is when it is whole: a line `head` where there is one, a line for each of its rows, and a
+    line of words and counts, each a capital letter in `closing`. Of the counts `rows` makes the number of rows and, where it is said, `records`
+    that of the store's records."""
+
+    def __init__(self, row, closing, rows, records=None, head=""):
+        self.row, self.rows, self.records, self.head = row, rows, records, head
+        self.closing = re.sub(r"\b[A-Z]\b", "([0-9]+)", closing)
+
+    def is_whole(self, text, count):
+        """Whether it is, for a store of `count` records."""
+        shape = f"{self.head}((?:{self.row}\n)*){self.closing}\n".encode()
+        found = re.fullmatch(shape, text)
+        if not found:
+            return False
+        counts = [int(number or 0) for number in found.groups()[1:]]
+        return found[1].count(b"\n") == self.rows(*counts) and (self.records is None or self.records(*counts) == count)
+
+
+def over_store(name, store, shape, words=(), size=24):
+    """What a program prints of a store of records of `size` bytes: whole, or not at all. A refused store is the one line that says so."""
+    text, told = program(name, store, words)
+    refused = re.fullmatch(rb"store refused ([0-9]+)\n", text)
+    if refused:
+        raise Refused(int(refused[1]), text, meaning(int(refused[1])) + told_last(told))
+    if not shape.is_whole(text, len(store) // size):
+        raise Trouble(f"the program {name} did not end its text{told_last(told)}")
+    return text
+
+
+LISTING = Text(
+    r"[0-9]+ [0-9]+ [0-9]+ (?:[0-9]+ [01] [0-9A-F]{4} [0-9A-F]{4} [0-9A-F]{4}|- 2 - - -)",
+    "kept K twins T bad B",
+    rows=lambda kept, twins, bad: kept + twins + bad,
+    records=lambda kept, twins, bad: kept + twins + bad,
+)
+
+
+def listed(store, strict=False):
+    """The listing of a store, whole."""
+    return over_store("listing", store, LISTING, ["--strict"] if strict else [])

@@ -21,6 +21,7 @@ COMMANDS = [
     "audit",
     "report",
     "clean",
+    "restore",
     "infinities",
     "fields",
     "block",

@@ -13,7 +13,7 @@ import json
 
 from . import house
 
-ENDS = "copies [0-9]+ alike [0-9]+ covered [0-9]+ before [0-9]+"
+ENDS = "damaged [0-9]+ refused [0-9]+ copies [0-9]+ alike [0-9]+ covered [0-9]+ before [0-9]+"
 
 
 def identity():

@@ -12,7 +12,7 @@ from .line import AS_STORE, JSON, Line
 LINE = Line("[STORE]", options=[JSON, AS_STORE], example="knot audit samples/covered.store")
 ENDS = house.Text(
     "[0-9]+ [0-9]+ [0-9]+ [0-9]+ (?:copy|alike) (?:covered|-)",
-    "(?:damaged D refused X )?copies C alike A covered V before B",
+    "damaged D refused X copies C alike A covered V before B",
     rows=lambda damaged, refused, copies, alike, covered, before: copies + alike,
     head="record tile stays its-tile verdict theorem\n",
 )

@@ -303,8 +303,8 @@ size_t knot_placed_record_block(const uint8_t *store, size_t store_length, size_
  * with the same tile, format and block; the rest of out stays.
  *
  * Answers the number in the low byte; where that is 0, the number of records in bits 16 to 31. Refusals: 5 and 6 as for
- * knot_record_at, 3 (fewer than 32 bytes of room a record); then the first record that is refused, with its 1 or 7. Nothing is
- * written then, not even the records before it.
+ * knot_record_at, 3 (fewer than 32 bytes of room a record); then the first record that is refused, with its 1 or 7, and that
+ * record's number in bits 32 to 47, which are 0 for every other answer. Nothing is written then, not even the records before it.
  *
  * Stack: 50 bytes.
  */
@@ -314,13 +314,14 @@ uint64_t knot_place_store(const uint8_t *old, size_t old_length, uint8_t *out, s
  * out[24 n] to out[24 n + 23] for record n. No record may be placed.
  *
  * Answers as knot_place_store. Refusals: 5 and 6 as for knot_placed_record_at, 3 (fewer than 24 bytes of room a record); then the
- * first record that is refused, with its 1, 7, 17 or 18, a placed record.
+ * first record that is refused, with its 1, 7, 17 or 18, a placed record, and its number.
  *
  * Stack: 50 bytes.
  */
 uint64_t knot_unplace_store(const uint8_t *store, size_t store_length, uint8_t *out, size_t out_length);
 
 #define KNOT_MOVED(word) ((unsigned)((word) >> 16 & 0xFFFF))
+#define KNOT_UNMOVED_RECORD(word) ((unsigned)((word) >> 32 & 0xFFFF))
 
 /* ---- The probe ----
  *

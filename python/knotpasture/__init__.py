@@ -399,28 +399,32 @@ def placed_record(store: Bytes, n: int) -> PlacedRecord:
         _part(word, 32, 32), _part(word, 8, 8), face if face < FACES else None, column.value, row.value, given[start:start + BLOCK_SIZE])
 
 
+def _done_with_record(word: int, low: int) -> int:
+    """The word of a call that tells from bit `low` on which record is why it refuses."""
+    return _done(word, _part(word, low) if word & 0xFF in (1, 7, 17, 18, 20, 21, 22) else None)
+
+
 def _moved(name: str, store: Bytes, size: int, limit: int, new_size: int) -> NDArray[numpy.uint8]:
     given = _bytes(store, "store")
     room = numpy.empty(min(given.size, limit) // size * new_size, numpy.uint8)
-    word = _done(_library.call(name)(given.ctypes.data, given.size, room.ctypes.data, room.size))
+    word = _done_with_record(_library.call(name)(given.ctypes.data, given.size, room.ctypes.data, room.size), 32)
     return room[: _part(word, 16) * new_size]
 
 
 def place(store: Bytes) -> NDArray[numpy.uint8]:
-    """A store of 24-byte records as one of records with a place, none of them placed. Refusals: 5, 6; lowest record first 1, 7."""
+    """A store of 24-byte records as one of records with a place, none of them placed. Refusals: 5, 6; with the first faulty record 1, 7."""
     return _moved("knot_place_store", store, RECORD_SIZE, STORE_LIMIT, PLACED_SIZE)
 
 
 def unplace(store: Bytes) -> NDArray[numpy.uint8]:
-    """The way back, for a store in which no record is placed. Refusals: 5, 6; lowest record first 1, 7, 17, 18."""
+    """The way back, for a store in which no record is placed. Refusals: 5, 6; with the first faulty record 1, 7, 17, 18."""
     return _moved("knot_unplace_store", store, PLACED_SIZE, PLACED_STORE_LIMIT, RECORD_SIZE)
 
 
 def probe_check(store: Bytes, edge: int) -> None:
     """Returns where a store is a probe of the edge. Refusals: 19, 5, 6; with the first faulty record 1, 7, 17, 20, 21, 22; 23."""
     given = _bytes(store, "store")
-    word = _library.call("knot_probe_check")(given.ctypes.data, given.size, _number(edge, "edge", 32))
-    _done(word, _part(word, 16) if word & 0xFF in (1, 7, 17, 20, 21, 22) else None)
+    _done_with_record(_library.call("knot_probe_check")(given.ctypes.data, given.size, _number(edge, "edge", 32)), 16)
 
 
 def probe_pixel(store: Bytes, edge: int, face: int, x: int, y: int) -> NDArray[numpy.float16]:

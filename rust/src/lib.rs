@@ -480,31 +480,38 @@ pub fn placed_record_block(store: &[u8], n: usize) -> Option<&[u8]> {
     block_from(store, unsafe { c::knot_placed_record_block(store.as_ptr(), store.len(), n) })
 }
 
-fn moved(word: u64) -> Result<usize, Refused> {
-    done(word).map(|word| usize::from((word >> 16) as u16))
+fn moved(word: u64) -> Result<usize, Fault> {
+    done(word).map(|word| usize::from((word >> 16) as u16)).map_err(|refused| Fault::told(refused, (word >> 32) as u16))
 }
 
 /// Moves a store of 24-byte records to one of records with a place, none of them placed; answers how many there are.
 ///
 /// Refusals: 5, 6, 3; then the first record's that is refused, 1 or 7.
-pub fn place_store(old: &[u8], out: &mut [u8]) -> Result<usize, Refused> {
+pub fn place_store(old: &[u8], out: &mut [u8]) -> Result<usize, Fault> {
     moved(unsafe { c::knot_place_store(old.as_ptr(), old.len(), out.as_mut_ptr(), out.len()) })
 }
 
 /// Moves a store of records with a place back, of which none may be placed.
 ///
 /// Refusals: 5, 6, 3; then the first record's that is refused, 1, 7, 17 or 18.
-pub fn unplace_store(store: &[u8], out: &mut [u8]) -> Result<usize, Refused> {
+pub fn unplace_store(store: &[u8], out: &mut [u8]) -> Result<usize, Fault> {
     moved(unsafe { c::knot_unplace_store(store.as_ptr(), store.len(), out.as_mut_ptr(), out.len()) })
 }
 
-/// Why a store is no probe.
+/// Why a store does not move, or is no probe.
 #[derive(Debug, Clone, Copy, PartialEq, Eq)]
 pub struct Fault {
     /// The refusal.
     pub refused: Refused,
     /// The first faulty record, where a record is why.
     pub record: Option<usize>,
+}
+
+impl Fault {
+    /// The refusal, with the record where it is a record's.
+    fn told(refused: Refused, record: u16) -> Fault {
+        Fault { refused, record: matches!(refused.0, 1 | 7 | 17 | 18 | 20 | 21 | 22).then_some(record.into()) }
+    }
 }
 
 impl fmt::Display for Fault {
@@ -521,10 +528,7 @@ impl std::error::Error for Fault {}
 /// Refusals: 19, 5, 6; record by record 1, 7, 17, 20, 21, 22; 23.
 pub fn probe_check(store: &[u8], edge: u32) -> Result<(), Fault> {
     let word = unsafe { c::knot_probe_check(store.as_ptr(), store.len(), edge) };
-    done(word).map(|_| ()).map_err(|refused| Fault {
-        refused,
-        record: matches!(refused.0, 1 | 7 | 17 | 20 | 21 | 22).then_some(usize::from((word >> 16) as u16)),
-    })
+    done(word).map(|_| ()).map_err(|refused| Fault::told(refused, (word >> 16) as u16))
 }
 
 /// Red, green and blue of a pixel of a probe. The store is checked at each call: for many pixels [`probe_face`] is the call.

@@ -40,18 +40,18 @@ def back_refusal(record):
 
 
 def moved(store, room, limit, size, to, refusal, change):
-    """The number, and the moved store, none on a refusal."""
+    """The number, the record that is why, 0 where none is, and the moved store, none on a refusal."""
     if len(store) > limit:
-        return LONG, b""
+        return LONG, 0, b""
     if len(store) % size:
-        return UNEVEN, b""
+        return UNEVEN, 0, b""
     records = split(store, size)
     if room < len(records) * to:
-        return SHORT, b""
-    for record in records:
+        return SHORT, 0, b""
+    for n, record in enumerate(records):
         if refusal(record):
-            return refusal(record), b""
-    return DONE, b"".join(map(change, records))
+            return refusal(record), n, b""
+    return DONE, 0, b"".join(map(change, records))
 
 
 def place(store, room):

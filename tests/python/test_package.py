@@ -363,7 +363,10 @@ def test_places():
     assert new.size == len(old) // 24 * 32 and knotpasture.unplace(new).tobytes() == old
     assert knotpasture.placed_record(new, 0).face is None
     placed = sample("placed.places")
-    refused(18, knotpasture.unplace, placed)
+    refused(18, knotpasture.unplace, placed, record=0)
+    new[32 * 2 + 5] = 5
+    refused(18, knotpasture.unplace, new, record=2)
+    refused(7, knotpasture.place, old[:48 + 7] + b"\1" + old[48 + 8:], record=2)
     refused(8, knotpasture.placed_record, placed, 5)
     refused(5, knotpasture.unplace, bytes(64_001))
     one = struct.pack("<IBBHH6x", 4294967295, 1, 5, 0x1234, 1) + B3

@@ -15,6 +15,8 @@ use Rattle.bc6h_spec.specs.Answers.{done}
 use Rattle.records.specs.Store.{recordsIn, tileAt}
 use Rattle.cleanup.specs.CleanUp.{covered, byDemand3}
 use Rattle.clean.specs.Clean.{firstOf, goes}
+use Rattle.faulty_records.specs.declared.FaultCounts.{FaultCounts}
+use Rattle.faulty_records.specs.Faulty.{formOf, countsOf}
 use Rattle.twins_spec.specs.declared.TwinList.{TwinList}
 use Rattle.twins_spec.specs.Twins.{twinMark, firstTwin, markAt, listRefusal, Listed, mostRecords}
 use Rattle.twins_spec.proofs.Listing as listed
@@ -114,13 +116,13 @@ module _ (store : List ℕ) where
   no-tally = record { copies-is = refl; alike-is = refl; covered-is = refl; before-is = refl; few = (omega arith, omega arith, omega arith, omega arith) }
 
   -- the loop is done
-  pub tallied : {l m₁ m₂ : List ℕ} {at e₁ e₂ copies alike covered before : ℕ} (n count : ℕ) → n ≤ count → count ≤ n → Tallied store n copies alike covered before
-      → Written l at (auditLines store n) e₁ m₁ → Written m₁ e₁ (tallyLine copies alike covered before) e₂ m₂
-      → Written l at (auditLines store count ++ tallyOf store count) e₂ m₂
-  unfolding tallyOf
-  tallied n count h k t x y =
+  pub tallied : {l m₁ m₂ : List ℕ} {at e₁ e₂ copies alike covered before : ℕ} {faults : FaultCounts} (n count : ℕ) → n ≤ count → count ≤ n
+      → Tallied store n copies alike covered before → faults ≡ countsOf (formOf 24) store → Written l at (auditLines store n) e₁ m₁
+      → Written m₁ e₁ (tallyLine faults copies alike covered before) e₂ m₂ → Written l at (auditLines store count ++ tallyOf store count) e₂ m₂
+  unfolding tallyOf formOf
+  tallied n count h k t f x y =
       let is : n ≡ count = omega arith in
-      said (then x y) (rw (is, rw is at (t .copies-is), rw is at (t .alike-is), rw is at (t .covered-is), rw is at (t .before-is)))
+      said (then x y) (rw (is, f, rw is at (t .copies-is), rw is at (t .alike-is), rw is at (t .covered-is), rw is at (t .before-is)))
 
   pub refused-text : (answer : ℕ) → answer ≡ listRefusal (length store) mostRecords → (answer ≡ done → ⊥) → refusalLine answer ≡ auditOf store
   unfolding auditOf

@@ -12,6 +12,8 @@ use Rattle.records.specs.Store.{recordsIn, tileAt}
 use Rattle.twins_spec.specs.Twins.{twinMark, firstTwin, markAt, listRefusal, mostRecords}
 use Rattle.cleanup.specs.CleanUp.{covered, byDemand3}
 use Rattle.clean.specs.Clean.{firstOf, goes}
+use Rattle.faulty_records.specs.declared.FaultCounts.{FaultCounts}
+use Rattle.faulty_records.specs.Faulty.{plainForm, countsOf}
 use Rattle.text.specs.Text.{lineFeed, decimal, field, refusalLine}
 use Rattle.audit_text.specs.declared.Finding.{Finding}
 
@@ -80,18 +82,26 @@ isCovered finding = finding .covered
 abbrev pub isBefore : Finding → Bool
 isBefore finding = finding .by_demand_3
 
--- `copies `, ` alike `, ` covered `, ` before `
-unfoldable pub tallyLine : ℕ → ℕ → ℕ → ℕ → List ℕ
-tallyLine copies alike covered before =
-    99 ∷ 111 ∷ 112 ∷ 105 ∷ 101 ∷ 115 ∷ 32 ∷ [] ++ decimal copies ++ (32 ∷ 97 ∷ 108 ∷ 105 ∷ 107 ∷ 101 ∷ 32 ∷ [] ++ decimal alike)
+-- `damaged `, ` refused `
+unfoldable pub faultWords : FaultCounts → List ℕ
+faultWords faults =
+    100 ∷ 97 ∷ 109 ∷ 97 ∷ 103 ∷ 101 ∷ 100 ∷ 32 ∷ [] ++ decimal (faults .damaged)
+    ++ (32 ∷ 114 ∷ 101 ∷ 102 ∷ 117 ∷ 115 ∷ 101 ∷ 100 ∷ 32 ∷ [] ++ decimal (faults .refused))
+
+-- ` copies `, ` alike `, ` covered `, ` before `
+unfoldable pub tallyLine : FaultCounts → ℕ → ℕ → ℕ → ℕ → List ℕ
+tallyLine faults copies alike covered before =
+    faultWords faults ++ (32 ∷ 99 ∷ 111 ∷ 112 ∷ 105 ∷ 101 ∷ 115 ∷ 32 ∷ [] ++ decimal copies)
+    ++ (32 ∷ 97 ∷ 108 ∷ 105 ∷ 107 ∷ 101 ∷ 32 ∷ [] ++ decimal alike)
     ++ (32 ∷ 99 ∷ 111 ∷ 118 ∷ 101 ∷ 114 ∷ 101 ∷ 100 ∷ 32 ∷ [] ++ decimal covered)
     ++ (32 ∷ 98 ∷ 101 ∷ 102 ∷ 111 ∷ 114 ∷ 101 ∷ 32 ∷ [] ++ decimal before)
     ++ lineFeed
 
--- the twins that are copies, that only look alike, that the copies theorem covers, and that demand 3 alone covers
+-- the records that are damaged and that are refused; the twins that are copies, that only look alike, that the copies theorem covers, and
+-- that demand 3 alone covers
 unfoldable pub tallyOf : List ℕ → ℕ → List ℕ
 tallyOf store count =
-    tallyLine (twinsWith store isCopy count) (twinsWith store isAlike count) (twinsWith store isCovered count) (twinsWith store isBefore count)
+    tallyLine (countsOf plainForm store) (twinsWith store isCopy count) (twinsWith store isAlike count) (twinsWith store isCovered count) (twinsWith store isBefore count)
 
 -- ---- the whole
 

@@ -10,11 +10,15 @@ ghost use Rattle.laws.specs.Pick.{pick};
 ghost use Rattle.records.specs.Store.{recordsIn};
 ghost use Rattle.twins_spec.specs.Twins.{firstTwin, mostRecords, Marks};
 ghost use Rattle.text.specs.Text.{Written};
-ghost use Rattle.audit_text.specs.Audit.{findingOf, pairOf, verdictWord, coverWord, twinLine, auditLines, tallyLine, tallyOf, auditOf};
+ghost use Rattle.audit_text.specs.Audit.{findingOf, pairOf, verdictWord, coverWord, twinLine, auditLines, faultWords, tallyLine, tallyOf, auditOf};
 use bc6h_spec::Answer;
 use clean::first_of;
 use cleanup::is_by_demand_3;
 use cleanup::is_covered;
+use faulty_records::FaultCounts;
+use faulty_records::Form;
+use faulty_records::count_faults;
+use faulty_records::one_if;
 use records::Record;
 use records::tile_at;
 use text::put;
@@ -31,10 +35,10 @@ pub struct Audit {
 }
 
 impl Audit {
-    // The most bytes of a line, and the room for a line a record and two more.
+    // The most bytes of a line, and the room for a line a record, the columns and the counts, which have two lines' room.
     const LINE: usize = 128;
 
-    pub const ROOM: usize = (TwinList::RECORDS + 2) * Audit::LINE;
+    pub const ROOM: usize = (TwinList::RECORDS + 3) * Audit::LINE;
 }
 
 // What is told of a twin: the record that stays, whether the twin is its copy, and whether the copies theorem covers the two.
@@ -66,13 +70,6 @@ fn examine(store: &[u8], n: usize) -> Finding
         covered: is_covered(store, n, stays),
         by_demand_3: is_by_demand_3(store, n, stays),
     }
-}
-
-fn one_if(test: bool) -> usize
-    ensures { λ r. ⌜ r ≤ 1 ⌝ }
-    ensures { λ r. ⌜ r ≡ pick test 1 0 ⌝ }
-{
-    if test { 1 } else { 0 }
 }
 
 fn put_verdict(text: &mut [u8], at: usize, copy: bool) -> usize
@@ -119,19 +116,31 @@ fn put_twin(text: &mut [u8], at: usize, store: &[u8], n: usize, finding: Finding
     put_cover(text, end, finding.covered)
 }
 
+// How many records are damaged, and how many refused.
+fn put_faults(text: &mut [u8], at: usize, faults: FaultCounts) -> usize
+    requires { ⌜ at + 64 ≤ length (now text) ⌝ }
+    ensures { λ r. ⌜ r ≤ at + 64 ⌝ }
+    ensures { λ r. ⌜ Written (now (text .entry)) at (faultWords faults) r (now (text .exit)) ⌝ }
+{
+    let end = put_count(text, at, b"damaged ", faults.damaged as u64);
+    put_count(text, end, b" refused ", faults.refused as u64)
+}
+
 fn put_tally(
     text: &mut [u8],
     at: usize,
+    faults: FaultCounts,
     copies: usize,
     alike: usize,
     covered: usize,
     before: usize,
 ) -> usize
-    requires { ⌜ at + 128 ≤ length (now text) ⌝ }
-    ensures { λ r. ⌜ r ≤ at + 128 ⌝ }
-    ensures { λ r. ⌜ Written (now (text .entry)) at (tallyLine copies alike covered before) r (now (text .exit)) ⌝ }
+    requires { ⌜ at + 256 ≤ length (now text) ⌝ }
+    ensures { λ r. ⌜ r ≤ at + 256 ⌝ }
+    ensures { λ r. ⌜ Written (now (text .entry)) at (tallyLine faults copies alike covered before) r (now (text .exit)) ⌝ }
 {
-    let mut end = put_count(text, at, b"copies ", copies as u64);
+    let mut end = put_faults(text, at, faults);
+    end = put_count(text, end, b" copies ", copies as u64);
     end = put_count(text, end, b" alike ", alike as u64);
     end = put_count(text, end, b" covered ", covered as u64);
     end = put_count(text, end, b" before ", before as u64);
@@ -140,10 +149,10 @@ fn put_tally(
 
 // A line for each twin, and the counts.
 fn put_twins(text: &mut [u8], at: usize, store: &[u8], marks: &[u8]) -> usize
-    requires { ⌜ at + (recordsIn (now store) + 1) * 128 ≤ length (now text) ⌝ }
+    requires { ⌜ at + (recordsIn (now store) + 2) * 128 ≤ length (now text) ⌝ }
     requires { ⌜ recordsIn (now store) ≤ length (now marks) ⌝ }
     requires { ⌜ Marks (now store) (now marks) ⌝ }
-    ensures { λ r. ⌜ r ≤ at + (recordsIn (now (store .entry)) + 1) * 128 ⌝ }
+    ensures { λ r. ⌜ r ≤ at + (recordsIn (now (store .entry)) + 2) * 128 ⌝ }
     ensures { λ r. ⌜ Written (now (text .entry)) at (auditLines (now (store .entry)) (recordsIn (now (store .entry))) ++ tallyOf (now (store .entry)) (recordsIn (now (store .entry)))) r (now (text .exit)) ⌝ }
 {
     let count = store.len() / Record::SIZE;
@@ -163,12 +172,13 @@ fn put_twins(text: &mut [u8], at: usize, store: &[u8], marks: &[u8]) -> usize
         covered += one_if(finding.covered);
         before += one_if(finding.by_demand_3);
     }
-    put_tally(text, end, copies, alike, covered, before)
+    let faults = count_faults(Form::PLAIN, store);
+    put_tally(text, end, faults, copies, alike, covered, before)
 }
 
 // The audit of a store at the start of `text`; answers how many bytes it has.
 pub fn put_audit(text: &mut [u8], store: &[u8]) -> usize
-    requires { ⌜ (mostRecords + 2) * 128 ≤ length (now text) ⌝ }
+    requires { ⌜ (mostRecords + 3) * 128 ≤ length (now text) ⌝ }
     ensures { λ r. ⌜ r ≤ length (now (text .exit)) ⌝ }
     ensures { λ r. ⌜ Written (now (text .entry)) 0 (auditOf (now (store .entry))) r (now (text .exit)) ⌝ }
 {

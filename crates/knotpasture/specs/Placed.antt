@@ -7,7 +7,7 @@ use Rattle.places.specs.Places.{placeSize, placeHead, placesIn, tileIn, formatI
 use Rattle.places.specs.Readings.{placedRefusal}
 use Rattle.records.specs.Store.{recordsIn}
 use Rattle.moves.specs.declared.Moved.{Moved}
-use Rattle.moves.specs.Moves.{placedStore, oldStore, placingRefusal, unplacingRefusal, movedAt, bytesAt}
+use Rattle.moves.specs.Moves.{placedStore, oldStore, placingFault, unplacingFault, placingRefusal, unplacingRefusal, movedAt, bytesAt}
 
 -- a record: 0 in the low byte, the format in the next, the face in bits 16 to 23, the tile in the high half; a refusal: its number alone
 abbrev pub placedWord : ℕ → List ℕ → ℕ → ℕ
@@ -30,15 +30,15 @@ abbrev pub placedOffset : ℕ → ℕ → ℕ
 placedOffset zero n = n * placeSize + placeHead
 placedOffset (suc number) n = 0
 
--- the number in the low byte, the records moved in bits 16 to 31
+-- the number in the low byte, the records moved in bits 16 to 31, the first faulty record in bits 32 to 47
 abbrev pub movedWord : Moved → ℕ
-movedWord moved = moved .answer + moved .records * 0x10000
+movedWord moved = moved .answer + moved .records * 0x10000 + moved .faulty * 0x100000000
 
 -- The moves: the answer in one word, and the lent bytes as the call leaves them.
 pub record PlaceCalled (old lent : List ℕ) (r : ℕ) (after : List ℕ) : Type 0 where
-  pub answers : r ≡ movedWord (movedAt (placingRefusal old (length lent)) (recordsIn old))
+  pub answers : r ≡ movedWord (movedAt (placingRefusal old (length lent)) (placingFault old (length lent) .faulty) (recordsIn old))
   pub holds : after ≡ bytesAt (placingRefusal old (length lent)) (placedStore old) lent
 
 pub record UnplaceCalled (new lent : List ℕ) (r : ℕ) (after : List ℕ) : Type 0 where
-  pub answers : r ≡ movedWord (movedAt (unplacingRefusal new (length lent)) (placesIn new))
+  pub answers : r ≡ movedWord (movedAt (unplacingRefusal new (length lent)) (unplacingFault new (length lent) .faulty) (placesIn new))
   pub holds : after ≡ bytesAt (unplacingRefusal new (length lent)) (oldStore new) lent

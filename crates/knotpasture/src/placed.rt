@@ -45,12 +45,12 @@ pub extern "C" fn knot_placed_record_block(store: &[u8], n: usize) -> usize
     n * Place::SIZE + Place::HEAD
 }
 
-// The number and the count of a move.
+// The number, the count and the faulty record of a move.
 fn moved_word(moved: Moved) -> u64
-    requires { ⌜ moved .records ≤ 2000 ⌝ }
+    requires { ⌜ (moved .records ≤ 2000) × (moved .faulty ≤ 2000) ⌝ }
     ensures { λ r. ⌜ r ≡ movedWord moved ⌝ }
 {
-    (moved.answer as u64) + (moved.records as u64) * 0x10000
+    (moved.answer as u64) + (moved.records as u64) * 0x10000 + (moved.faulty as u64) * 0x100000000
 }
 
 #[no_mangle]

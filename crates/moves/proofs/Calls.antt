@@ -1,47 +1,48 @@
 -- What the two moves say: one outcome each, nothing on a refusal, and that they undo each other. Assumes nothing.
-use mathlib.Core.Path.{_≡_, refl, sym, _∙_, ap}
+use mathlib.Core.Path.{_≡_, refl, sym, _∙_, ap, ap₂}
 use mathlib.Core.List.{List, _++_}
 use Prim.Native.Nat.{ℕ, zero, suc, _*_, _%_, _≤_, _<_}
 use native.Mathlib.Omega.{arith}
-use lib.Dec.{ltb}
+use lib.Dec.{eqb, ltb}
 use lib.ListN.{length, take, drop}
 use lib.Seq.{take-at, drop-at}
-use borrow.Author.Tests.{ltb-true, ltb-false}
+use borrow.Author.Tests.{eqb-true, eqb-false, ltb-true, ltb-false}
 use Rattle.laws.proofs.Tests.{cases}
 use Rattle.bc6h_spec.specs.Answers.{done, placedRecord}
 use Rattle.records.specs.Store.{recordSize, storeLimit, recordsIn, tileOf, formatOf, blockOf, recordRefusal, Unrefused}
 use Rattle.records.proofs.Refusals.{known}
-use Rattle.places.specs.Faults.{orNext, firstFault}
+use Rattle.places.specs.declared.Fault.{Fault}
+use Rattle.places.specs.Faults.{firstFault, wholeFirst}
 use Rattle.places.specs.Places.{placeSize, placeLimit, placesIn, tileIn, formatIn, placeIn, blockIn, IsPlaced, IsUnplaced, placed, placeRecordRefusal}
 use Rattle.places.specs.Readings.{Readable}
 use Rattle.places.proofs.Checks.{fine-so}
 use Rattle.places.proofs.Readings.{of-record}
-use Rattle.places.proofs.Faults.{Told, fault-told, none-faulty, all-pass}
+use Rattle.places.proofs.Faults.{Told, fault-told, none-faulty, all-pass, whole-done, whole-passes}
 use Rattle.moves.specs.declared.Moved.{Moved}
-use Rattle.moves.specs.Moves.{placedStore, oldStore, placeSizes, unplaceSizes, backRefusal, placingRefusal, unplacingRefusal, movedAt, MovedTo, PlacedStore, UnplacedStore}
-use Rattle.moves.proofs.Checks.{sized, enough, both-done, next-checked}
+use Rattle.moves.specs.Moves.{placedStore, oldStore, placeSizes, unplaceSizes, backRefusal, placingFault, unplacingFault, placingRefusal, unplacingRefusal, movedAt, MovedTo, PlacedStore, UnplacedStore}
+use Rattle.moves.proofs.Checks.{sized, enough}
 use Rattle.moves.proofs.Moving.{placed-length, old-length}
 use Rattle.moves.proofs.Undone.{Movable, movable, there-and-back, back-and-there, placed-count, old-count, moved-fine, moved-passes, back-passes, moved-tile, moved-format, moved-block, moved-off}
 
 -- ---- of both moves
 
-answer-is : (k count : ℕ) → movedAt k count .answer ≡ k
-answer-is zero count = refl
-answer-is (suc k) count = refl
+answer-is : (k faulty count : ℕ) → movedAt k faulty count .answer ≡ k
+answer-is zero faulty count = refl
+answer-is (suc k) faulty count = refl
 
-module _ {refusal count : ℕ} {moved lent after : List ℕ} {r : Moved} (d : MovedTo refusal count moved lent r after) where
-  pub one-outcome : {s : Moved} {other : List ℕ} → MovedTo refusal count moved lent s other → (r ≡ s) × (after ≡ other)
+module _ {fault : Fault} {count : ℕ} {moved lent after : List ℕ} {r : Moved} (d : MovedTo fault count moved lent r after) where
+  pub one-outcome : {s : Moved} {other : List ℕ} → MovedTo fault count moved lent s other → (r ≡ s) × (after ≡ other)
   one-outcome e = (d .answers ∙ sym (e .answers), d .holds ∙ sym (e .holds))
 
-  pub answer-number : r .answer ≡ refusal
-  answer-number = ap (λ (x : Moved). x .answer) (d .answers) ∙ answer-is refusal count
+  pub answer-number : r .answer ≡ fault .answer
+  answer-number = ap (λ (x : Moved). x .answer) (d .answers) ∙ answer-is (fault .answer) (fault .faulty) count
 
   -- "all or nothing": every record, with the rest of the lent bytes as it was ..
   module _ (z : r .answer ≡ done) where
-    unrefused : refusal ≡ done
+    unrefused : fault .answer ≡ done
     unrefused = sym answer-number ∙ z
 
-    pub all-moved : r ≡ record { answer = done; records = count }
+    pub all-moved : r ≡ record { answer = done; records = count; faulty = 0 }
     all-moved = rw unrefused at (d .answers)
 
     pub whole-moved : after ≡ moved ++ drop (length moved) lent
@@ -56,16 +57,16 @@ module _ {refusal count : ℕ} {moved lent after : List ℕ} {r : Moved} (d : Mo
   -- .. or nothing
   module _ (n : r .answer ≡ done → ⊥) where
     pub silent : after ≡ lent
-    silent = go refusal refl
+    silent = go (fault .answer) refl
       where
-        go : (k : ℕ) → refusal ≡ k → after ≡ lent
+        go : (k : ℕ) → fault .answer ≡ k → after ≡ lent
         go zero q = absurd (n (answer-number ∙ q))
         go (suc k) q = rw q at (d .holds)
 
-    pub none-moved : r ≡ record { answer = refusal; records = 0 }
-    none-moved = d .answers ∙ go refusal refl
+    pub none-moved : r ≡ record { answer = fault .answer; records = 0; faulty = fault .faulty }
+    none-moved = d .answers ∙ go (fault .answer) refl
       where
-        go : (k : ℕ) → refusal ≡ k → movedAt refusal count ≡ record { answer = refusal; records = 0 }
+        go : (k : ℕ) → fault .answer ≡ k → movedAt (fault .answer) (fault .faulty) count ≡ record { answer = fault .answer; records = 0; faulty = fault .faulty }
         go zero q = absurd (n (answer-number ∙ q))
         go (suc k) q = rw q
 
@@ -73,39 +74,65 @@ module _ {refusal count : ℕ} {moved lent after : List ℕ} {r : Moved} (d : Mo
 
 -- a check of the whole store comes first; else the lowest refused record decides
 module _ (whole : ℕ) (refusal : ℕ → ℕ) (number : ℕ) {count : ℕ} {moved lent after : List ℕ} {r : Moved}
-    (d : MovedTo (orNext whole (firstFault refusal number .answer)) count moved lent r after) where
-  told-whole : (k : ℕ) → whole ≡ suc k → r ≡ record { answer = suc k; records = 0 }
+    (d : MovedTo (wholeFirst whole (firstFault refusal number)) count moved lent r after) where
+  told-whole : (k : ℕ) → whole ≡ suc k → r ≡ record { answer = suc k; records = 0; faulty = 0 }
   told-whole k e = d .answers ∙ rw e
 
-  told-first : whole ≡ done → (r .answer ≡ done → ⊥) → Told refusal number (r .answer) (firstFault refusal number .faulty)
+  told-first : whole ≡ done → (r .answer ≡ done → ⊥) → Told refusal number (r .answer) (r .faulty)
   told-first e n = go (firstFault refusal number .answer) refl
     where
       is : r .answer ≡ firstFault refusal number .answer
       is = answer-number d ∙ rw e
 
-      go : (k : ℕ) → firstFault refusal number .answer ≡ k → Told refusal number (r .answer) (firstFault refusal number .faulty)
+      tells : r .faulty ≡ firstFault refusal number .faulty
+      tells = ap (λ (x : Moved). x .faulty) (none-moved d n) ∙ rw e
+
+      go : (k : ℕ) → firstFault refusal number .answer ≡ k → Told refusal number (r .answer) (r .faulty)
       go zero q = absurd (n (is ∙ q))
-      go (suc k) q = let a : r .answer ≡ suc k = is ∙ q in rw a (fault-told refusal number q)
+      go (suc k) q = let a : r .answer ≡ suc k = is ∙ q in rw (a, tells) (fault-told refusal number q)
+
+  -- the record that is told is one of the store's
+  few-told : (whole ≡ done → number ≤ 2000) → r .faulty ≤ 2000
+  few-told few = go whole refl
+    where
+      go : (k : ℕ) → whole ≡ k → r .faulty ≤ 2000
+      go zero q =
+          let l = few q in
+          cases (eqb (r .answer) done) (λ t. let e : r .faulty ≡ 0 = ap (λ (x : Moved). x .faulty) (all-moved d (eqb-true _ _ t)) in omega arith)
+          (λ f. omega (arith, told-first q (eqb-false _ _ f) .inside))
+      go (suc k) q = let e : r .faulty ≡ 0 = ap (λ (x : Moved). x .faulty) (told-whole k q) in omega arith
 
 module _ (old : List ℕ) {lent after : List ℕ} {r : Moved} (d : PlacedStore old lent r after) where
-  pub place-whole : (k : ℕ) → placeSizes (length old) (length lent) ≡ suc k → r ≡ record { answer = suc k; records = 0 }
-  unfolding placingRefusal
+  pub place-whole : (k : ℕ) → placeSizes (length old) (length lent) ≡ suc k → r ≡ record { answer = suc k; records = 0; faulty = 0 }
+  unfolding placingFault
   place-whole = told-whole (placeSizes (length old) (length lent)) (recordRefusal old) (recordsIn old) d
 
   pub place-told : placeSizes (length old) (length lent) ≡ done → (r .answer ≡ done → ⊥)
-      → Told (recordRefusal old) (recordsIn old) (r .answer) (firstFault (recordRefusal old) (recordsIn old) .faulty)
-  unfolding placingRefusal
+      → Told (recordRefusal old) (recordsIn old) (r .answer) (r .faulty)
+  unfolding placingFault
   place-told = told-first (placeSizes (length old) (length lent)) (recordRefusal old) (recordsIn old) d
 
+  pub place-few-told : r .faulty ≤ 2000
+  unfolding placingFault
+  place-few-told =
+      few-told (placeSizes (length old) (length lent)) (recordRefusal old) (recordsIn old) d
+      (λ z. let f = sized storeLimit recordSize placeSize (length old) (length lent) z .fits in omega arith)
+
 module _ (new : List ℕ) {lent after : List ℕ} {r : Moved} (d : UnplacedStore new lent r after) where
-  pub unplace-whole : (k : ℕ) → unplaceSizes (length new) (length lent) ≡ suc k → r ≡ record { answer = suc k; records = 0 }
-  unfolding unplacingRefusal
+  pub unplace-whole : (k : ℕ) → unplaceSizes (length new) (length lent) ≡ suc k → r ≡ record { answer = suc k; records = 0; faulty = 0 }
+  unfolding unplacingFault
   unplace-whole = told-whole (unplaceSizes (length new) (length lent)) (backRefusal new) (placesIn new) d
 
   pub unplace-told : unplaceSizes (length new) (length lent) ≡ done → (r .answer ≡ done → ⊥)
-      → Told (backRefusal new) (placesIn new) (r .answer) (firstFault (backRefusal new) (placesIn new) .faulty)
-  unfolding unplacingRefusal
+      → Told (backRefusal new) (placesIn new) (r .answer) (r .faulty)
+  unfolding unplacingFault
   unplace-told = told-first (unplaceSizes (length new) (length lent)) (backRefusal new) (placesIn new) d
+
+  pub unplace-few-told : r .faulty ≤ 2000
+  unfolding unplacingFault
+  unplace-few-told =
+      few-told (unplaceSizes (length new) (length lent)) (backRefusal new) (placesIn new) d
+      (λ z. let f = sized placeLimit placeSize recordSize (length new) (length lent) z .fits in omega arith)
 
 -- ---- which stores are moved
 
@@ -123,32 +150,34 @@ pub record Unplaceable (new : List ℕ) (room : ℕ) : Type 0 where
   pub movable-all : (n : ℕ) → n < placesIn new → backRefusal new n ≡ done
 
 pub placeable : (old : List ℕ) (room : ℕ) → placingRefusal old room ≡ done → Placeable old room
-unfolding placingRefusal
+unfolding placingFault
 placeable old room z =
-    let w = both-done (placeSizes (length old) room) _ z in
+    let w = whole-done (placeSizes (length old) room) _ z in
     let s = sized storeLimit recordSize placeSize (length old) room (w .0) in
     record { fits = s .fits; even = s .even; enough-room = s .enough-room; unrefused = none-faulty (recordRefusal old) (recordsIn old) (w .1) }
 
 pub placeable-so : (old : List ℕ) (room : ℕ) → Placeable old room → placingRefusal old room ≡ done
-unfolding placingRefusal
+unfolding placingFault
 placeable-so old room p =
-    sym
-    (next-checked (enough storeLimit recordSize placeSize (length old) room (p .fits) (p .even) (p .enough-room))
-    (rw (all-pass (recordRefusal old) (recordsIn old) (p .unrefused))))
+    ap (λ (x : Fault). x .answer)
+    (sym
+    (whole-passes (enough storeLimit recordSize placeSize (length old) room (p .fits) (p .even) (p .enough-room))
+    (sym (all-pass (recordRefusal old) (recordsIn old) (p .unrefused)))))
 
 pub unplaceable : (new : List ℕ) (room : ℕ) → unplacingRefusal new room ≡ done → Unplaceable new room
-unfolding unplacingRefusal
+unfolding unplacingFault
 unplaceable new room z =
-    let w = both-done (unplaceSizes (length new) room) _ z in
+    let w = whole-done (unplaceSizes (length new) room) _ z in
     let s = sized placeLimit placeSize recordSize (length new) room (w .0) in
     record { fits = s .fits; even = s .even; enough-room = s .enough-room; movable-all = none-faulty (backRefusal new) (placesIn new) (w .1) }
 
 pub unplaceable-so : (new : List ℕ) (room : ℕ) → Unplaceable new room → unplacingRefusal new room ≡ done
-unfolding unplacingRefusal
+unfolding unplacingFault
 unplaceable-so new room p =
-    sym
-    (next-checked (enough placeLimit placeSize recordSize (length new) room (p .fits) (p .even) (p .enough-room))
-    (rw (all-pass (backRefusal new) (placesIn new) (p .movable-all))))
+    ap (λ (x : Fault). x .answer)
+    (sym
+    (whole-passes (enough placeLimit placeSize recordSize (length new) room (p .fits) (p .even) (p .enough-room))
+    (sym (all-pass (backRefusal new) (placesIn new) (p .movable-all)))))
 
 -- a move that is done, of such a store
 pub place-done : {old lent after : List ℕ} {r : Moved} → PlacedStore old lent r after → r .answer ≡ done → Placeable old (length lent)
@@ -158,19 +187,20 @@ pub unplace-done : {new lent after : List ℕ} {r : Moved} → UnplacedStore new
 unplace-done {new} {lent} d z = unplaceable new (length lent) (sym (answer-number d) ∙ z)
 
 -- no count is above 2,000
-few : (refusal count : ℕ) → (refusal ≡ done → count ≤ 2000) → movedAt refusal count .records ≤ 2000
-few zero count f = f refl
-few (suc refusal) count f = omega arith
+few : (refusal faulty count : ℕ) → (refusal ≡ done → count ≤ 2000) → movedAt refusal faulty count .records ≤ 2000
+few zero faulty count f = f refl
+few (suc refusal) faulty count f = omega arith
+
+ap-few : (r : Moved) {s : Moved} → r ≡ s → s .records ≤ 2000 → r .records ≤ 2000
+ap-few r e l = rw e l
 
 pub place-few : (old : List ℕ) {lent after : List ℕ} {r : Moved} → PlacedStore old lent r after → r .records ≤ 2000
 place-few old {lent} {after} {r} d =
-    let e : r .records ≡ movedAt (placingRefusal old (length lent)) (recordsIn old) .records = ap (λ (x : Moved). x .records) (d .answers) in
-    rw e (few (placingRefusal old (length lent)) (recordsIn old) (λ z. let f = placeable old (length lent) z .fits in omega arith))
+    ap-few r (d .answers) (few (placingRefusal old (length lent)) _ (recordsIn old) (λ z. let f = placeable old (length lent) z .fits in omega arith))
 
 pub unplace-few : (new : List ℕ) {lent after : List ℕ} {r : Moved} → UnplacedStore new lent r after → r .records ≤ 2000
 unplace-few new {lent} {after} {r} d =
-    let e : r .records ≡ movedAt (unplacingRefusal new (length lent)) (placesIn new) .records = ap (λ (x : Moved). x .records) (d .answers) in
-    rw e (few (unplacingRefusal new (length lent)) (placesIn new) (λ z. let f = unplaceable new (length lent) z .fits in omega arith))
+    ap-few r (d .answers) (few (unplacingRefusal new (length lent)) _ (placesIn new) (λ z. let f = unplaceable new (length lent) z .fits in omega arith))
 
 -- the store that a move leaves in the lent bytes
 place-front : (old : List ℕ) {lent after : List ℕ} {r : Moved} → PlacedStore old lent r after → r .answer ≡ done
@@ -285,11 +315,13 @@ back-18 new n z r = cases (placed (placeIn new n)) (λ t. rw (z, t)) (λ f. absu
 pub held-18 : (new : List ℕ) {lent after : List ℕ} {r : Moved} → UnplacedStore new lent r after
     → length new ≤ placeLimit → length new % placeSize ≡ 0 → placesIn new * recordSize ≤ length lent
     → (n : ℕ) → n < placesIn new → IsPlaced new n → ((k : ℕ) → k ≤ n → placeRecordRefusal new k ≡ done)
-    → (r ≡ record { answer = placedRecord; records = 0 }) × (after ≡ lent)
+    → (r ≡ record { answer = placedRecord; records = 0; faulty = r .faulty }) × (r .faulty ≤ n) × (after ≡ lent)
 held-18 new {lent} {after} {r} d fits even room n h p fine =
     let held = held-back new d n h p in
     let t = unplace-told new d (enough placeLimit placeSize recordSize (length new) (length lent) fits even room) (held .0) in
-    let m : ℕ = firstFault (backRefusal new) (placesIn new) .faulty in
+    let m : ℕ = r .faulty in
     let low : m ≤ n = cases (ltb n m) (λ l. absurd (placed-refused new n p (t .first n (ltb-true _ _ l)))) (λ f. ltb-false _ _ f) in
     let is : r .answer ≡ placedRecord = sym (t .refused) ∙ back-18 new m (fine m low) (λ z. held .0 (sym (t .refused) ∙ z)) in
-    (none-moved d (held .0) ∙ ap (λ (x : ℕ). record { answer = x; records = 0 }) (sym (answer-number d) ∙ is), held .1)
+    let none = none-moved d (held .0) in
+    let tells : r .faulty ≡ unplacingFault new (length lent) .faulty = ap (λ (x : Moved). x .faulty) none in
+    (none ∙ ap₂ (λ (x y : ℕ). record { answer = x; records = 0; faulty = y }) (sym (answer-number d) ∙ is) (sym tells), low, held .1)

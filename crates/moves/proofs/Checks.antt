@@ -1,5 +1,5 @@
 -- Which check refuses a record on the way back, and a store. Assumes nothing.
-use mathlib.Core.Path.{_≡_, refl, sym, _∙_, ap}
+use mathlib.Core.Path.{_≡_, sym, _∙_}
 use mathlib.Core.List.{List}
 use Prim.Native.Nat.{ℕ, zero, suc, _*_, _/_, _%_, _≤_, _<_}
 use native.Mathlib.Omega.{arith}
@@ -8,12 +8,9 @@ use borrow.Author.Tests.{lt-ltb, le-ltb, eq-eqb, ne-eqb, ltb-false, eqb-true}
 use Rattle.laws.specs.Pick.{pick}
 use Rattle.laws.proofs.Tests.{cases}
 use Rattle.bc6h_spec.specs.Answers.{done, shortOutput, longStore, unevenStore, placedRecord}
-use Rattle.laws.specs.First.{firstBelow}
-use Rattle.places.specs.declared.Fault.{Fault}
 use Rattle.places.specs.declared.Place.{Place}
-use Rattle.places.specs.Faults.{orNext, isFaulty, firstFault}
+use Rattle.places.specs.Faults.{orNext}
 use Rattle.places.specs.Places.{faceCount, faceIn, placeIn, placed, placeRecordRefusal}
-use Rattle.places.proofs.Faults.{fault-here, fault-none}
 use Rattle.moves.specs.Moves.{sizeRefusal, backRefusal}
 
 -- ---- a record on the way back
@@ -73,25 +70,3 @@ module _ (limit from to size room : ℕ) where
       (λ b. cases (ltb room (size / from * to)) (λ t. absurd (omega (arith, rw (a, b, t) at z)))
       (λ e. record { fits = ltb-false _ _ a; even = eqb-true _ _ b; enough-room = ltb-false _ _ e }))
       (λ f. absurd (omega (arith, rw (a, f) at z))))
-
--- ---- one check, then the next
-
-pub next-refused : (k next : ℕ) {first : ℕ} → first ≡ suc k → suc k ≡ orNext first next
-next-refused k next e = rw e
-
-pub next-checked : {first next r : ℕ} → first ≡ done → r ≡ next → r ≡ orNext first next
-next-checked z e = rw z e
-
-pub both-done : (first next : ℕ) → orNext first next ≡ done → (first ≡ done) × (next ≡ done)
-both-done zero next e = (refl, e)
-both-done (suc k) next e = absurd (omega arith)
-
--- ---- the first refused record's number
-
-module _ (refusal : ℕ → ℕ) (count : ℕ) where
-  pub refusal-here : {number n : ℕ} → firstBelow (isFaulty refusal) n ≡ n → n < count → number ≡ refusal n → (number ≡ done → ⊥)
-      → number ≡ firstFault refusal count .answer
-  refusal-here e h a z = ap (λ (x : Fault). x .answer) (fault-here refusal count e h a z)
-
-  pub refusal-none : {n : ℕ} → firstBelow (isFaulty refusal) n ≡ n → n ≤ count → count ≤ n → done ≡ firstFault refusal count .answer
-  refusal-none e h l = ap (λ (x : Fault). x .answer) (fault-none refusal count e h l)

@@ -9,9 +9,11 @@ use Rattle.laws.proofs.Rows.{length-made}
 use Rattle.bc6h_spec.specs.Answers.{done}
 use Rattle.records.specs.Store.{recordSize, storeLimit, recordsIn, byteOf}
 use Rattle.places.specs.Places.{placeSize, placeHead, placeLimit, noFace, placesIn, byteAt}
+use Rattle.places.specs.declared.Fault.{Fault}
+use Rattle.places.proofs.Faults.{whole-done}
 use Rattle.moves.specs.declared.Moved.{Moved}
-use Rattle.moves.specs.Moves.{placedByte, placedAt, placedStore, oldByte, oldAt, oldStore, placingRefusal, unplacingRefusal, movedAt, MovedTo}
-use Rattle.moves.proofs.Checks.{sized, both-done}
+use Rattle.moves.specs.Moves.{placedByte, placedAt, placedStore, oldByte, oldAt, oldStore, placingFault, unplacingFault, movedAt, MovedTo}
+use Rattle.moves.proofs.Checks.{sized}
 
 -- ---- one byte
 
@@ -57,24 +59,25 @@ old-length new = length-made (oldAt new) (placesIn new * recordSize)
 
 -- ---- the room, where nothing is refused
 
-pub place-room : (old : List ℕ) (room : ℕ) {a : ℕ} → a ≡ placingRefusal old room → a ≡ done → recordsIn old * placeSize ≤ room
-unfolding placingRefusal
-place-room old room e z = sized storeLimit recordSize placeSize (length old) room (both-done _ _ (sym e ∙ z) .0) .enough-room
+pub place-room : (old : List ℕ) (room : ℕ) {fault : Fault} → fault ≡ placingFault old room → fault .answer ≡ done → recordsIn old * placeSize ≤ room
+unfolding placingFault
+place-room old room e z = sized storeLimit recordSize placeSize (length old) room (whole-done _ _ (rw e at z) .0) .enough-room
 
-pub unplace-room : (new : List ℕ) (room : ℕ) {a : ℕ} → a ≡ unplacingRefusal new room → a ≡ done → placesIn new * recordSize ≤ room
-unfolding unplacingRefusal
-unplace-room new room e z = sized placeLimit placeSize recordSize (length new) room (both-done _ _ (sym e ∙ z) .0) .enough-room
+pub unplace-room : (new : List ℕ) (room : ℕ) {fault : Fault} → fault ≡ unplacingFault new room → fault .answer ≡ done → placesIn new * recordSize ≤ room
+unfolding unplacingFault
+unplace-room new room e z = sized placeLimit placeSize recordSize (length new) room (whole-done _ _ (rw e at z) .0) .enough-room
 
 -- ---- the statement, at each return
 
-module _ (count : ℕ) (moved lent : List ℕ) {refusal a : ℕ} (e : a ≡ refusal) where
-  pub moved-refused : {r : Moved} → (a ≡ done → ⊥) → r ≡ record { answer = a; records = 0 } → MovedTo refusal count moved lent r lent
-  moved-refused {r} z q = go refusal e
+module _ (count : ℕ) (moved lent : List ℕ) {fault a : Fault} (e : a ≡ fault) where
+  pub moved-refused : {r : Moved} → (a .answer ≡ done → ⊥) → r ≡ record { answer = a .answer; records = 0; faulty = a .faulty }
+      → MovedTo fault count moved lent r lent
+  moved-refused {r} z q = rw (sym e) (go (a .answer) refl)
     where
-      go : (k : ℕ) → a ≡ k → MovedTo k count moved lent r lent
+      go : (k : ℕ) → a .answer ≡ k → MovedTo a count moved lent r lent
       go zero w = absurd (z w)
-      go (suc k) w = record { answers = q ∙ rw w; holds = refl }
+      go (suc k) w = record { answers = q ∙ rw w; holds = rw w }
 
-  pub moved-done : (size : ℕ) {r : Moved} {after : List ℕ} → a ≡ done → r ≡ movedAt 0 count → length moved ≡ size
-      → after ≡ moved ++ drop size lent → MovedTo refusal count moved lent r after
-  moved-done size z q l h = let n : refusal ≡ 0 = sym e ∙ z in record { answers = q ∙ rw n; holds = rw (n, l) h }
+  pub moved-done : (size : ℕ) {r : Moved} {after : List ℕ} → a .answer ≡ done → r ≡ movedAt 0 0 count → length moved ≡ size
+      → after ≡ moved ++ drop size lent → MovedTo fault count moved lent r after
+  moved-done size z q l h = rw (sym e) (record { answers = q ∙ rw z; holds = rw (z, l) h })

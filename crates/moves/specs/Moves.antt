@@ -8,7 +8,8 @@ use Rattle.laws.specs.Pick.{pick}
 use Rattle.laws.specs.Made.{made}
 use Rattle.bc6h_spec.specs.Answers.{done, shortOutput, longStore, unevenStore, placedRecord}
 use Rattle.records.specs.Store.{recordSize, headSize, storeLimit, recordsIn, byteOf, recordRefusal}
-use Rattle.places.specs.Faults.{orNext, firstFault}
+use Rattle.places.specs.declared.Fault.{Fault}
+use Rattle.places.specs.Faults.{orNext, firstFault, wholeFirst}
 use Rattle.places.specs.Places.{placeSize, placeHead, placeLimit, noFace, placesIn, byteAt, placeIn, placed, placeRecordRefusal}
 use Rattle.moves.specs.declared.Moved.{Moved}
 
@@ -52,32 +53,38 @@ unplaceSizes size room = sizeRefusal placeLimit placeSize recordSize size room
 unfoldable pub backRefusal : List ℕ → ℕ → ℕ
 backRefusal new n = orNext (placeRecordRefusal new n) (pick (placed (placeIn new n)) placedRecord done)
 
--- .. "lowest record first"
-unfoldable pub placingRefusal : List ℕ → ℕ → ℕ
-placingRefusal old room = orNext (placeSizes (length old) room) (firstFault (recordRefusal old) (recordsIn old) .answer)
+-- .. "lowest record first": the refusal's number, and the record that is why; 0 where none is
+unfoldable pub placingFault : List ℕ → ℕ → Fault
+placingFault old room = wholeFirst (placeSizes (length old) room) (firstFault (recordRefusal old) (recordsIn old))
 
-unfoldable pub unplacingRefusal : List ℕ → ℕ → ℕ
-unplacingRefusal new room = orNext (unplaceSizes (length new) room) (firstFault (backRefusal new) (placesIn new) .answer)
+unfoldable pub unplacingFault : List ℕ → ℕ → Fault
+unplacingFault new room = wholeFirst (unplaceSizes (length new) room) (firstFault (backRefusal new) (placesIn new))
+
+abbrev pub placingRefusal : List ℕ → ℕ → ℕ
+placingRefusal old room = placingFault old room .answer
+
+abbrev pub unplacingRefusal : List ℕ → ℕ → ℕ
+unplacingRefusal new room = unplacingFault new room .answer
 
 -- ---- the calls
 
--- The number, and how many records were moved: none on a refusal.
-abbrev pub movedAt : ℕ → ℕ → Moved
-movedAt zero count = record { answer = done; records = count }
-movedAt (suc number) count = record { answer = suc number; records = 0 }
+-- The number, how many records were moved, none on a refusal, and the first faulty record where one is why.
+abbrev pub movedAt : ℕ → ℕ → ℕ → Moved
+movedAt zero faulty count = record { answer = done; records = count; faulty = 0 }
+movedAt (suc number) faulty count = record { answer = suc number; records = 0; faulty = faulty }
 
 -- "Each move is all or nothing": what the lent bytes then are
 abbrev pub bytesAt : ℕ → List ℕ → List ℕ → List ℕ
 bytesAt zero moved lent = moved ++ drop (length moved) lent
 bytesAt (suc number) moved lent = lent
 
-pub record MovedTo (refusal count : ℕ) (moved lent : List ℕ) (r : Moved) (after : List ℕ) : Type 0 where
-  pub answers : r ≡ movedAt refusal count
-  pub holds : after ≡ bytesAt refusal moved lent
+pub record MovedTo (fault : Fault) (count : ℕ) (moved lent : List ℕ) (r : Moved) (after : List ℕ) : Type 0 where
+  pub answers : r ≡ movedAt (fault .answer) (fault .faulty) count
+  pub holds : after ≡ bytesAt (fault .answer) moved lent
 
 -- The statements of the two calls.
 abbrev pub PlacedStore : (old lent : List ℕ) (r : Moved) (after : List ℕ) → Type 0
-PlacedStore old lent r after = MovedTo (placingRefusal old (length lent)) (recordsIn old) (placedStore old) lent r after
+PlacedStore old lent r after = MovedTo (placingFault old (length lent)) (recordsIn old) (placedStore old) lent r after
 
 abbrev pub UnplacedStore : (new lent : List ℕ) (r : Moved) (after : List ℕ) → Type 0
-UnplacedStore new lent r after = MovedTo (unplacingRefusal new (length lent)) (placesIn new) (oldStore new) lent r after
+UnplacedStore new lent r after = MovedTo (unplacingFault new (length lent)) (placesIn new) (oldStore new) lent r after

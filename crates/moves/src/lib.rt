@@ -7,67 +7,77 @@ ghost use lib.ListN.{length, drop};
 ghost use Rattle.records.specs.Store.{recordSize, recordsIn, recordRefusal};
 ghost use Rattle.places.specs.Faults.{firstFault};
 ghost use Rattle.places.specs.Places.{placeSize, placesIn};
-ghost use Rattle.moves.specs.Moves.{placedAt, placedStore, oldAt, oldStore, backRefusal, placingRefusal, unplacingRefusal, movedAt, PlacedStore, UnplacedStore};
+ghost use Rattle.moves.specs.Moves.{placedAt, placedStore, oldAt, oldStore, backRefusal, placingFault, unplacingFault, movedAt, PlacedStore, UnplacedStore};
 use bc6h_spec::Answer;
+use places::Fault;
 use places::Place;
 use places::place_at;
 use places::place_record_refusal;
 use records::Record;
 use records::record_at;
 
-// What a move answers: its number, and how many records were moved.
+// What a move answers: its number, how many records were moved, and the number of the first faulty record where a record is why none was.
 pub struct Moved {
     pub answer: u8,
     pub records: usize,
+    pub faulty: usize,
 }
 
 impl Moved {
-    fn refused(answer: u8) -> Moved
-        ensures { λ r. ⌜ r ≡ record { answer = answer; records = 0 } ⌝ }
+    fn refused(fault: Fault) -> Moved
+        ensures { λ r. ⌜ r ≡ record { answer = fault .answer; records = 0; faulty = fault .faulty } ⌝ }
     {
-        Moved { answer, records: 0 }
+        Moved {
+            answer: fault.answer,
+            records: 0,
+            faulty: fault.faulty,
+        }
     }
 
     fn done(records: usize) -> Moved
-        ensures { λ r. ⌜ r ≡ movedAt 0 records ⌝ }
+        ensures { λ r. ⌜ r ≡ movedAt 0 0 records ⌝ }
     {
         Moved {
             answer: Answer::DONE,
             records,
+            faulty: 0,
         }
     }
 }
 
 // ---- old to new
 
-// The number of the first record of an old store that is refused.
-fn first_old_refusal(old: &[u8]) -> u8
-    ensures { λ r. ⌜ r ≡ firstFault (recordRefusal (now (old .entry))) (recordsIn (now (old .entry))) .answer ⌝ }
+// The first record of an old store that is refused.
+fn first_old_fault(old: &[u8]) -> Fault
+    ensures { λ r. ⌜ r ≡ firstFault (recordRefusal (now (old .entry))) (recordsIn (now (old .entry))) ⌝ }
 {
     let count = old.len() / Record::SIZE;
     for n in 0..count {
         let refusal = record_at(old, n).number();
         if refusal != Answer::DONE {
-            return refusal;
+            return Fault {
+                answer: refusal,
+                faulty: n,
+            };
         }
     }
-    Answer::DONE
+    Fault::none()
 }
 
 // Why an old store does not move into so much room.
-fn placing_refusal(old: &[u8], room: usize) -> u8
-    ensures { λ r. ⌜ r ≡ placingRefusal (now (old .entry)) room ⌝ }
+fn placing_fault(old: &[u8], room: usize) -> Fault
+    ensures { λ r. ⌜ r ≡ placingFault (now (old .entry)) room ⌝ }
 {
     if old.len() > Record::STORE {
-        return Answer::LONG_STORE;
+        return Fault::alone(Answer::LONG_STORE);
     }
     if old.len() % Record::SIZE != 0 {
-        return Answer::UNEVEN_STORE;
+        return Fault::alone(Answer::UNEVEN_STORE);
     }
     if room < old.len() / Record::SIZE * Place::SIZE {
-        return Answer::SHORT_OUTPUT;
+        return Fault::alone(Answer::SHORT_OUTPUT);
     }
-    first_old_refusal(old)
+    first_old_fault(old)
 }
 
 // Byte j of the store that an old one becomes.
@@ -103,9 +113,9 @@ fn place_records(old: &[u8], out: &mut [u8])
 pub fn place_store(old: &[u8], out: &mut [u8]) -> Moved
     ensures { λ r. ⌜ PlacedStore (now (old .entry)) (now (out .entry)) r (now (out .exit)) ⌝ }
 {
-    let refusal = placing_refusal(old, out.len());
-    if refusal != Answer::DONE {
-        return Moved::refused(refusal);
+    let fault = placing_fault(old, out.len());
+    if fault.answer != Answer::DONE {
+        return Moved::refused(fault);
     }
     place_records(old, out);
     Moved::done(old.len() / Record::SIZE)
@@ -128,34 +138,37 @@ fn back_refusal(store: &[u8], n: usize) -> u8
     Answer::DONE
 }
 
-// The number of the first record that does not move back.
-fn first_back_refusal(store: &[u8]) -> u8
-    ensures { λ r. ⌜ r ≡ firstFault (backRefusal (now (store .entry))) (placesIn (now (store .entry))) .answer ⌝ }
+// The first record that does not move back.
+fn first_back_fault(store: &[u8]) -> Fault
+    ensures { λ r. ⌜ r ≡ firstFault (backRefusal (now (store .entry))) (placesIn (now (store .entry))) ⌝ }
 {
     let count = store.len() / Place::SIZE;
     for n in 0..count {
         let refusal = back_refusal(store, n);
         if refusal != Answer::DONE {
-            return refusal;
+            return Fault {
+                answer: refusal,
+                faulty: n,
+            };
         }
     }
-    Answer::DONE
+    Fault::none()
 }
 
 // Why a store does not move back into so much room.
-fn unplacing_refusal(store: &[u8], room: usize) -> u8
-    ensures { λ r. ⌜ r ≡ unplacingRefusal (now (store .entry)) room ⌝ }
+fn unplacing_fault(store: &[u8], room: usize) -> Fault
+    ensures { λ r. ⌜ r ≡ unplacingFault (now (store .entry)) room ⌝ }
 {
     if store.len() > Place::STORE {
-        return Answer::LONG_STORE;
+        return Fault::alone(Answer::LONG_STORE);
     }
     if store.len() % Place::SIZE != 0 {
-        return Answer::UNEVEN_STORE;
+        return Fault::alone(Answer::UNEVEN_STORE);
     }
     if room < store.len() / Place::SIZE * Record::SIZE {
-        return Answer::SHORT_OUTPUT;
+        return Fault::alone(Answer::SHORT_OUTPUT);
     }
-    first_back_refusal(store)
+    first_back_fault(store)
 }
 
 // Byte j of the old store that a new one becomes.
@@ -188,9 +201,9 @@ fn unplace_records(store: &[u8], out: &mut [u8])
 pub fn unplace_store(store: &[u8], out: &mut [u8]) -> Moved
     ensures { λ r. ⌜ UnplacedStore (now (store .entry)) (now (out .entry)) r (now (out .exit)) ⌝ }
 {
-    let refusal = unplacing_refusal(store, out.len());
-    if refusal != Answer::DONE {
-        return Moved::refused(refusal);
+    let fault = unplacing_fault(store, out.len());
+    if fault.answer != Answer::DONE {
+        return Moved::refused(fault);
     }
     unplace_records(store, out);
     Moved::done(store.len() / Place::SIZE)

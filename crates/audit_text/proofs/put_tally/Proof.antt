@@ -4,6 +4,9 @@ use borrow.Author.Needs.{needs}
 use Rattle.audit_text.proofs.put_tally.Statement.{statement}
 use Rattle.audit_text.proofs.put_tally.Tie as tie
 
+put-faults-requires : tie.Need-put-faults-requires
+put-faults-requires c κs = search needs
+
 slice-aggregate-put-count : tie.Need-slice-aggregate-put-count
 slice-aggregate-put-count c = search needs
 
@@ -39,12 +42,13 @@ same-length c = search needs
 
 returns : tie.Need-returns
 unfolding tallyLine
-returns c = (search needs, then (then (then (then (c .before .before .before .before .before .before .before .before .before .before .before .before .before .before .before .before .before .before .before .before .before .before .put-count .ensures .1) (c .before .before .before .before .before .before .before .before .before .before .before .before .before .before .before .before .before .put-count2 .ensures .1)) (c .before .before .before .before .before .before .before .before .before .before .before .before .put-count3 .ensures .1)) (c .before .before .before .before .before .before .before .put-count4 .ensures .1)) (c .before .before .put .ensures .1))
+returns c = (search needs, then (then (then (then (then (c .before .before .before .before .before .before .before .before .before .before .before .before .before .before .before .before .before .before .before .before .before .before .before .before .before .before .before .put-faults .ensures .1) (c .before .before .before .before .before .before .before .before .before .before .before .before .before .before .before .before .before .before .before .before .before .before .put-count .ensures .1)) (c .before .before .before .before .before .before .before .before .before .before .before .before .before .before .before .before .before .put-count2 .ensures .1)) (c .before .before .before .before .before .before .before .before .before .before .before .before .put-count3 .ensures .1)) (c .before .before .before .before .before .before .before .put-count4 .ensures .1)) (c .before .before .put .ensures .1))
 
 pub put-tally-spec : {M : Type 1} → statement M
 put-tally-spec =
     tie.close
     (tie.spec
+    put-faults-requires
     slice-aggregate-put-count
     put-count-requires
     slice-aggregate-put-count-2

@@ -85,6 +85,9 @@ loop-again-2 c =
       twins.line-more store (l .n) _ m (c .before .before .before .before .before .before .before .before .before .before .if1 .left) f (l .inv .4) (c .before .before .before .before .before .before .before .put-twin .ensures .1),
     )
 
+count-faults-requires : tie.Need-count-faults-requires Inv-loop μ-loop
+count-faults-requires c κs = search needs
+
 put-tally-requires : tie.Need-put-tally-requires Inv-loop μ-loop
 put-tally-requires c κs = search needs
 
@@ -93,8 +96,9 @@ same-length c = search needs
 
 returns : tie.Need-returns Inv-loop μ-loop
 returns c =
-    let l = c .before .before .before .before .before .loop in
-    (search needs, twins.tallied (c .before .before .before .before .before .before .before .before .before .args .store .now) (l .n) (recordsIn (c .before .before .before .before .before .before .before .before .before .args .store .now)) (search needs) (search needs) (l .inv .3) (l .inv .4) (c .before .before .put-tally .ensures .1))
+    let l = c .before .before .before .before .before .before .loop in
+    let store = c .before .before .before .before .before .before .before .before .before .before .args .store .now in
+    (search needs, twins.tallied store (l .n) (recordsIn store) (search needs) (search needs) (l .inv .3) (c .before .before .before .before .count-faults .ensures) (l .inv .4) (c .before .before .put-tally .ensures .1))
 
 pub put-twins-spec : {M : Type 1} → statement M
 put-twins-spec =
@@ -120,6 +124,7 @@ put-twins-spec =
     add-n-2
     loop-less-2
     loop-again-2
+    count-faults-requires
     put-tally-requires
     same-length
     returns)

@@ -1,4 +1,4 @@
-use Rattle.moves.proofs.Calls.{place-few}
+use Rattle.moves.proofs.Calls.{place-few, place-few-told}
 use Rattle.knotpasture.proofs.PlacedWords.{place-called}
 use borrow.Author.Needs.{needs}
 use Rattle.knotpasture.proofs.placed.knot_place_store.Statement.{statement}
@@ -8,7 +8,7 @@ place-store-requires : tie.Need-place-store-requires
 place-store-requires c κs = search needs
 
 moved-word-requires : tie.Need-moved-word-requires
-moved-word-requires c κs = place-few _ (c .before .before .place-store .ensures)
+moved-word-requires c κs = (place-few _ (c .before .before .place-store .ensures), place-few-told _ (c .before .before .place-store .ensures))
 
 same-length : tie.Need-same-length
 same-length c = search needs

@@ -1,4 +1,4 @@
-use Rattle.moves.proofs.Calls.{unplace-few}
+use Rattle.moves.proofs.Calls.{unplace-few, unplace-few-told}
 use Rattle.knotpasture.proofs.PlacedWords.{unplace-called}
 use borrow.Author.Needs.{needs}
 use Rattle.knotpasture.proofs.placed.knot_unplace_store.Statement.{statement}
@@ -8,7 +8,7 @@ unplace-store-requires : tie.Need-unplace-store-requires
 unplace-store-requires c κs = search needs
 
 moved-word-requires : tie.Need-moved-word-requires
-moved-word-requires c κs = unplace-few _ (c .before .before .unplace-store .ensures)
+moved-word-requires c κs = (unplace-few _ (c .before .before .unplace-store .ensures), unplace-few-told _ (c .before .before .unplace-store .ensures))
 
 same-length : tie.Need-same-length
 same-length c = search needs

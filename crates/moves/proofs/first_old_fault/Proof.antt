@@ -4,11 +4,10 @@ use Rattle.laws.specs.First.{firstBelow}
 use Rattle.laws.proofs.Firsts.{first-none, first-more}
 use Rattle.records.specs.Store.{recordRefusal}
 use Rattle.places.specs.Faults.{isFaulty}
-use Rattle.places.proofs.Faults.{passes}
-use Rattle.moves.proofs.Checks.{refusal-here, refusal-none}
+use Rattle.places.proofs.Faults.{passes, fault-here, fault-none}
 use borrow.Author.Needs.{needs}
-use Rattle.moves.proofs.first_old_refusal.Statement.{statement}
-use Rattle.moves.proofs.first_old_refusal.Tie as tie
+use Rattle.moves.proofs.first_old_fault.Statement.{statement}
+use Rattle.moves.proofs.first_old_fault.Tie as tie
 
 abbrev Inv-loop : tie.InvT-loop
 Inv-loop old count n₀ n = (n ≤ count) × (firstBelow (isFaulty (recordRefusal old)) n ≡ n)
@@ -26,7 +25,7 @@ number-requires : tie.Need-number-requires Inv-loop μ-loop
 number-requires c κs = search needs
 
 returns : tie.Need-returns Inv-loop μ-loop
-returns c = refusal-here _ _ (c .before .before .before .before .loop .inv .1) (search needs) (c .before .number .ensures ∙ c .before .before .record-at .ensures .answers) (c .if1 .taken)
+returns c = fault-here _ _ (c .before .before .before .before .loop .inv .1) (search needs) (c .before .number .ensures ∙ c .before .before .record-at .ensures .answers) (c .if1 .taken)
 
 add-n : tie.Need-add-n Inv-loop μ-loop
 add-n c = search needs
@@ -37,11 +36,14 @@ loop-less c = search needs
 loop-again : tie.Need-loop-again Inv-loop μ-loop
 loop-again c = (search needs, first-more _ _ (c .before .before .before .before .loop .inv .1) (passes _ (c .before .number .ensures ∙ c .before .before .record-at .ensures .answers) (c .if1 .left)))
 
-returns-2 : tie.Need-returns-2 Inv-loop μ-loop
-returns-2 c = refusal-none _ _ (c .before .loop .inv .1) (search needs) (search needs)
+none-requires : tie.Need-none-requires Inv-loop μ-loop
+none-requires c κs = search needs
 
-pub first-old-refusal-spec : {M : Type 1} → statement M
-first-old-refusal-spec =
+returns-2 : tie.Need-returns-2 Inv-loop μ-loop
+returns-2 c = c .none .ensures ∙ fault-none _ _ (c .before .before .loop .inv .1) (search needs) (search needs)
+
+pub first-old-fault-spec : {M : Type 1} → statement M
+first-old-fault-spec =
     tie.close
     (tie.spec
     Inv-loop
@@ -53,4 +55,5 @@ first-old-refusal-spec =
     add-n
     loop-less
     loop-again
+    none-requires
     returns-2)

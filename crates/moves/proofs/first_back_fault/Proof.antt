@@ -1,14 +1,13 @@
 use Prim.Native.Nat.{_≤_, _-_}
-use mathlib.Core.Path.{_≡_}
+use mathlib.Core.Path.{_≡_, _∙_}
 use Rattle.laws.specs.First.{firstBelow}
 use Rattle.laws.proofs.Firsts.{first-none, first-more}
 use Rattle.places.specs.Faults.{isFaulty}
 use Rattle.moves.specs.Moves.{backRefusal}
-use Rattle.places.proofs.Faults.{passes}
-use Rattle.moves.proofs.Checks.{refusal-here, refusal-none}
+use Rattle.places.proofs.Faults.{passes, fault-here, fault-none}
 use borrow.Author.Needs.{needs}
-use Rattle.moves.proofs.first_back_refusal.Statement.{statement}
-use Rattle.moves.proofs.first_back_refusal.Tie as tie
+use Rattle.moves.proofs.first_back_fault.Statement.{statement}
+use Rattle.moves.proofs.first_back_fault.Tie as tie
 
 abbrev Inv-loop : tie.InvT-loop
 Inv-loop store count n₀ n = (n ≤ count) × (firstBelow (isFaulty (backRefusal store)) n ≡ n)
@@ -23,7 +22,7 @@ back-refusal-requires : tie.Need-back-refusal-requires Inv-loop μ-loop
 back-refusal-requires c κs = search needs
 
 returns : tie.Need-returns Inv-loop μ-loop
-returns c = refusal-here _ _ (c .before .before .before .loop .inv .1) (search needs) (c .before .back-refusal .ensures) (c .if1 .taken)
+returns c = fault-here _ _ (c .before .before .before .loop .inv .1) (search needs) (c .before .back-refusal .ensures) (c .if1 .taken)
 
 add-n : tie.Need-add-n Inv-loop μ-loop
 add-n c = search needs
@@ -34,11 +33,14 @@ loop-less c = search needs
 loop-again : tie.Need-loop-again Inv-loop μ-loop
 loop-again c = (search needs, first-more _ _ (c .before .before .before .loop .inv .1) (passes _ (c .before .back-refusal .ensures) (c .if1 .left)))
 
-returns-2 : tie.Need-returns-2 Inv-loop μ-loop
-returns-2 c = refusal-none _ _ (c .before .loop .inv .1) (search needs) (search needs)
+none-requires : tie.Need-none-requires Inv-loop μ-loop
+none-requires c κs = search needs
 
-pub first-back-refusal-spec : {M : Type 1} → statement M
-first-back-refusal-spec =
+returns-2 : tie.Need-returns-2 Inv-loop μ-loop
+returns-2 c = c .none .ensures ∙ fault-none _ _ (c .before .before .loop .inv .1) (search needs) (search needs)
+
+pub first-back-fault-spec : {M : Type 1} → statement M
+first-back-fault-spec =
     tie.close
     (tie.spec
     Inv-loop
@@ -49,4 +51,5 @@ first-back-refusal-spec =
     add-n
     loop-less
     loop-again
+    none-requires
     returns-2)

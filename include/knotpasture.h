@@ -53,7 +53,11 @@ enum knot_answer {
     KNOT_PAST_EDGE = 21,    /* column or row of a record at or past the edge */
     KNOT_TAKEN_PLACE = 22,  /* an earlier record has the same face, column and row */
     KNOT_EMPTY_PLACE = 23,  /* no record has some face, column and row of the probe */
-    KNOT_NO_PIXEL = 24      /* face, x or y out of range */
+    KNOT_NO_PIXEL = 24,     /* face, x or y out of range */
+    KNOT_BAD_RECEIPT = 25,  /* receipt that does not fit the cleaned store, from knot_restore_store only */
+    KNOT_OTHER_STORE = 26,  /* from the commands only: the store is not the one that was signed */
+    KNOT_OTHER_RECEIPT = 27, /* from the commands only: the receipt is of another store */
+    KNOT_OTHER_FILE = 28    /* from the commands only: the file looks like something else */
 };
 
 enum knot_format { KNOT_UNSIGNED = 0, KNOT_SIGNED = 1 };
@@ -70,7 +74,8 @@ enum {
     KNOT_FIELDS = 32,         /* numbers of a field record */
     KNOT_RECORD_SIZE = 24,    /* bytes of a record */
     KNOT_STORE_LIMIT = 48000, /* bytes of a store, at most */
-    KNOT_SCRATCH_VALUES = 49  /* values of scratch space for each record of a store */
+    KNOT_SCRATCH_VALUES = 49, /* values of scratch space for each record of a store */
+    KNOT_RECEIPT_ENTRY = 8    /* bytes of a receipt for each removed record */
 };
 
 /* The number of an answer. */
@@ -253,7 +258,7 @@ bool knot_is_covered(const uint8_t *store, size_t store_length, size_t n, size_t
 
 /* Writes the records of a store that stay, in order and byte for byte, to out; the rest of out stays. A record is removed exactly when
  * an earlier record that stays has the same format and the same sixteen block bytes, and neither is refused or reserved. Twins that only
- * look alike stay. What a removed record loses all the same is its tile number.
+ * look alike stay. A removed record's tile number is not in out: knot_clean_with_receipt keeps it in the receipt.
  *
  * Answers the number in the low byte; where that is 0, how many records stay in bits 16 to 31 (the first 24 bytes of out for each) and how
  * many are removed in bits 32 to 47. Refusals: 5, 6, 3 (room for fewer records than the store has); a refusal's word is its number.
@@ -264,6 +269,37 @@ uint64_t knot_clean_store(const uint8_t *store, size_t store_length, uint8_t *ou
 
 #define KNOT_STAY_COUNT(word) ((unsigned)((word) >> 16 & 0xFFFF))
 #define KNOT_REMOVED_COUNT(word) ((unsigned)((word) >> 32 & 0xFFFF))
+
+/* Cleans a store as knot_clean_store does, and writes a receipt of what was removed, by which knot_restore_store undoes it. The receipt has
+ * KNOT_RECEIPT_ENTRY bytes for each removed record, in the order of their numbers: the record's number (2 bytes, low byte first), the number of
+ * the record that stays for it (2 bytes), its tile (4 bytes). Both numbers are those of the store as it was. The rest of receipt and of out
+ * stays.
+ *
+ * Where the number is 0, answer and out are those of knot_clean_store, and the receipt has an entry for each removed record. Refusals: 5, 6, 3
+ * (room for fewer records than the store has, or receipt space below KNOT_RECEIPT_ENTRY bytes a record of the store); a refusal changes neither
+ * out nor receipt, and its word is its number. out and receipt must not overlap.
+ *
+ * Stack: 12,500 bytes.
+ */
+uint64_t knot_clean_with_receipt(const uint8_t *store, size_t store_length, uint8_t *out, size_t out_length, uint8_t *receipt,
+                                 size_t receipt_length);
+
+/* Writes the store of which a clean-up with this receipt left these records, to out; the rest of out stays. Record n is what the entry of
+ * number n says, its tile followed by bytes 4 to 23 of the record that stays for it; where no entry has that number, the next record of the
+ * cleaned store. Of exactly the bytes that knot_clean_with_receipt wrote, the cleaned store and the receipt, it gives back the same store, byte
+ * for byte. It does not tell whether a receipt that fits belongs to the cleaned store.
+ *
+ * Answers the number in the low byte; where that is 0, the number of records in bits 16 to 31. Refusals: 5 (a cleaned store above
+ * KNOT_STORE_LIMIT bytes, or records and entries together above 2,000), 6, 25 (a receipt that is not whole, an entry's number that is not above
+ * the one before or not below the number of records, or a record that stays that is not below it), 3 (fewer than 24 bytes of room a record), in
+ * this order; the receipt is checked whole before anything is written, and a refusal's word is its number.
+ *
+ * Stack: 50 bytes.
+ */
+uint64_t knot_restore_store(const uint8_t *cleaned, size_t cleaned_length, const uint8_t *receipt, size_t receipt_length, uint8_t *out,
+                            size_t out_length);
+
+#define KNOT_RESTORED(word) ((unsigned)((word) >> 16 & 0xFFFF))
 
 /* The record that stays for record n where knot_clean_store removes that; n where it stays, and where there is no such record.
  *

@@ -30,7 +30,7 @@ from .words import WORDS
 __version__ = "0.9.0"
 
 BLOCK_SIZE, VALUES, FIELDS, BC7_BYTES = 16, 48, 32, 64
-RECORD_SIZE, STORE_LIMIT, SCRATCH_VALUES = 24, 48_000, 49
+RECORD_SIZE, STORE_LIMIT, SCRATCH_VALUES, RECEIPT_ENTRY = 24, 48_000, 49, 8
 PLACED_SIZE, PLACED_STORE_LIMIT, FACES, EDGE_LIMIT = 32, 64_000, 6, 16
 DDS_HEADER, DDS_LIMIT, PFM_LIMIT = 148, 4096, 4096
 BC7_RESERVED = 8
@@ -354,6 +354,39 @@ def clean(store: Bytes) -> Cleaned:
     word = _done(_library.call("knot_clean_store")(given.ctypes.data, given.size, room.ctypes.data, room.size))
     stay = _part(word, 16)
     return Cleaned(room[: stay * RECORD_SIZE], stay, _part(word, 32))
+
+
+class CleanedWithReceipt(NamedTuple):
+    """A cleaned store, how many records stay and are removed, and the receipt: the bytes that `restore_store` takes back."""
+
+    store: NDArray[numpy.uint8]
+    stay: int
+    removed: int
+    receipt: NDArray[numpy.uint8]
+
+
+def clean_with_receipt(store: Bytes) -> CleanedWithReceipt:
+    """`clean`, and a receipt of what was removed: of each record 8 bytes, its number, that of the record that stays, and its tile.
+
+    Numbers have 2 bytes and a tile 4, low byte first. Refusals: 5, 6.
+    """
+    given = _bytes(store, "store")
+    size = min(given.size, STORE_LIMIT)
+    room, paper = numpy.empty(size, numpy.uint8), numpy.empty(size // RECORD_SIZE * RECEIPT_ENTRY, numpy.uint8)
+    word = _done(_library.call("knot_clean_with_receipt")(
+        given.ctypes.data, given.size, room.ctypes.data, room.size, paper.ctypes.data, paper.size))
+    stay, removed = _part(word, 16), _part(word, 32)
+    return CleanedWithReceipt(room[: stay * RECORD_SIZE], stay, removed, paper[: removed * RECEIPT_ENTRY])
+
+
+def restore_store(cleaned: Bytes, receipt: Bytes) -> NDArray[numpy.uint8]:
+    """The store as it was before `clean_with_receipt` wrote these two. Refusals: 5, 6, 25."""
+    given, paper = _bytes(cleaned, "cleaned"), _bytes(receipt, "receipt")
+    records = given.size // RECORD_SIZE + paper.size // RECEIPT_ENTRY
+    room = numpy.empty(min(records * RECORD_SIZE, STORE_LIMIT), numpy.uint8)
+    word = _done(_library.call("knot_restore_store")(
+        given.ctypes.data, given.size, paper.ctypes.data, paper.size, room.ctypes.data, room.size))
+    return room[: _part(word, 16) * RECORD_SIZE]
 
 
 def first_of(store: Bytes, n: int) -> int:

@@ -27,6 +27,8 @@ CALLS: dict[str, tuple[type, list[type]]] = {
     "knot_strict_twin_list": (_U64, [_IN, _SIZE, _OUT, _SIZE]),
     "knot_first_damaged": (_SIZE, [_IN, _SIZE]),
     "knot_clean_store": (_U64, [_IN, _SIZE, _OUT, _SIZE]),
+    "knot_clean_with_receipt": (_U64, [_IN, _SIZE, _OUT, _SIZE, _OUT, _SIZE]),
+    "knot_restore_store": (_U64, [_IN, _SIZE, _IN, _SIZE, _OUT, _SIZE]),
     "knot_first_of": (_SIZE, [_IN, _SIZE, _SIZE]),
     "knot_placed_record_at": (_U64, [_IN, _SIZE, _SIZE, _SLOT, _SLOT]),
     "knot_placed_record_block": (_SIZE, [_IN, _SIZE, _SIZE]),

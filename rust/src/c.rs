@@ -54,6 +54,22 @@ extern "C" {
     pub fn knot_strict_twin_list(store: *const u8, store_length: usize, marks: *mut u8, marks_length: usize) -> u64;
     pub fn knot_first_damaged(store: *const u8, store_length: usize) -> usize;
     pub fn knot_clean_store(store: *const u8, store_length: usize, out: *mut u8, out_length: usize) -> u64;
+    pub fn knot_clean_with_receipt(
+        store: *const u8,
+        store_length: usize,
+        out: *mut u8,
+        out_length: usize,
+        receipt: *mut u8,
+        receipt_length: usize,
+    ) -> u64;
+    pub fn knot_restore_store(
+        cleaned: *const u8,
+        cleaned_length: usize,
+        receipt: *const u8,
+        receipt_length: usize,
+        out: *mut u8,
+        out_length: usize,
+    ) -> u64;
     pub fn knot_first_of(store: *const u8, store_length: usize, n: usize) -> usize;
     pub fn knot_first_twin(store: *const u8, store_length: usize, n: usize) -> usize;
     pub fn knot_is_covered(store: *const u8, store_length: usize, n: usize, earlier: usize) -> bool;

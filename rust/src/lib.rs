@@ -40,6 +40,8 @@ pub const RECORD_SIZE: usize = 24;
 pub const STORE_LIMIT: usize = 48_000;
 /// Values of scratch space for each record of a store, for [`twin_list_in`].
 pub const SCRATCH_VALUES: usize = 49;
+/// Bytes of a receipt for each record of a store, for [`clean_with_receipt`].
+pub const RECEIPT_ENTRY: usize = 8;
 /// Bytes of a record with a place.
 pub const PLACED_SIZE: usize = 32;
 /// Bytes of a store of records with a place, at most.
@@ -136,6 +138,10 @@ refusals! {
     22 TAKEN_PLACE "a place is taken twice"
     23 EMPTY_PLACE "a place is empty"
     24 NO_PIXEL "the face, x or y is out of range"
+    25 BAD_RECEIPT "a receipt that does not fit the store"
+    26 OTHER_STORE "the store is not the one that was signed"
+    27 OTHER_RECEIPT "the receipt is of another store"
+    28 OTHER_FILE "the file looks like something else"
 }
 
 impl Refused {
@@ -409,7 +415,7 @@ pub fn first_damaged(store: &[u8]) -> usize {
     unsafe { c::knot_first_damaged(store.as_ptr(), store.len()) }
 }
 
-/// What [`clean_store`] tells.
+/// What [`clean_store`] and [`clean_with_receipt`] tell.
 #[derive(Debug, Clone, Copy, PartialEq, Eq)]
 pub struct Cleaned {
     /// How many records stay: the first of `out`, 24 bytes each.
@@ -422,9 +428,42 @@ pub struct Cleaned {
 ///
 /// Refusals: 5, 6, 3.
 pub fn clean_store(store: &[u8], out: &mut [u8]) -> Result<Cleaned, Refused> {
-    let word = unsafe { c::knot_clean_store(store.as_ptr(), store.len(), out.as_mut_ptr(), out.len()) };
+    cleaned(unsafe { c::knot_clean_store(store.as_ptr(), store.len(), out.as_mut_ptr(), out.len()) })
+}
+
+fn cleaned(word: u64) -> Result<Cleaned, Refused> {
     let [stay, removed] = [16, 32].map(|shift| usize::from((word >> shift) as u16));
     done(word).map(|_| Cleaned { stay, removed })
+}
+
+/// [`clean_store`], and a receipt of what was removed, by which [`restore_store`] undoes it: the first [`RECEIPT_ENTRY`] bytes of `receipt` for
+/// each removed record, its number and that of the record that stays, 2 bytes each, and its tile, 4 bytes, low byte first.
+///
+/// Refusals: 5, 6, 3 (also receipt space for fewer records than the store has).
+///
+/// ```
+/// use knotpasture::{clean_with_receipt, restore_store, Refused, RECEIPT_ENTRY};
+///
+/// let store = [0; 3 * 24]; // three times the same record
+/// let (mut out, mut receipt, mut back) = ([9; 72], [9; 3 * RECEIPT_ENTRY], [9; 72]);
+/// let cleaned = clean_with_receipt(&store, &mut out, &mut receipt)?;
+/// assert_eq!((cleaned.stay, cleaned.removed), (1, 2));
+/// assert_eq!(restore_store(&out[..24], &receipt[..2 * RECEIPT_ENTRY], &mut back)?, 3);
+/// assert_eq!(back, store);
+/// # Ok::<(), Refused>(())
+/// ```
+pub fn clean_with_receipt(store: &[u8], out: &mut [u8], receipt: &mut [u8]) -> Result<Cleaned, Refused> {
+    let (lent, room) = (receipt.as_mut_ptr(), receipt.len());
+    cleaned(unsafe { c::knot_clean_with_receipt(store.as_ptr(), store.len(), out.as_mut_ptr(), out.len(), lent, room) })
+}
+
+/// Writes the store as it was before [`clean_with_receipt`] wrote these two, 24 bytes a record, and answers how many records it has.
+///
+/// Refusals: 5, 6, 25, 3.
+pub fn restore_store(cleaned: &[u8], receipt: &[u8], out: &mut [u8]) -> Result<usize, Refused> {
+    let (lent, room) = (out.as_mut_ptr(), out.len());
+    let word = unsafe { c::knot_restore_store(cleaned.as_ptr(), cleaned.len(), receipt.as_ptr(), receipt.len(), lent, room) };
+    done(word).map(|word| usize::from((word >> 16) as u16))
 }
 
 /// The record that stays for record n where [`clean_store`] removes that; n where it stays, and where there is no such record.

@@ -12,7 +12,7 @@ fn numbers_and_words() {
         assert_eq!(refused.to_string(), format!("refused, {number}: {}", refused.words()));
         assert_eq!(format!("{refused:?}"), format!("Refused({number}: {})", refused.words()));
     }
-    assert_eq!(Refused::ALL.len(), 24);
+    assert_eq!(Refused::ALL.len(), 28);
 }
 
 #[test]

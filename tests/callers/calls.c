@@ -424,6 +424,65 @@ static void cleaning(void)
     CHECK(KNOT_ANSWER(answer) == KNOT_DONE && KNOT_STAY_COUNT(answer) == 1 && KNOT_REMOVED_COUNT(answer) == 1999 && out[120] == 9);
 }
 
+static uint8_t receipt[16009], back[48001];
+
+/* The store of as many bytes comes back from what the clean-up with a receipt left of it. */
+static void comes_back(size_t length, const uint8_t *out, uint64_t answer)
+{
+    size_t left = KNOT_RECORD_SIZE * KNOT_STAY_COUNT(answer), told = KNOT_RECEIPT_ENTRY * KNOT_REMOVED_COUNT(answer);
+    for (size_t n = 0; n < sizeof back; n++) back[n] = 9;
+    uint64_t restored = knot_restore_store(out, left, receipt, told, back, length);
+    CHECK(restored == (uint64_t)(length / KNOT_RECORD_SIZE) << 16 && KNOT_RESTORED(restored) == length / KNOT_RECORD_SIZE);
+    for (size_t n = 0; n < length; n++) CHECK(back[n] == store[n]);
+    CHECK(back[length] == 9);
+}
+
+static void restoring(void)
+{
+    static uint8_t out[48001];
+    for (size_t n = 0; n < sizeof out; n++) out[n] = 9;
+    for (size_t n = 0; n < sizeof receipt; n++) receipt[n] = 9;
+    CHECK(knot_clean_with_receipt(NULL, 0, NULL, 0, NULL, 0) == KNOT_DONE && knot_restore_store(NULL, 0, NULL, 0, NULL, 0) == KNOT_DONE);
+    /* 0 and 4 are copies, 1 has the other format, 2 and 3 are reserved, 5 is refused, 6 is 0 again */
+    for (size_t n = 0; n < 7; n++) put_record(n, 0x1000000 + 70 + n, n == 1, n == 2 || n == 3 ? B2 : B3);
+    store[24 * 5 + 7] = 1;
+    CHECK(knot_clean_with_receipt(store, 48001, out, 48001, receipt, 16009) == KNOT_LONG_STORE);
+    CHECK(knot_clean_with_receipt(store, 169, out, 168, receipt, 56) == KNOT_UNEVEN_STORE);
+    CHECK(knot_clean_with_receipt(store, 168, out, 167, receipt, 56) == KNOT_SHORT_OUTPUT);
+    CHECK(knot_clean_with_receipt(store, 168, out, 168, receipt, 55) == KNOT_SHORT_OUTPUT);
+    for (size_t n = 0; n < sizeof out; n++) CHECK(out[n] == 9);
+    for (size_t n = 0; n < sizeof receipt; n++) CHECK(receipt[n] == 9);
+    uint64_t answer = knot_clean_with_receipt(store, 168, out, 168, receipt, 56);
+    CHECK(answer == knot_clean_store(store, 168, back, 168) && KNOT_STAY_COUNT(answer) == 5 && KNOT_REMOVED_COUNT(answer) == 2);
+    for (size_t n = 0; n < 120; n++) CHECK(out[n] == back[n]);
+    for (size_t n = 120; n < sizeof out; n++) CHECK(out[n] == 9);
+    static const uint8_t told[16] = {4, 0, 0, 0, 74, 0, 0, 1, 6, 0, 0, 0, 76, 0, 0, 1};
+    for (size_t n = 0; n < sizeof receipt; n++) CHECK(receipt[n] == (n < 16 ? told[n] : 9));
+    comes_back(168, out, answer);
+
+    for (size_t n = 0; n < sizeof back; n++) back[n] = 9;
+    /* the order 5, 6, 25, 3 */
+    CHECK(knot_restore_store(out, 48001, receipt, 15, back, 0) == KNOT_LONG_STORE);
+    CHECK(knot_restore_store(out, 47999, receipt, 16, back, 0) == KNOT_LONG_STORE);
+    CHECK(knot_restore_store(out, 119, receipt, 15, back, 0) == KNOT_UNEVEN_STORE);
+    CHECK(knot_restore_store(out, 120, receipt, 15, back, 0) == KNOT_BAD_RECEIPT);
+    CHECK(knot_restore_store(out, 120, receipt, 16, back, 167) == KNOT_SHORT_OUTPUT);
+    static const uint8_t other[][2] = {{0, 0}, {8, 4}, {8, 3}, {8, 7}, {9, 1}, {2, 4}, {10, 6}, {2, 5}, {3, 1}};
+    for (size_t k = 0; k < sizeof other / sizeof *other; k++) {
+        uint8_t was = receipt[other[k][0]];
+        receipt[other[k][0]] = other[k][1];
+        CHECK(knot_restore_store(out, 120, receipt, 16, back, 168) == KNOT_BAD_RECEIPT);
+        receipt[other[k][0]] = was;
+    }
+    for (size_t n = 0; n < sizeof back; n++) CHECK(back[n] == 9);
+
+    for (size_t n = 0; n < 2000; n++) put_record(n, n, 0, B3);
+    answer = knot_clean_with_receipt(store, 48000, out, 48000, receipt, 16000);
+    CHECK(KNOT_STAY_COUNT(answer) == 1 && KNOT_REMOVED_COUNT(answer) == 1999 && receipt[15984] == 0xCF && receipt[15992] == 9);
+    comes_back(48000, out, answer);
+    CHECK(knot_restore_store(out, 48, receipt, 15992, back, 48001) == KNOT_LONG_STORE);
+}
+
 static void trusted(void)
 {
     /* two regions, red from 0 to 63; signed with an end at -32, and with its neighbour */
@@ -450,6 +509,7 @@ int main(void)
     strict();
     scratched();
     cleaning();
+    restoring();
     trusted();
     printf("C: %u checks, %u failed\n", checks, failures);
     return failures != 0;

@@ -138,6 +138,32 @@ fn cleaning() {
     assert_eq!([1, 2, 5].map(|n| knot::first_of(&store, n)), [1, 0, 5]);
 }
 
+fn restoring() {
+    let store = [record(7, 0, B3), record(8, 1, B3), record(9, 0, B3), record(10, 2, B3), record(11, 0, B3)].concat();
+    let (mut out, mut receipt, mut back) = ([9; 121], [9; 41], [9; 121]);
+    assert_eq!(knot::clean_with_receipt(&store, &mut out[..119], &mut receipt), Err(Refused::SHORT_OUTPUT));
+    assert_eq!(knot::clean_with_receipt(&store, &mut out, &mut receipt[..39]), Err(Refused::SHORT_OUTPUT));
+    assert_eq!(knot::clean_with_receipt(&store[1..], &mut out, &mut receipt), Err(Refused::UNEVEN_STORE));
+    assert_eq!(knot::clean_with_receipt(&[0; 48001], &mut out, &mut receipt), Err(Refused::LONG_STORE));
+    assert_eq!((out, receipt), ([9; 121], [9; 41]));
+    assert_eq!(knot::clean_with_receipt(&store, &mut out, &mut receipt), Ok(Cleaned { stay: 3, removed: 2 }));
+    assert_eq!(out[..48], store[..48]);
+    assert_eq!(out[48..72], store[72..96]);
+    assert_eq!(receipt[..16], [2, 0, 0, 0, 9, 0, 0, 0, 4, 0, 0, 0, 11, 0, 0, 0]);
+    assert_eq!((&out[72..], &receipt[16..]), (&[9; 49][..], &[9; 25][..]));
+
+    let (left, told) = (&out[..72], &receipt[..16]);
+    assert_eq!(knot::restore_store(&[0; 48001], told, &mut back), Err(Refused::LONG_STORE));
+    assert_eq!(knot::restore_store(&left[1..], told, &mut back), Err(Refused::UNEVEN_STORE));
+    assert_eq!(knot::restore_store(left, &told[1..], &mut back), Err(Refused::BAD_RECEIPT));
+    assert_eq!(knot::restore_store(left, &[&told[8..], &told[..8]].concat(), &mut back), Err(Refused::BAD_RECEIPT));
+    assert_eq!(knot::restore_store(left, told, &mut back[..119]), Err(Refused::SHORT_OUTPUT));
+    assert_eq!(back, [9; 121]);
+    assert_eq!(knot::restore_store(left, told, &mut back), Ok(5));
+    assert_eq!((&back[..120], back[120]), (&store[..], 9));
+    assert_eq!(knot::restore_store(&[], &[], &mut []), Ok(0));
+}
+
 fn trusted() {
     assert!(knot::is_trusted(&B3, Unsigned) && knot::is_trusted(&B4, Unsigned) && !knot::is_trusted(&B3, 2u8));
     assert!(!knot::is_trusted(&B1, Unsigned) && !knot::is_trusted(&B6, Signed) && !knot::is_trusted(&B3[..15], Unsigned) && !knot::is_trusted(&[], Unsigned));
@@ -152,6 +178,7 @@ fn main() {
     strict();
     scratched();
     cleaning();
+    restoring();
     trusted();
     println!("Rust: every check holds");
 }

@@ -67,7 +67,7 @@ def test_calls_are_the_headers():
 
 def test_words_and_numbers_are_the_commands():
     said = subprocess.run([sys.executable, "-B", "-c", "from commands import house; print(house.MEANINGS)"], cwd=ROOT, capture_output=True, text=True, check=True)
-    assert said.stdout.strip() == str(knotpasture.WORDS) and list(knotpasture.WORDS) == list(range(1, 25))
+    assert said.stdout.strip() == str(knotpasture.WORDS) and list(knotpasture.WORDS) == list(range(1, 29))
     numbers = {int(number) for number in re.findall(r"^    KNOT_[A-Z_]+ = (\d+),? +/\*", HEADER[HEADER.index("enum knot_answer"):HEADER.index("enum knot_format")], re.MULTILINE)}
     assert numbers - {0} == set(knotpasture.WORDS)
 
@@ -179,6 +179,7 @@ def test_buffers_of_every_kind():
                                   array.array("H", 8 * [0]), memoryview(numpy.zeros(8, numpy.uint16)), numpy.array([b"x"], object), numpy.zeros(16, bool)])
 def test_wrong_types(lent):
     for call in (lambda it: knotpasture.decode(it, True), lambda it: knotpasture.fields(it, True), knotpasture.twins, knotpasture.clean, knotpasture.decode_bc7,
+                 knotpasture.clean_with_receipt, lambda it: knotpasture.restore_store(it, b""), lambda it: knotpasture.restore_store(b"", it),
                  knotpasture.dds_read, lambda it: knotpasture.record(it, 0), lambda it: knotpasture.probe_face(it, 1, 0), lambda it: knotpasture.trusted(it, 0)):
         with pytest.raises(TypeError):
             call(lent)
@@ -313,7 +314,7 @@ def test_twins_beside_the_other_call():
     assert knotpasture.first_damaged(sample("apart.store")) == 0
 
 
-@pytest.mark.parametrize("call", [knotpasture.twins, knotpasture.strict_twins, knotpasture.clean, knotpasture.place])
+@pytest.mark.parametrize("call", [knotpasture.twins, knotpasture.strict_twins, knotpasture.clean, knotpasture.clean_with_receipt, knotpasture.place])
 def test_stores_at_their_limits(call):
     call(b"")
     call(bytes(48_000))
@@ -330,6 +331,33 @@ def test_clean():
     assert [knotpasture.first_of(store, n) for n in (1, 4, 11, 99)] == [0, 4, 10, 99]
     stay = [n for n in range(12) if knotpasture.first_of(store, n) == n]
     assert cleaned.store.tobytes() == b"".join(store[24 * n:24 * n + 24] for n in stay)
+
+
+def test_clean_and_restore():
+    for name in ("four", "twins", "apart", "covered", "refused", "infinite"):
+        store = sample(f"{name}.store")
+        plain, cleaned = knotpasture.clean(store), knotpasture.clean_with_receipt(store)
+        assert (cleaned.stay, cleaned.removed, cleaned.store.tobytes()) == (plain.stay, plain.removed, plain.store.tobytes())
+        gone = [n for n in range(len(store) // 24) if knotpasture.first_of(store, n) != n]
+        entries = [n.to_bytes(2, "little") + knotpasture.first_of(store, n).to_bytes(2, "little") + store[24 * n:24 * n + 4] for n in gone]
+        assert cleaned.receipt.tobytes() == b"".join(entries)
+        assert knotpasture.restore_store(cleaned.store, cleaned.receipt).tobytes() == store
+    equal = bytes(48_000)
+    cleaned = knotpasture.clean_with_receipt(equal)
+    assert (cleaned.stay, cleaned.removed) == (1, 1999)
+    assert knotpasture.restore_store(cleaned.store, cleaned.receipt).tobytes() == equal
+
+
+def test_restore_refusals():
+    entry = b"\1\0\0\0\7\0\0\0"
+    assert knotpasture.restore_store(bytes(24), entry).tobytes() == bytes(24) + b"\7" + bytes(23)
+    assert knotpasture.restore_store(b"", b"").size == 0
+    refused(5, knotpasture.restore_store, bytes(48_001), b"")
+    refused(5, knotpasture.restore_store, bytes(48_000), entry)
+    refused(5, knotpasture.restore_store, b"", bytes(16_008))
+    refused(6, knotpasture.restore_store, bytes(23), entry)
+    for receipt in (entry[1:], entry + b"\0", entry + entry, b"\2" + entry[1:], b"\0" + entry[1:], entry[:2] + b"\1" + entry[3:]):
+        refused(25, knotpasture.restore_store, bytes(24), receipt)
 
 
 def test_in_a_thread_with_a_small_stack():

@@ -1,5 +1,5 @@
-/* Times the twin list over the worst stores against decoding their blocks once, and the clean-up against the twin list, in one run, and
- * measures the list's stack.
+/* Times the twin list over the worst stores against decoding their blocks once, the clean-up against the twin list, and the clean-up with a
+ * receipt and the way back against the clean-up, in one run, and measures the list's stack.
  *
  * A ratio is of the fastest of many rounds, taken in turn. The stack is that of a thread whose stack was filled with a pattern:
  * what of the pattern is gone was used.
@@ -15,7 +15,7 @@
 enum { RECORDS = KNOT_STORE_LIMIT / KNOT_RECORD_SIZE, ROUNDS = 200, STACK = 1 << 20 };
 
 static uint8_t different[KNOT_STORE_LIMIT], equal[KNOT_STORE_LIMIT], hard[KNOT_STORE_LIMIT], marks[RECORDS];
-static uint8_t out[KNOT_STORE_LIMIT];
+static uint8_t out[KNOT_STORE_LIMIT], receipt[RECORDS * KNOT_RECEIPT_ENTRY], back[KNOT_STORE_LIMIT];
 static uint16_t values[KNOT_VALUES];
 
 static double now(void) {
@@ -66,17 +66,35 @@ static double clean(const uint8_t *store) {
     return now() - start;
 }
 
+static double clean_told(const uint8_t *store, uint64_t *answer) {
+    double start = now();
+    *answer = knot_clean_with_receipt(store, KNOT_STORE_LIMIT, out, KNOT_STORE_LIMIT, receipt, sizeof receipt);
+    return now() - start;
+}
+
+static double restore(uint64_t answer) {
+    double start = now();
+    knot_restore_store(out, KNOT_RECORD_SIZE * KNOT_STAY_COUNT(answer), receipt, KNOT_RECEIPT_ENTRY * KNOT_REMOVED_COUNT(answer), back, sizeof back);
+    return now() - start;
+}
+
+static double least(double a, double b) { return a < b ? a : b; }
+
 static void ratio(const char *name, const uint8_t *store) {
-    double one = 1e9, all = 1e9, cleaned = 1e9;
+    double one = 1e9, all = 1e9, cleaned = 1e9, told = 1e9, restored = 1e9;
+    uint64_t left;
     for (int k = 0; k < ROUNDS; k++) {
-        double d = decode(store), l = list(store), c = clean(store);
-        one = d < one ? d : one;
-        all = l < all ? l : all;
-        cleaned = c < cleaned ? c : cleaned;
+        one = least(one, decode(store));
+        all = least(all, list(store));
+        cleaned = least(cleaned, clean(store));
+        told = least(told, clean_told(store, &left));
+        restored = least(restored, restore(left));
     }
+    if (memcmp(back, store, KNOT_STORE_LIMIT)) printf("%s: another store comes back\n", name);
     uint64_t answer = knot_twin_list(store, KNOT_STORE_LIMIT, marks, RECORDS);
-    printf("%s: decoding once %.1f us, the twin list %.1f us, ratio %.2f (answer %llx); the clean-up %.1f us, %.2f of the list\n", name, one * 1e6,
-           all * 1e6, all / one, (unsigned long long)answer, cleaned * 1e6, cleaned / all);
+    printf("%s: decoding once %.1f us, the twin list %.1f us, ratio %.2f (answer %llx); the clean-up %.1f us, %.2f of the list; with a receipt "
+           "%.1f us, %.2f of the clean-up; the way back %.1f us\n", name, one * 1e6, all * 1e6, all / one, (unsigned long long)answer, cleaned * 1e6,
+           cleaned / all, told * 1e6, told / cleaned, restored * 1e6);
 }
 
 static void *listed(void *store) {

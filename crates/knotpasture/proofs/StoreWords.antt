@@ -1,9 +1,10 @@
 -- The words that the exports over a whole store answer, from what the calls ensure. Assumes nothing.
-use mathlib.Core.Path.{_≡_, sym, ap, _∙_}
+use mathlib.Core.Path.{_≡_, refl, sym, ap, _∙_}
 use mathlib.Core.List.{List}
-use Prim.Native.Nat.{ℕ, _+_, _≤_}
+use Prim.Native.Nat.{ℕ, zero, suc, _+_, _≤_}
 use native.Mathlib.Omega.{arith}
 use lib.Dec.{eqb}
+use lib.ListN.{length}
 use borrow.Author.Tests.{eqb-true, eqb-false}
 use Rattle.laws.proofs.Tests.{cases}
 use Rattle.bc6h_spec.specs.Answers.{done}
@@ -11,10 +12,16 @@ use Rattle.twins_spec.specs.declared.TwinList.{TwinList}
 use Rattle.twins_spec.specs.Twins.{ListedIn}
 use Rattle.twins_spec.proofs.Listing.{list-is, silent-in}
 use Rattle.clean.specs.declared.Cleaned.{Cleaned}
-use Rattle.clean.specs.Clean.{CleanedInto}
+use Rattle.clean.specs.Clean.{refusal, CleanedInto}
 use Rattle.clean.proofs.Cleaning as cleaning
+use Rattle.receipt.specs.Receipt.{receiptRefusal, ReceiptInto}
+use Rattle.receipt.proofs.Telling as telling
+use Rattle.restore.specs.declared.Restored.{Restored}
+use Rattle.restore.specs.Restore.{restoreRefusal, RestoredInto}
+use Rattle.restore.proofs.Fitting.{restorable}
+use Rattle.restore.proofs.Restoring as restoring
 use Rattle.knotpasture.specs.Packed.{twinsWord}
-use Rattle.knotpasture.specs.Stores.{TwinsInCalled, cleanWord, CleanCalled}
+use Rattle.knotpasture.specs.Stores.{TwinsInCalled, cleanWord, CleanCalled, ReceiptCalled, restoredWord, RestoreCalled}
 use Rattle.knotpasture.proofs.Words.{no-counts, few}
 
 -- ---- the twin list over lent scratch space
@@ -51,3 +58,43 @@ module _ {store lent after : List ℕ} {r : Cleaned} (d : CleanedInto store lent
 
 pub one-clean : {store lent : List ℕ} {r s : ℕ} {a b : List ℕ} → CleanCalled store lent r a → CleanCalled store lent s b → (r ≡ s) × (a ≡ b)
 one-clean d e = (d .answers ∙ sym (e .answers), d .holds ∙ sym (e .holds))
+
+-- ---- the clean-up with a receipt
+
+module _ {store lent paper after written : List ℕ} {r : Cleaned} (d : ReceiptInto store lent paper r after written) where
+  pub receipt-called : {word : ℕ} → word ≡ cleanWord r → ReceiptCalled store lent paper word after written
+  receipt-called e = record { answers = e ∙ ap cleanWord (d .answers); holds = d .holds; tells = d .tells }
+
+  receipt-alone : (k : ℕ) → receiptRefusal (length store) (length lent) (length paper) ≡ suc k → r ≡ refusal (suc k)
+  receipt-alone k q = rw q at (d .answers)
+
+  pub receipt-few : r .kept + r .removed ≤ 2000
+  receipt-few = go (receiptRefusal (length store) (length lent) (length paper)) refl
+    where
+      go : (k : ℕ) → receiptRefusal (length store) (length lent) (length paper) ≡ k → r .kept + r .removed ≤ 2000
+      go zero q = let z : r .answer ≡ done = telling.answer-number d ∙ q in clean-done-few (telling.as-cleaned d z) z
+      go (suc k) q = rw (receipt-alone k q) (omega arith)
+
+pub one-receipt : {store lent paper : List ℕ} {r s : ℕ} {a b u v : List ℕ} → ReceiptCalled store lent paper r a u → ReceiptCalled store lent paper s b v
+    → (r ≡ s) × (a ≡ b) × (u ≡ v)
+one-receipt d e = (d .answers ∙ sym (e .answers), d .holds ∙ sym (e .holds), d .tells ∙ sym (e .tells))
+
+-- ---- the way back
+
+module _ {cleaned receipt lent after : List ℕ} {r : Restored} (d : RestoredInto cleaned receipt lent r after) where
+  pub restore-called : {word : ℕ} → word ≡ restoredWord r → RestoreCalled cleaned receipt lent word after
+  restore-called e = record { answers = e ∙ ap restoredWord (d .answers); holds = d .holds }
+
+  restore-alone : (k : ℕ) → restoreRefusal cleaned receipt (length lent) ≡ suc k → r ≡ record { answer = suc k; records = 0 }
+  restore-alone k q = rw q at (d .answers)
+
+  pub restored-few : r .records ≤ 2000
+  restored-few = go (restoreRefusal cleaned receipt (length lent)) refl
+    where
+      go : (k : ℕ) → restoreRefusal cleaned receipt (length lent) ≡ k → r .records ≤ 2000
+      go zero q = rw (restoring.all-restored d q) (restorable cleaned receipt (length lent) q .few)
+      go (suc k) q = rw (restore-alone k q) (omega arith)
+
+pub one-restore : {cleaned receipt lent : List ℕ} {r s : ℕ} {a b : List ℕ} → RestoreCalled cleaned receipt lent r a → RestoreCalled cleaned receipt lent s b
+    → (r ≡ s) × (a ≡ b)
+one-restore d e = (d .answers ∙ sym (e .answers), d .holds ∙ sym (e .holds))

@@ -7,6 +7,10 @@ use Rattle.twins_spec.specs.Twins.{answerAt, marksAt, scratchRefusal, scratchAt
 use Rattle.clean.specs.declared.Cleaned.{Cleaned}
 use Rattle.clean.specs.Clean.{cleanRefusal, bytesAt}
 use Rattle.clean.specs.Clean as clean
+use Rattle.receipt.specs.Receipt.{receiptRefusal, paperAt}
+use Rattle.restore.specs.declared.Restored.{Restored}
+use Rattle.restore.specs.Restore.{totalOf, restoreRefusal, restoredAt}
+use Rattle.restore.specs.Restore as restore
 use Rattle.knotpasture.specs.Packed.{twinsWord}
 
 -- The twin list over lent scratch space: its answer in one word, and the lent marks and the scratch space as the call leaves them.
@@ -23,3 +27,18 @@ cleanWord cleaned = cleaned .answer + cleaned .kept * 0x10000 + cleaned .removed
 pub record CleanCalled (store lent : List ℕ) (r : ℕ) (after : List ℕ) : Type 0 where
   pub answers : r ≡ cleanWord (clean.answerAt (cleanRefusal (length store) (length lent)) store)
   pub holds : after ≡ bytesAt (cleanRefusal (length store) (length lent)) store lent
+
+-- The clean-up with a receipt: the same word, and both lent places as the call leaves them.
+pub record ReceiptCalled (store lent paper : List ℕ) (r : ℕ) (after written : List ℕ) : Type 0 where
+  pub answers : r ≡ cleanWord (clean.answerAt (receiptRefusal (length store) (length lent) (length paper)) store)
+  pub holds : after ≡ bytesAt (receiptRefusal (length store) (length lent) (length paper)) store lent
+  pub tells : written ≡ paperAt (receiptRefusal (length store) (length lent) (length paper)) store paper
+
+-- the number in the low byte, the restored records in bits 16 to 31
+abbrev pub restoredWord : Restored → ℕ
+restoredWord restored = restored .answer + restored .records * 0x10000
+
+-- The way back: its answer in one word, and the lent bytes as the call leaves them.
+pub record RestoreCalled (cleaned receipt lent : List ℕ) (r : ℕ) (after : List ℕ) : Type 0 where
+  pub answers : r ≡ restoredWord (restoredAt (restoreRefusal cleaned receipt (length lent)) (totalOf cleaned receipt))
+  pub holds : after ≡ restore.bytesAt (restoreRefusal cleaned receipt (length lent)) cleaned receipt lent

@@ -1,4 +1,5 @@
-// Calls over a whole store, for C: the twin list over lent scratch space, the first damaged record, what a clean-up may rely on, and a clean-up.
+// Calls over a whole store, for C: the twin list over lent scratch space, the first damaged record, what a clean-up may rely on, a clean-up,
+// and the way back from one.
 
 ghost use mathlib.Core.Path.{_≡_};
 ghost use Prim.Native.Nat.{_+_, _≤_};
@@ -6,9 +7,11 @@ ghost use Rattle.clean.specs.Clean.{firstOf};
 ghost use Rattle.cleanup.specs.CleanUp.{covered};
 ghost use Rattle.strict.specs.Strict.{firstDamaged};
 ghost use Rattle.twins_spec.specs.Twins.{firstTwin};
-ghost use Rattle.knotpasture.specs.Stores.{cleanWord, CleanCalled, TwinsInCalled};
+ghost use Rattle.knotpasture.specs.Stores.{cleanWord, CleanCalled, ReceiptCalled, restoredWord, RestoreCalled, TwinsInCalled};
 use super::list_word;
 use clean::Cleaned;
+use receipt::clean_with_receipt;
+use restore::Restored;
 
 #[no_mangle]
 pub extern "C" fn knot_twin_list_in(store: &[u8], marks: &mut [u8], scratch: &mut [u16]) -> u64
@@ -60,4 +63,26 @@ pub extern "C" fn knot_first_of(store: &[u8], n: usize) -> usize
     ensures { λ r. ⌜ r ≡ firstOf (now (store .entry)) n ⌝ }
 {
     clean::first_of(store, n)
+}
+
+#[no_mangle]
+pub extern "C" fn knot_clean_with_receipt(store: &[u8], out: &mut [u8], receipt: &mut [u8]) -> u64
+    ensures { λ r. ⌜ ReceiptCalled (now (store .entry)) (now (out .entry)) (now (receipt .entry)) r (now (out .exit)) (now (receipt .exit)) ⌝ }
+{
+    clean_word(clean_with_receipt(store, out, receipt))
+}
+
+// The number and the count of a way back.
+fn restored_word(restored: Restored) -> u64
+    requires { ⌜ restored .records ≤ 2000 ⌝ }
+    ensures { λ r. ⌜ r ≡ restoredWord restored ⌝ }
+{
+    (restored.answer as u64) + (restored.records as u64) * 0x10000
+}
+
+#[no_mangle]
+pub extern "C" fn knot_restore_store(cleaned: &[u8], receipt: &[u8], out: &mut [u8]) -> u64
+    ensures { λ r. ⌜ RestoreCalled (now (cleaned .entry)) (now (receipt .entry)) (now (out .entry)) r (now (out .exit)) ⌝ }
+{
+    restored_word(restore::restore_store(cleaned, receipt, out))
 }

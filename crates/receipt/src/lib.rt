@@ -10,14 +10,11 @@ ghost use Rattle.receipt.specs.Receipt.{entriesIn, entrySize, entryOf, e
 use bc6h_spec::Answer;
 use clean::Cleaned;
 use clean::copy_record;
-use clean::is_repeat;
 use clean::link_records;
 use clean::place;
+use clean::repeated_along;
 use records::Record;
-use records::RecordReading;
-use records::record_at;
 use twins_marks::list_refusal;
-use twins_scratch::mode_at;
 use twins_spec::TwinList;
 
 // An entry without its tile: the number of a removed record, and of the record that stays for it.
@@ -82,21 +79,11 @@ fn first_along(store: &[u8], links: &[u16], firsts: &[u16], n: usize) -> usize
     requires { ⌜ Walk (now store) (now links) (now firsts) n ⌝ }
     ensures { λ r. ⌜ (r ≡ firstOf (now (store .entry)) n) × (r ≤ n) ⌝ }
 {
-    let RecordReading::Record(_) = record_at(store, n) else {
-        return n;
-    };
-    if mode_at(store, n) == 0 {
+    let earlier = repeated_along(store, links, n);
+    if earlier >= n {
         return n;
     }
-    let mut at = place(links[n]);
-    while at > 0 {
-        let earlier = at - 1;
-        if is_repeat(store, n, earlier) {
-            return place(firsts[earlier]);
-        }
-        at = place(links[earlier]);
-    }
-    n
+    place(firsts[earlier])
 }
 
 fn entry_of(store: &[u8], n: usize, first: usize) -> [u8; 8]

@@ -1,6 +1,6 @@
 -- Laws of the links: how they are made, and that a walk along them passes by no record that is repeated. Assumes nothing.
 use mathlib.Core.Path.{_≡_, refl, sym, _∙_, ap, ap₂}
-use mathlib.Core.Bool.{Bool, true, false}
+use mathlib.Core.Bool.{true, false}
 use mathlib.Core.List.{List}
 use mathlib.Core.Logic.{⊎-elim}
 use Prim.Native.Nat.{ℕ, zero, suc, _+_, _-_, _*_, _/_, _%_, _≤_, _<_}
@@ -15,13 +15,12 @@ use borrow.Author.Tests.{eq-eqb, ne-eqb, eqb-true, eqb-false, ltb-true, ltb-fals
 use Rattle.laws.proofs.Tests.{cases, both-true}
 use Rattle.laws.proofs.Sameness.{true-false, not-so}
 use Rattle.bc6h_spec.specs.Bits.{blockSize}
-use Rattle.records.specs.Store.{recordsIn, formatOf, blockOf, recordRefusal, Unrefused, partAt}
-use Rattle.records.proofs.Readings.{part-of}
-use Rattle.twins_spec.specs.Shown.{isRecord}
+use Rattle.records.specs.Store.{recordsIn, formatOf, blockOf, Unrefused}
+use Rattle.twins_spec.specs.Shown.{Reserved, isRecord}
 use Rattle.twins_spec.proofs.Shown.{is-record, is-refused}
 use Rattle.clean.specs.Clean.{Repeats, repeats, firstOf, goes}
-use Rattle.clean.specs.Links.{bucketCount, mixedUpto, bucketOf, bucketAt, isOf, lastOf, Linked}
-use Rattle.clean.proofs.Repeating.{repeats-means, goes-first, first-repeated, goes-by, repeats-so}
+use Rattle.clean.specs.Links.{bucketCount, mixedUpto, bucketOf, bucketAt, isOf, lastOf, Linked, Met}
+use Rattle.clean.proofs.Repeating.{repeats-means, repeats-so, refused-stays, reserved-stays, goes-first, first-repeated, goes-by}
 
 -- ---- the bucket
 
@@ -130,6 +129,16 @@ module _ {store : List ℕ} {n : ℕ} {heads links : List ℕ} (d : Linking stor
 
 -- ---- a walk along them
 
+-- a record that stays is its own answer
+met-stays : (store : List ℕ) (n : ℕ) → goes store n ≡ false → Met store n n
+met-stays store n f = record { within = omega arith; repeated = λ l. absurd (omega arith); stays = λ _. f }
+
+pub met-refused : (store : List ℕ) (n : ℕ) → (Unrefused store n → ⊥) → Met store n n
+met-refused store n r = met-stays store n (sym (refused-stays store n r))
+
+pub met-reserved : (store : List ℕ) (n : ℕ) → Reserved store n → Met store n n
+met-reserved store n z = met-stays store n (sym (reserved-stays store n z))
+
 -- where record n's walk stands at `at`, no record from there on is repeated by it
 pub record Passed (store : List ℕ) (n at : ℕ) : Type 0 where
   pub below : ℕ
@@ -191,11 +200,19 @@ module _ {store links : List ℕ} (d : Linked store (recordsIn store) links) (n 
               (λ g. ⊎-elim (λ q. rw q at f) (λ o. p .none k (omega arith) m) (eq-or-lt-of-le (ltb-false k (at - 1) g)));
         }
 
-  pub walked : {at : ℕ} → Passed store n at → at ≤ 0 → false ≡ goes store n
+  walked : {at : ℕ} → Passed store n at → at ≤ 0 → goes store n ≡ false
   walked {at} p z =
-      sym (not-so _
+      not-so _
       (λ t. let l = goes-first store n t in
-      true-false (sym (repeats-so store n (firstOf store n) (first-repeated store n l)) ∙ p .none (firstOf store n) (omega arith) l)))
+      true-false (sym (repeats-so store n (firstOf store n) (first-repeated store n l)) ∙ p .none (firstOf store n) (omega arith) l))
 
-  pub met : {at : ℕ} → Passed store n at → 0 < at → repeats store n (at - 1) ≡ true → true ≡ goes store n
-  met {at} p some t = sym (goes-by store n (at - 1) (earlier p some) (repeats-means store n (at - 1) t))
+  pub met-none : {at : ℕ} → Passed store n at → at ≤ 0 → Met store n n
+  met-none p z = met-stays store n (walked p z)
+
+  pub met-here : {at : ℕ} → Passed store n at → 0 < at → repeats store n (at - 1) ≡ true → Met store n (at - 1)
+  met-here p some t = let l = earlier p some in record { within = omega arith; repeated = λ _. t; stays = λ w. absurd (omega arith) }
+
+-- ---- what it finds
+
+pub met-goes : {store : List ℕ} {n found : ℕ} → Met store n found → found < n → goes store n ≡ true
+met-goes {store} {n} {found} m l = goes-by store n found l (repeats-means store n found (m .repeated l))

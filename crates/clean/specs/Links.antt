@@ -1,15 +1,16 @@
 -- By which records a record is looked for among the earlier ones: each has a bucket, and a link to the last one before it of the same
 -- bucket. Assumes nothing.
 use mathlib.Core.Path.{_≡_}
-use mathlib.Core.Bool.{Bool}
+use mathlib.Core.Bool.{Bool, true, false}
 use mathlib.Core.List.{List}
-use Prim.Native.Nat.{ℕ, zero, suc, _+_, _*_, _/_, _%_, _<_}
+use Prim.Native.Nat.{ℕ, zero, suc, _+_, _*_, _/_, _%_, _≤_, _<_}
 use lib.Dec.{eqb}
 use lib.ListN.{getD}
 use Rattle.laws.specs.Pick.{pick, both}
 use Rattle.bc6h_spec.specs.Bits.{blockSize}
 use Rattle.records.specs.Store.{formatOf, blockOf, Unrefused}
 use Rattle.twins_spec.specs.Shown.{isRecord}
+use Rattle.clean.specs.Clean.{repeats, goes}
 
 abbrev pub bucketCount : ℕ
 bucketCount = 2048
@@ -38,3 +39,9 @@ lastOf store bucket (suc n) = pick (isOf store bucket n) (suc n) (lastOf store b
 -- each of the first n records that is not refused has its link
 pub record Linked (store : List ℕ) (n : ℕ) (links : List ℕ) : Type 0 where
   pub link : (k : ℕ) → k < n → Unrefused store k → getD links k 0 ≡ lastOf store (bucketAt store k) k
+
+-- What a walk along the links finds: an earlier record that record n repeats, or n where n stays.
+pub record Met (store : List ℕ) (n found : ℕ) : Type 0 where
+  pub within : found ≤ n
+  pub repeated : found < n → repeats store n found ≡ true
+  pub stays : n ≤ found → goes store n ≡ false

@@ -8,8 +8,8 @@ ghost use lib.Seq.{paste};
 ghost use Rattle.laws.specs.Every.{same};
 ghost use Rattle.bc6h_spec.specs.Bits.{blockSize};
 ghost use Rattle.records.specs.Store.{recordSize, recordsIn};
-ghost use Rattle.clean.specs.Clean.{repeats, firstOf, goes, recordOf, refusal, CleanedInto};
-ghost use Rattle.clean.specs.Links.{bucketCount, mixedUpto, bucketOf, Linked};
+ghost use Rattle.clean.specs.Clean.{repeats, firstOf, recordOf, refusal, CleanedInto};
+ghost use Rattle.clean.specs.Links.{bucketCount, mixedUpto, bucketOf, Linked, Met};
 use bc6h_spec::Answer;
 use bc6h_spec::Block;
 use records::Record;
@@ -138,28 +138,28 @@ pub fn place(link: u16) -> usize
     link as usize
 }
 
-// Record n is removed: a walk along the links, from the last record of its bucket to the first.
-fn is_gone(store: &[u8], links: &[u16], n: usize) -> bool
+// An earlier record that record n repeats; n where there is none. A walk along the links, from the last record of its bucket to the first.
+pub fn repeated_along(store: &[u8], links: &[u16], n: usize) -> usize
     requires { ⌜ n < recordsIn (now store) ⌝ }
     requires { ⌜ recordsIn (now store) ≤ length (now links) ⌝ }
     requires { ⌜ Linked (now store) (recordsIn (now store)) (now links) ⌝ }
-    ensures { λ r. ⌜ r ≡ goes (now (store .entry)) n ⌝ }
+    ensures { λ r. ⌜ Met (now (store .entry)) n r ⌝ }
 {
     let RecordReading::Record(_) = record_at(store, n) else {
-        return false;
+        return n;
     };
     if mode_at(store, n) == 0 {
-        return false;
+        return n;
     }
     let mut at = place(links[n]);
     while at > 0 {
         let earlier = at - 1;
         if is_repeat(store, n, earlier) {
-            return true;
+            return earlier;
         }
         at = place(links[earlier]);
     }
-    false
+    n
 }
 
 // Record n of the store as record `place` of `out`.
@@ -188,7 +188,7 @@ pub fn clean_store(store: &[u8], out: &mut [u8]) -> Cleaned
     let count = store.len() / Record::SIZE;
     let mut kept: usize = 0;
     for n in 0..count {
-        if is_gone(store, &links, n) {
+        if repeated_along(store, &links, n) < n {
             continue;
         }
         copy_record(store, n, out, kept);

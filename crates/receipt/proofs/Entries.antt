@@ -1,20 +1,19 @@
 -- Laws of a receipt: its length, and that each entry stands at its place and is read as it was written. Assumes nothing.
 use mathlib.Core.Path.{_≡_, refl, sym, _∙_, ap, ap₂}
-use mathlib.Core.Bool.{Bool, true, false, not}
+use mathlib.Core.Bool.{Bool, true, false}
 use mathlib.Core.List.{List, [], _∷_, _++_, append-nil}
 use mathlib.Core.Logic.{⊎-elim}
-use Prim.Native.Nat.{ℕ, zero, suc, _+_, _*_, _/_, _%_, _≤_, _<_}
+use Prim.Native.Nat.{ℕ, zero, suc, _+_, _*_, _≤_, _<_}
 use native.Mathlib.Nat.{add-zero, not-suc-le-zero, le-of-suc-le-suc, eq-or-lt-of-le}
 use native.Mathlib.Numerals.{add-one}
 use native.Mathlib.Omega.{arith}
 use lib.Dec.{lit<}
 use lib.ListN.{length, getD, take, drop, length-append, length-drop}
-use lib.Seq.{take-all, drop-at, drop-drop, take-append-le, drop-append-le, getD-take, getD-drop}
+use lib.Seq.{take-all, drop-at, take-append-le, drop-append-le, getD-take, getD-drop}
 use Rattle.laws.specs.Pick.{pick}
 use Rattle.laws.proofs.Tests.{cases}
 use Rattle.records.specs.Store.{recordsIn, byteOf}
-use Rattle.clean.specs.Clean.{firstOf, goes, staying, going, goneCount}
-use Rattle.clean.proofs.Leaving.{staying-adds, Place, place-of, staying-less, staying-mono}
+use Rattle.clean.specs.Clean.{firstOf, goes, going, goneCount}
 use Rattle.receipt.specs.Receipt.{entrySize, low, high, entryOf, entriesIn, entryByte, numberAt, staysAt, receiptUpto, receiptOf}
 
 -- ---- one entry

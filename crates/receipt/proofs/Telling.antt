@@ -5,17 +5,17 @@ use mathlib.Core.List.{List, _++_}
 use Prim.Native.Nat.{ℕ, zero, suc, _+_, _-_, _*_, _/_, _%_, _≤_, _<_}
 use native.Mathlib.Omega.{arith}
 use lib.ListN.{length, take, drop, set, replicate, length-set, length-replicate}
-use lib.Seq.{take-at, drop-at, paste, length-paste}
+use lib.Seq.{take-at, paste, length-paste}
 use Rattle.bc6h_spec.specs.Answers.{done}
 use Rattle.records.specs.Store.{recordSize, storeLimit, recordsIn}
-use Rattle.twins_spec.specs.Twins.{mostRecords, listRefusal, firstMet}
+use Rattle.twins_spec.specs.Twins.{mostRecords, listRefusal}
 use Rattle.twins_spec.proofs.Listing.{Whole, whole-when, fine}
 use Rattle.clean.specs.declared.Cleaned.{Cleaned}
-use Rattle.clean.specs.Clean.{firstOf, goes, recordOf, staying, going, cleanedOf, stayCount, goneCount, cleanRefusal, refusal, answerAt, bytesAt, CleanedInto}
+use Rattle.clean.specs.Clean.{firstOf, goes, recordOf, staying, going, goneCount, cleanRefusal, refusal, answerAt, CleanedInto}
 use Rattle.clean.proofs.Leaving.{staying-adds}
 use Rattle.clean.proofs.Cleaning.{SoFar, so-far-none, so-far-gone, so-far-more, cleaned-done}
 use Rattle.clean.proofs.Cleaning as cleaning
-use Rattle.receipt.specs.Receipt.{entrySize, entryOf, receiptUpto, receiptOf, receiptRefusal, paperAt, ReceiptInto, Firsts}
+use Rattle.receipt.specs.Receipt.{entrySize, entryOf, receiptUpto, receiptOf, receiptRefusal, ReceiptInto, AsCleanStore, Firsts}
 use Rattle.receipt.proofs.Pasting.{pasted}
 use Rattle.receipt.proofs.Walking.{firsts-none, firsts-more, first-goes, first-stays}
 use Rattle.receipt.proofs.Entries.{entry-length, entry-whole, receipt-none, receipt-length, receipt-gone, receipt-stays}
@@ -206,3 +206,6 @@ module _ {store lent paper after written : List ℕ} {r : Cleaned} (d : ReceiptI
         ap (take (r .removed * entrySize)) paper-is
         ∙ take-at (receiptOf store) (drop (goneCount store * entrySize) paper) (r .removed * entrySize)
         (receipt-length store (recordsIn store) ∙ ap (λ (k : ℕ). k * entrySize) (sym removed-count))
+
+pub as-clean-store : AsCleanStore
+as-clean-store store lent paper after written r d z = as-cleaned d z

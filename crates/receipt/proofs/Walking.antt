@@ -3,22 +3,18 @@ use mathlib.Core.Path.{_≡_, sym, _∙_}
 use mathlib.Core.Bool.{true, false}
 use mathlib.Core.List.{List}
 use mathlib.Core.Logic.{⊎-elim}
-use Prim.Native.Nat.{ℕ, _+_, _-_, _≤_, _<_}
+use Prim.Native.Nat.{ℕ, _+_, _≤_, _<_}
 use native.Mathlib.Nat.{eq-or-lt-of-le}
 use native.Mathlib.Omega.{arith}
-use lib.Dec.{ltb}
-use lib.ListN.{length, getD, set, replicate}
+use lib.ListN.{length, getD, set}
 use lib.Seq.{getD-set-same, getD-set-other}
 use borrow.Author.Count.{below-none, below-more}
-use borrow.Author.Tests.{lt-ltb, le-ltb, ltb-true, ltb-false}
-use Rattle.laws.proofs.Tests.{cases}
+use borrow.Author.Tests.{lt-ltb, le-ltb}
 use Rattle.laws.proofs.Firsts.{first-most}
-use Rattle.records.specs.Store.{recordsIn, Unrefused}
-use Rattle.twins_spec.specs.Shown.{Reserved}
 use Rattle.clean.specs.Clean.{Repeats, repeats, firstOf, goes}
-use Rattle.clean.proofs.Repeating.{repeats-means, none-refused, none-reserved, stays-first, first-repeated, no-earlier, repeats-through}
-use Rattle.clean.proofs.Linking.{Passed, earlier, walked}
-use Rattle.receipt.specs.Receipt.{Firsts, Walk}
+use Rattle.clean.specs.Links.{Met}
+use Rattle.clean.proofs.Repeating.{repeats-means, stays-first, first-repeated, no-earlier, repeats-through}
+use Rattle.receipt.specs.Receipt.{Firsts}
 
 pub first-below : (store : List ℕ) (n : ℕ) → firstOf store n ≤ n
 unfolding firstOf
@@ -55,32 +51,17 @@ first-through store n e h p = omega (arith, low, high)
         (λ l. no-earlier store e (firstOf store n) l (repeats-both p (first-repeated store n (omega (arith, near)))))
         (eq-or-lt-of-le near)
 
--- ---- the walk's answers
+-- ---- by the walk, and what is remembered of the record that it met
 
-abbrev pub Told : List ℕ → ℕ → ℕ → Type 0
-Told store n r = (r ≡ firstOf store n) × (r ≤ n)
+module _ {store : List ℕ} {n found : ℕ} (m : Met store n found) where
+  pub stays-here : n ≤ found → (n ≡ firstOf store n) × (n ≤ n)
+  stays-here l = let f = stays-first store n (m .stays l) in (omega (arith, first-below store n), omega arith)
 
-pub told-refused : (store : List ℕ) (n : ℕ) → (Unrefused store n → ⊥) → Told store n n
-told-refused store n r = (sym (none-refused store n r), omega arith)
-
-pub told-reserved : (store : List ℕ) (n : ℕ) → Reserved store n → Told store n n
-told-reserved store n z = (sym (none-reserved store n z), omega arith)
-
-module _ {store links firsts : List ℕ} {n : ℕ} (w : Walk store links firsts n) where
-  pub told-walked : {at : ℕ} → Passed store n at → at ≤ 0 → Told store n n
-  told-walked p z =
-      let l = stays-first store n (sym (walked (w .linked) n (w .inside) p z)) in
-      (omega (arith, first-below store n), omega arith)
-
-  pub told-met : {at first : ℕ} → Passed store n at → 0 < at → repeats store n (at - 1) ≡ true → first ≡ getD firsts (at - 1) 0 → Told store n first
-  told-met {at} {first} p some t e =
-      let l = earlier (w .linked) n (w .inside) p some in
-      let q : first ≡ firstOf store n =
-      e ∙ w .known .first (at - 1) l ∙ sym (first-through store n (at - 1) l (repeats-means store n (at - 1) t)) in
+  pub as-remembered : {firsts : List ℕ} {first : ℕ} → Firsts store n firsts → found < n → first ≡ getD firsts found 0
+      → (first ≡ firstOf store n) × (first ≤ n)
+  as-remembered {firsts} {first} f l e =
+      let q : first ≡ firstOf store n = e ∙ f .first found l ∙ sym (first-through store n found l (repeats-means store n found (m .repeated l))) in
       (q, omega (arith, q, first-below store n))
-
-  pub near : {at : ℕ} → Passed store n at → 0 < at → at - 1 < recordsIn store
-  near p some = omega (arith, w .inside, earlier (w .linked) n (w .inside) p some)
 
 -- ---- what is remembered
 

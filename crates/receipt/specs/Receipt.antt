@@ -1,24 +1,25 @@
--- A clean-up with a receipt: of each record that is removed what the clean-up loses of it. What the call answers and writes. Assumes nothing.
+-- A clean-up with a receipt: the receipt, and what the call answers and writes. Assumes nothing.
 use mathlib.Core.Path.{_≡_}
 use mathlib.Core.List.{List, [], _∷_, _++_}
 use Prim.Native.Nat.{ℕ, zero, suc, _+_, _*_, _/_, _%_, _≤_, _<_}
 use lib.ListN.{length, getD, take, drop}
 use Rattle.laws.specs.Pick.{pick}
+use Rattle.bc6h_spec.specs.Answers.{done}
 use Rattle.records.specs.Store.{recordsIn, byteOf}
 use Rattle.twins_spec.specs.Twins.{mostRecords, listRefusal, firstMet}
 use Rattle.clean.specs.declared.Cleaned.{Cleaned}
-use Rattle.clean.specs.Clean.{firstOf, goes, goneCount, cleanRefusal, answerAt, bytesAt}
+use Rattle.clean.specs.Clean.{firstOf, goes, goneCount, cleanRefusal, answerAt, bytesAt, CleanedInto}
 use Rattle.clean.specs.Links.{Linked}
 use Rattle.receipt.specs.declared.Entry.{Entry}
 
 -- ---- an entry
 
--- "8 bytes a removed record": bytes 0 and 1 its number in the store as it was, low byte first; 2 and 3 the number of the record that stays
--- for it; 4 to 7 its tile, as stored
+-- An entry has 8 bytes: 0 and 1 are the number of a removed record, low byte first; 2 and 3 the number of the record that stays for it; 4 to 7 its
+-- tile, as stored. Both numbers count records of the store as it was.
 abbrev pub entrySize : ℕ
 entrySize = 8
 
--- a number below 65,536 in two bytes is `low n` and `high n`
+-- the two bytes of a number below 65,536
 abbrev pub low : ℕ → ℕ
 low n = n % 0x100
 
@@ -30,7 +31,7 @@ unfoldable pub entryOf : List ℕ → ℕ → List ℕ
 entryOf store n =
     low n ∷ high n ∷ low (firstOf store n) ∷ high (firstOf store n) ∷ byteOf store n 0 ∷ byteOf store n 1 ∷ byteOf store n 2 ∷ byteOf store n 3 ∷ []
 
--- .. and how it is read: byte k of entry e of a receipt, and the two numbers
+-- how a receipt is read: the number of its entries, byte k of entry e, and the entry's two numbers
 abbrev pub entriesIn : List ℕ → ℕ
 entriesIn receipt = length receipt / entrySize
 
@@ -52,7 +53,7 @@ tileBytes receipt e = take 4 (drop (e * entrySize + 4) receipt)
 
 -- ---- the receipt
 
--- of the first n records the entries of those that are removed, in order
+-- the entries of the removed records among the first n, in order
 unfoldable pub receiptUpto : List ℕ → ℕ → List ℕ
 receiptUpto store zero = []
 receiptUpto store (suc n) = receiptUpto store n ++ pick (goes store n) (entryOf store n) []
@@ -62,24 +63,29 @@ receiptOf store = receiptUpto store (recordsIn store)
 
 -- ---- the call
 
--- "5, 6, 3", as the clean-up's; 3 also where the receipt's room is below 8 bytes a record of the store: how many go is not known before
+-- 5, 6 and 3 as for the clean-up; 3 also where the receipt's room is below 8 bytes a record of the store, since how many go is not known before
 unfoldable pub receiptRefusal : ℕ → ℕ → ℕ → ℕ
 receiptRefusal size room paper = firstMet (cleanRefusal size room) (listRefusal size (paper / entrySize))
 
--- the receipt at the front of the lent bytes, whose rest is as it was; a refusal changes none
+-- the receipt at the front of the lent bytes, whose rest stays as it was; a refusal changes no byte
 abbrev pub paperAt : ℕ → List ℕ → List ℕ → List ℕ
 paperAt zero store lent = receiptOf store ++ drop (goneCount store * entrySize) lent
 paperAt (suc number) store lent = lent
 
--- The answer and the cleaned store are the clean-up's.
+-- The answer, the bytes lent for the cleaned store and the bytes lent for the receipt, for every input.
 pub record ReceiptInto (store lent paper : List ℕ) (r : Cleaned) (after written : List ℕ) : Type 0 where
   pub answers : r ≡ answerAt (receiptRefusal (length store) (length lent) (length paper)) store
   pub holds : after ≡ bytesAt (receiptRefusal (length store) (length lent) (length paper)) store lent
   pub tells : written ≡ paperAt (receiptRefusal (length store) (length lent) (length paper)) store paper
 
--- ---- what the walk along the links goes by
+-- Where it is done, its answer and its cleaned bytes are those that `clean_store` promises: every theorem about a clean-up holds of it.
+abbrev pub AsCleanStore : Type 0
+AsCleanStore = (store lent paper after written : List ℕ) (r : Cleaned) → ReceiptInto store lent paper r after written → r .answer ≡ done
+    → CleanedInto store lent r after
 
--- each of the first n records has the number of the record that stays for it, or its own
+-- ---- what the search for the record that stays needs
+
+-- `firsts` has for each of the first n records the record that stays for it, or the record's own number
 pub record Firsts (store : List ℕ) (n : ℕ) (firsts : List ℕ) : Type 0 where
   pub first : (k : ℕ) → k < n → getD firsts k 0 ≡ firstOf store k
 
@@ -90,7 +96,7 @@ pub record Walk (store links firsts : List ℕ) (n : ℕ) : Type 0 where
   pub linked : Linked store (recordsIn store) links
   pub known : Firsts store n firsts
 
--- record n, which is removed, is told at entry `place` of the lent bytes
+-- record n is removed, and the lent bytes have room for its entry at `place`
 pub record Tells (store : List ℕ) (n first : ℕ) (paper : List ℕ) (place : ℕ) : Type 0 where
   pub inside : n < recordsIn store
   pub few : n < mostRecords

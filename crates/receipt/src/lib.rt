@@ -1,5 +1,5 @@
-// A clean-up that loses nothing: beside the cleaned store it writes a receipt, which has for each removed record its number, the number
-// of the record that stays for it, and its tile.
+// A clean-up that loses nothing: beside the cleaned store it writes a receipt. An entry of it has the number of a removed record, the number
+// of the record that stays for it, and the removed record's tile.
 
 ghost use mathlib.Core.Path.{_≡_};
 ghost use Prim.Native.Nat.{_+_, _*_, _≤_, _<_};
@@ -10,17 +10,14 @@ ghost use Rattle.receipt.specs.Receipt.{entriesIn, entrySize, entryOf, e
 use bc6h_spec::Answer;
 use clean::Cleaned;
 use clean::copy_record;
-use clean::is_repeat;
 use clean::link_records;
 use clean::place;
+use clean::repeated_along;
 use records::Record;
-use records::RecordReading;
-use records::record_at;
 use twins_marks::list_refusal;
-use twins_scratch::mode_at;
 use twins_spec::TwinList;
 
-// What a receipt tells of a removed record beside its tile: its number, and that of the record that stays for it.
+// An entry without its tile: the number of a removed record, and of the record that stays for it.
 pub struct Entry {
     pub number: usize,
     pub stays: usize,
@@ -29,8 +26,12 @@ pub struct Entry {
 impl Entry {
     pub const SIZE: usize = 8;
 
-    // The bytes before an entry's tile.
+    // The bytes before an entry's tile, those of the tile, and those that follow the tile in a record.
     pub const HEAD: usize = 4;
+
+    pub const TILE: usize = 4;
+
+    pub const REST: usize = Record::SIZE - Entry::TILE;
 }
 
 fn wide(byte: u8) -> usize
@@ -50,7 +51,7 @@ pub fn entry_at(receipt: &[u8], e: usize) -> Entry
     Entry { number, stays }
 }
 
-// So many bytes from `at` on, into the lent ones from `to` on.
+// Copies `size` bytes of `from`, beginning at `at`, into `out` at `to`.
 pub fn copy_part(from: &[u8], at: usize, size: usize, out: &mut [u8], to: usize)
     requires { ⌜ at + size ≤ length (now from) ⌝ }
     requires { ⌜ to + size ≤ length (now out) ⌝ }
@@ -61,7 +62,7 @@ pub fn copy_part(from: &[u8], at: usize, size: usize, out: &mut [u8], to: usize)
     }
 }
 
-// Why a clean-up into so much room for records, with so much room for entries, is refused.
+// The number of the refusal, or done; `room` and `paper` are the bytes lent for the cleaned store and for the receipt.
 fn receipt_refusal(store: &[u8], room: usize, paper: usize) -> u8
     ensures { λ r. ⌜ r ≡ receiptRefusal (length (now (store .entry))) room paper ⌝ }
 {
@@ -72,26 +73,17 @@ fn receipt_refusal(store: &[u8], room: usize, paper: usize) -> u8
     list_refusal(store, paper / Entry::SIZE)
 }
 
-// The record that stays for record n, or n: a walk along the links meets some record that n repeats, whose first is known by then.
+// The record that stays for record n; n where it stays itself. The record that stays for any earlier record that n repeats stays for n too, and
+// `firsts` has it already.
 fn first_along(store: &[u8], links: &[u16], firsts: &[u16], n: usize) -> usize
     requires { ⌜ Walk (now store) (now links) (now firsts) n ⌝ }
     ensures { λ r. ⌜ (r ≡ firstOf (now (store .entry)) n) × (r ≤ n) ⌝ }
 {
-    let RecordReading::Record(_) = record_at(store, n) else {
-        return n;
-    };
-    if mode_at(store, n) == 0 {
+    let earlier = repeated_along(store, links, n);
+    if earlier >= n {
         return n;
     }
-    let mut at = place(links[n]);
-    while at > 0 {
-        let earlier = at - 1;
-        if is_repeat(store, n, earlier) {
-            return place(firsts[earlier]);
-        }
-        at = place(links[earlier]);
-    }
-    n
+    place(firsts[earlier])
 }
 
 fn entry_of(store: &[u8], n: usize, first: usize) -> [u8; 8]
@@ -111,7 +103,7 @@ fn entry_of(store: &[u8], n: usize, first: usize) -> [u8; 8]
     ]
 }
 
-// Tells record n at entry `place` of the receipt.
+// Writes the entry of record n as entry `place` of the receipt.
 fn write_entry(store: &[u8], n: usize, first: usize, receipt: &mut [u8], place: usize)
     requires { ⌜ Tells (now store) n first (now receipt) place ⌝ }
     ensures { λ _. ⌜ now (receipt .exit) ≡ paste (now (receipt .entry)) (place * entrySize) (entryOf (now (store .entry)) n) entrySize ⌝ }
@@ -120,7 +112,7 @@ fn write_entry(store: &[u8], n: usize, first: usize, receipt: &mut [u8], place: 
     copy_part(&entry, 0, Entry::SIZE, receipt, place * Entry::SIZE);
 }
 
-// Cleans a store, and tells in the receipt what was removed: of each removed record an entry, in order.
+// Writes the records that stay to `out`, as `clean_store` does, and an entry for each removed record to `receipt`, in order.
 pub fn clean_with_receipt(store: &[u8], out: &mut [u8], receipt: &mut [u8]) -> Cleaned
     ensures { λ r. ⌜ ReceiptInto (now (store .entry)) (now (out .entry)) (now (receipt .entry)) r (now (out .exit)) (now (receipt .exit)) ⌝ }
 {

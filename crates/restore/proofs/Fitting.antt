@@ -1,21 +1,20 @@
 -- Laws of a receipt that fits: its checks one by one, and that its numbers rise. Assumes nothing.
-use mathlib.Core.Path.{_≡_, refl, sym, _∙_, ap, ap₂}
-use mathlib.Core.Bool.{Bool, true, false, not}
+use mathlib.Core.Path.{_≡_, sym, _∙_, ap, ap₂}
+use mathlib.Core.Bool.{true, false, not}
 use mathlib.Core.List.{List}
 use Prim.Native.Nat.{ℕ, zero, suc, _+_, _-_, _*_, _%_, _≤_, _<_}
 use native.Mathlib.Nat.{add-zero, add-suc}
 use native.Mathlib.Numerals.{add-one}
 use native.Mathlib.Omega.{arith}
-use lib.Dec.{T, eqb, ltb}
+use lib.Dec.{eqb, ltb}
 use lib.ListN.{length}
 use borrow.Author.Tests.{lt-ltb, le-ltb, eq-eqb, ne-eqb, ltb-true, ltb-false, eqb-true, not-true}
-use Rattle.laws.specs.Pick.{both}
 use Rattle.laws.specs.Every.{below}
 use Rattle.laws.proofs.Tests.{cases, both-true, below-at}
 use Rattle.laws.proofs.Search.{holds, is-true}
 use Rattle.laws.proofs.Below.{below-all, below-fails, below-upto}
 use Rattle.bc6h_spec.specs.Answers.{done, shortOutput, longStore, unevenStore}
-use Rattle.records.specs.Store.{recordSize, storeLimit, recordsIn}
+use Rattle.records.specs.Store.{recordSize, storeLimit}
 use Rattle.twins_spec.specs.Twins.{mostRecords}
 use Rattle.receipt.specs.declared.Entry.{Entry}
 use Rattle.receipt.specs.Receipt.{entrySize, entriesIn, numberAt, staysAt, entryAt}

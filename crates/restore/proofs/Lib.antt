@@ -1,6 +1,5 @@
 pub mod Fitting
 pub mod Restoring
 pub mod Undoing
-pub mod Appending
 pub mod Theorems
 pub mod Examples

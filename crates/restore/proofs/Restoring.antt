@@ -1,18 +1,18 @@
 -- The way back: which entry is a record's, the loop, the returns, and that the call admits one outcome. Assumes nothing.
 use mathlib.Core.Path.{_≡_, refl, sym, _∙_, ap, ap₂}
 use mathlib.Core.Bool.{Bool, true, false}
-use mathlib.Core.List.{List, [], _++_, append-assoc}
+use mathlib.Core.List.{List, _++_, append-assoc}
 use mathlib.Core.Logic.{⊎-elim}
 use Prim.Native.Nat.{ℕ, zero, suc, _+_, _-_, _*_, _≤_, _<_}
 use native.Mathlib.Nat.{eq-or-lt-of-le}
 use native.Mathlib.Numerals.{add-one}
 use native.Mathlib.Omega.{arith}
 use lib.Dec.{eqb, ltb}
-use lib.ListN.{length, getD, take, drop, length-append, length-take, length-drop}
+use lib.ListN.{length, take, drop, length-append, length-take, length-drop}
 use lib.Seq.{take-all, take-append-le, drop-append-le, paste}
 use borrow.Author.Count.{below-none, below-more}
-use borrow.Author.Tests.{lt-ltb, le-ltb, eq-eqb, ne-eqb, ltb-true, ltb-false, eqb-true, eqb-false}
-use Rattle.laws.specs.Pick.{pick, both}
+use borrow.Author.Tests.{lt-ltb, le-ltb, eq-eqb, ltb-true, ltb-false, eqb-true}
+use Rattle.laws.specs.Pick.{both}
 use Rattle.laws.specs.First.{firstBelow}
 use Rattle.laws.proofs.Tests.{cases, both-true}
 use Rattle.laws.proofs.Firsts.{first-passes, first-least}
@@ -25,8 +25,8 @@ use Rattle.receipt.specs.declared.Entry.{Entry}
 use Rattle.receipt.specs.Receipt.{entrySize, entriesIn, numberAt, staysAt, entryAt, tileBytes}
 use Rattle.receipt.proofs.Pasting.{pasted}
 use Rattle.restore.specs.declared.Restored.{Restored}
-use Rattle.restore.specs.Restore.{totalOf, isFor, entryFor, isTold, putBack, restoredUpto, restoredOf, restoredAt, bytesAt, RestoredInto, restoreRefusal, withTile, putInto}
-use Rattle.restore.proofs.Fitting.{FitReceipt, climbs-to, Restorable, restorable}
+use Rattle.restore.specs.Restore.{totalOf, isFor, entryFor, isTold, putBack, restoredUpto, restoredOf, restoredAt, RestoredInto, restoreRefusal, withTile, putInto}
+use Rattle.restore.proofs.Fitting.{FitReceipt, climbs-to, Restorable}
 
 -- ---- which entry is record n's
 

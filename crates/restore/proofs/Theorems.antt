@@ -1,9 +1,9 @@
 -- The theorems of specs/Theorems, from the calls' statements. Assumes nothing.
-use mathlib.Core.Path.{_≡_, refl, sym, _∙_, ap, ap₂, subst}
+use mathlib.Core.Path.{_≡_, _∙_, ap, ap₂, subst}
 use mathlib.Core.Bool.{true, false}
 use mathlib.Core.List.{List, _++_}
 use mathlib.Core.Logic.{inl, inr}
-use Prim.Native.Nat.{ℕ, _+_, _*_, _%_, _≤_, _<_}
+use Prim.Native.Nat.{ℕ, _+_, _*_, _≤_, _<_}
 use native.Mathlib.Omega.{arith}
 use lib.Dec.{lit<}
 use lib.ListN.{length, drop, length-append}
@@ -20,11 +20,10 @@ use Rattle.receipt.proofs.Entries.{going-less, tile-told}
 use Rattle.receipt.proofs.Telling as telling
 use Rattle.restore.specs.declared.Restored.{Restored}
 use Rattle.restore.specs.Restore.{totalOf, restoreRefusal, RestoredInto}
-use Rattle.restore.specs.Theorems.{receiptBytes, SameStore, Undone, Taken, entryTile, InCleaned, InReceipt, NoTileLost, Appended}
+use Rattle.restore.specs.Theorems.{receiptBytes, SameStore, Undone, Taken, entryTile, InCleaned, NoTileLost}
 use Rattle.restore.proofs.Fitting as checks
 use Rattle.restore.proofs.Restoring as restoring
 use Rattle.restore.proofs.Undoing as undoing
-use Rattle.restore.proofs.Appending as appending
 
 -- ---- undone
 
@@ -102,11 +101,3 @@ no-tile-lost store lent paper after written r d z n h =
     (λ t. let p = in-receipt store (receiptBytes r written) r n (telling.receipt-is d z) (telling.removed-count d z) h t in
     inr (record { place = going (goes store) n; there = p .0; same-tile = p .1 }))
     (λ f. inl (in-cleaned (telling.as-cleaned d z) z n h f))
-
--- ---- appended records
-
-pub appended : Appended
-appended store more a b n h =
-    let s : Sized store = record { fits = a .fits; even = a .even } in
-    let l : Sized (store ++ more) = record { fits = b .fits; even = b .even } in
-    (appending.first-appended store more s l n h, appending.goes-appended store more s l n h)

@@ -1,24 +1,23 @@
 -- The receipt of a clean-up fits, and what it puts back is the store. Assumes nothing.
-use mathlib.Core.Path.{_≡_, refl, sym, _∙_, ap, ap₂}
-use mathlib.Core.Bool.{Bool, true, false}
-use mathlib.Core.List.{List, [], _++_}
+use mathlib.Core.Path.{_≡_, refl, sym, _∙_, ap}
+use mathlib.Core.Bool.{true, false}
+use mathlib.Core.List.{List, _++_}
 use mathlib.Core.Logic.{⊎-elim}
-use Prim.Native.Nat.{ℕ, zero, suc, _+_, _-_, _*_, _%_, _≤_, _<_}
+use Prim.Native.Nat.{ℕ, zero, suc, _+_, _-_, _*_, _≤_, _<_}
 use native.Mathlib.Nat.{eq-or-lt-of-le}
 use native.Mathlib.Omega.{arith}
-use lib.Dec.{eqb, ltb}
+use lib.Dec.{ltb}
 use lib.ListN.{length, getD, take, drop, length-append, length-take, length-drop, List·getD-append}
 use lib.Seq.{take-all, take-add, getD-take, getD-drop, getD-append-add, ext-getD}
-use borrow.Author.Tests.{ltb-true, ltb-false, eqb-true, eqb-false}
-use Rattle.laws.specs.Pick.{pick}
+use borrow.Author.Tests.{ltb-true, ltb-false}
 use Rattle.laws.proofs.Tests.{cases}
 use Rattle.laws.proofs.Sameness.{true-false, not-so}
-use Rattle.records.specs.Store.{recordSize, recordsIn, byteOf, formatOf, blockOf, Unrefused}
-use Rattle.clean.specs.Clean.{Repeats, firstOf, goes, recordOf, left, staying, going, cleanedOf, stayCount, goneCount}
+use Rattle.records.specs.Store.{recordSize, recordsIn, byteOf, blockOf}
+use Rattle.clean.specs.Clean.{Repeats, firstOf, goes, recordOf, staying, going, cleanedOf}
 use Rattle.clean.proofs.Repeating.{goes-first, first-repeated}
-use Rattle.clean.proofs.Leaving.{record-length, record-byte, staying-adds, staying-same, left-length, left-at}
+use Rattle.clean.proofs.Leaving.{record-length, record-byte, staying-adds, staying-same, left-at}
 use Rattle.clean.proofs.Moving.{Sized, cleaned-records}
-use Rattle.receipt.specs.Receipt.{entrySize, entriesIn, entryByte, numberAt, staysAt, tileBytes, receiptUpto, receiptOf}
+use Rattle.receipt.specs.Receipt.{entrySize, entriesIn, numberAt, staysAt, tileBytes, receiptOf}
 use Rattle.receipt.proofs.Entries.{Gone, gone-of, going-less, number-told, stays-told, tile-told, entries-count, receipt-length}
 use Rattle.moves.proofs.Undone.{spare-is}
 use Rattle.restore.specs.Restore.{totalOf, leastAt, receiptFits, entryFor, isTold, putBack, restoredUpto, restoredOf}

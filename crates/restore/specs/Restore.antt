@@ -1,4 +1,4 @@
--- A store from its cleaned one and the receipt: which receipts fit, the bytes, and what the call answers. Assumes nothing.
+-- A store from its cleaned store and the receipt: which receipts fit, the bytes, and what the call answers. Assumes nothing.
 use mathlib.Core.Path.{_≡_}
 use mathlib.Core.Bool.{Bool, not}
 use mathlib.Core.List.{List, [], _++_}
@@ -16,22 +16,22 @@ use Rattle.clean.specs.Clean.{recordOf, staying}
 use Rattle.receipt.specs.Receipt.{entrySize, entriesIn, numberAt, staysAt, tileBytes}
 use Rattle.restore.specs.declared.Restored.{Restored}
 
--- as many records as the two have together
+-- how many records the restored store has: those of the cleaned store and one for each entry
 abbrev pub totalOf : List ℕ → List ℕ → ℕ
 totalOf cleaned receipt = recordsIn cleaned + entriesIn receipt
 
 -- ---- which receipts fit
 
--- "receipt not a multiple of 8, or an entry that does not fit"
+-- 25: the receipt's length is not a multiple of 8, or an entry does not fit
 abbrev pub badReceipt : ℕ
 badReceipt = 25
 
--- the least number that entry e may have: one above the entry before
+-- the least number that entry e may have: one above that of the entry before
 abbrev pub leastAt : List ℕ → ℕ → ℕ
 leastAt receipt zero = 0
 leastAt receipt (suc e) = numberAt receipt e + 1
 
--- an entry fits where its number is above the one before and below the total, and the record that stays is before it
+-- an entry fits if its number is above that of the entry before and below the total, and the record that stays is below its number
 unfoldable pub entryFits : List ℕ → ℕ → ℕ → Bool
 entryFits receipt total e =
     both (not (ltb (numberAt receipt e) (leastAt receipt e))) (both (ltb (numberAt receipt e) total) (ltb (staysAt receipt e) (numberAt receipt e)))
@@ -39,7 +39,7 @@ entryFits receipt total e =
 unfoldable pub receiptFits : List ℕ → ℕ → Bool
 receiptFits receipt total = both (eqb (length receipt % entrySize) 0) (below (entryFits receipt total) (entriesIn receipt))
 
--- "5 (cleaned longer than 48,000 bytes, or records + entries above 2,000), 6, 25, 3, in that order"
+-- 5 (the cleaned store is longer than 48,000 bytes, or there are more than 2,000 records in all), 6, 25, 3: the first that is met
 unfoldable pub restoreRefusal : List ℕ → List ℕ → ℕ → ℕ
 restoreRefusal cleaned receipt room =
     pick (ltb storeLimit (length cleaned)) longStore
@@ -50,24 +50,24 @@ restoreRefusal cleaned receipt room =
 
 -- ---- the bytes
 
--- entry e is the one of record n
+-- entry e has number n
 abbrev pub isFor : List ℕ → ℕ → ℕ → Bool
 isFor receipt n e = eqb (numberAt receipt e) n
 
--- the first such entry; as many as there are where there is none
+-- the first such entry; the number of entries where there is none
 unfoldable pub entryFor : List ℕ → ℕ → ℕ
 entryFor receipt n = firstBelow (isFor receipt n) (entriesIn receipt)
 
--- an entry has number n
+-- some entry has number n
 unfoldable pub isTold : List ℕ → ℕ → Bool
 isTold receipt n = ltb (entryFor receipt n) (entriesIn receipt)
 
--- what an entry puts back: its tile, and bytes 4 to 23 of the record that stays, which is restored already
+-- the record that an entry puts back: its tile, and bytes 4 to 23 of the record that stays, which is among those restored before it
 unfoldable pub putBack : List ℕ → List ℕ → ℕ → List ℕ
 putBack before receipt e = tileBytes receipt e ++ take 20 (drop (staysAt receipt e * recordSize + 4) before)
 
--- The first n records: where an entry has number n, what it puts back; else the next record of the cleaned store, of which as many were
--- taken as records below n have no entry.
+-- The first n records, in order: record k is what the entry of number k puts back; where there is none, it is the next record of the cleaned
+-- store, whose records were taken so far for the numbers below k that have no entry.
 unfoldable pub restoredUpto : List ℕ → List ℕ → ℕ → List ℕ
 restoredUpto cleaned receipt zero = []
 restoredUpto cleaned receipt (suc n) =
@@ -79,21 +79,22 @@ restoredOf cleaned receipt = restoredUpto cleaned receipt (totalOf cleaned recei
 
 -- ---- the call
 
--- The number, and how many records were restored: none on a refusal.
+-- the answer's number, and how many records were restored: none on a refusal
 abbrev pub restoredAt : ℕ → ℕ → Restored
 restoredAt zero count = record { answer = done; records = count }
 restoredAt (suc number) count = record { answer = suc number; records = 0 }
 
--- the store at the front of the lent bytes, whose rest is as it was; a refusal changes none
+-- the store at the front of the lent bytes, whose rest stays as it was; a refusal changes no byte
 abbrev pub bytesAt : ℕ → List ℕ → List ℕ → List ℕ → List ℕ
 bytesAt zero cleaned receipt lent = restoredOf cleaned receipt ++ drop (totalOf cleaned receipt * recordSize) lent
 bytesAt (suc number) cleaned receipt lent = lent
 
+-- The answer and the lent bytes, for every input.
 pub record RestoredInto (cleaned receipt lent : List ℕ) (r : Restored) (after : List ℕ) : Type 0 where
   pub answers : r ≡ restoredAt (restoreRefusal cleaned receipt (length lent)) (totalOf cleaned receipt)
   pub holds : after ≡ bytesAt (restoreRefusal cleaned receipt (length lent)) cleaned receipt lent
 
--- ---- one record put back, as the code does it: the tile into the lent bytes, then the rest from an earlier record of them
+-- ---- one record put back, as the code does it: the tile first, then the rest from an earlier record of the lent bytes
 
 abbrev pub withTile : List ℕ → ℕ → List ℕ → ℕ → List ℕ
 withTile receipt e lent n = paste lent (n * recordSize) (drop (e * entrySize + 4) receipt) 4

@@ -1,4 +1,4 @@
--- What a clean-up with a receipt and the way back promise together. Assumes nothing.
+-- What a clean-up with a receipt and its undoing promise together. Assumes nothing.
 use mathlib.Core.Path.{_≡_}
 use mathlib.Core.List.{List, _++_}
 use mathlib.Core.Logic.{_⊎_}
@@ -7,7 +7,6 @@ use lib.ListN.{length, take, drop}
 use Rattle.bc6h_spec.specs.Answers.{done}
 use Rattle.records.specs.Store.{recordSize, storeLimit, recordsIn, tileOf}
 use Rattle.clean.specs.declared.Cleaned.{Cleaned}
-use Rattle.clean.specs.Clean.{firstOf, goes}
 use Rattle.clean.specs.Theorems.{cleanedBytes}
 use Rattle.receipt.specs.Receipt.{entrySize, entryByte, ReceiptInto}
 use Rattle.restore.specs.declared.Restored.{Restored}
@@ -24,14 +23,14 @@ pub record SameStore (store room : List ℕ) (s : Restored) (later : List ℕ) :
   pub records : s .records ≡ recordsIn store
   pub same-bytes : later ≡ store ++ drop (length store) room
 
--- Whatever the clean-up with a receipt leaves of a store that it takes, the way back, handed exactly what it wrote and room for the store,
--- is done and gives the store back, byte for byte.
+-- For every store that the clean-up takes: `restore_store`, given exactly what the clean-up wrote and room for the store, is done and gives the
+-- store back, byte for byte.
 abbrev pub Undone : Type 0
 Undone = (store lent paper after written : List ℕ) (r : Cleaned) → ReceiptInto store lent paper r after written → r .answer ≡ done
     → (room later : List ℕ) (s : Restored) → RestoredInto (cleanedBytes r after) (receiptBytes r written) room s later → length store ≤ length room
     → SameStore store room s later
 
--- It takes every store of whole records that is not too long, given 24 and 8 bytes a record of it.
+-- The clean-up takes every store of whole records of at most 48,000 bytes, given 24 and 8 bytes a record for the two places.
 abbrev pub Taken : Type 0
 Taken = (store lent paper after written : List ℕ) (r : Cleaned) → ReceiptInto store lent paper r after written
     → length store ≤ storeLimit → length store % recordSize ≡ 0 → length store ≤ length lent → recordsIn store * entrySize ≤ length paper
@@ -43,29 +42,19 @@ Taken = (store lent paper after written : List ℕ) (r : Cleaned) → ReceiptInt
 abbrev pub entryTile : List ℕ → ℕ → ℕ
 entryTile receipt e = entryByte receipt e 4 + entryByte receipt e 5 * 0x100 + entryByte receipt e 6 * 0x10000 + entryByte receipt e 7 * 0x1000000
 
--- a record of the cleaned store has the tile number, or an entry of the receipt
+-- a record of the cleaned store has the tile number
 pub record InCleaned (tile : ℕ) (r : Cleaned) (after : List ℕ) : Type 0 where
   pub place : ℕ
   pub there : place < r .kept
   pub same-tile : tileOf after place ≡ tile
 
+-- an entry of the receipt has the tile number
 pub record InReceipt (tile : ℕ) (r : Cleaned) (written : List ℕ) : Type 0 where
   pub place : ℕ
   pub there : place < r .removed
   pub same-tile : entryTile (receiptBytes r written) place ≡ tile
 
+-- The tile number of every record is in the cleaned store or in the receipt.
 abbrev pub NoTileLost : Type 0
 NoTileLost = (store lent paper after written : List ℕ) (r : Cleaned) → ReceiptInto store lent paper r after written → r .answer ≡ done
     → (n : ℕ) → n < recordsIn store → InCleaned (tileOf store n) r after ⊎ InReceipt (tileOf store n) r written
-
--- ---- appended records
-
--- a store that no check of its size refuses
-pub record Whole (store : List ℕ) : Type 0 where
-  pub fits : length store ≤ storeLimit
-  pub even : length store % recordSize ≡ 0
-
--- Records that are appended change no earlier choice.
-abbrev pub Appended : Type 0
-Appended = (store more : List ℕ) → Whole store → Whole (store ++ more) → (n : ℕ) → n < recordsIn store
-    → (firstOf (store ++ more) n ≡ firstOf store n) × (goes (store ++ more) n ≡ goes store n)

@@ -1,4 +1,4 @@
-// The way back from a clean-up with a receipt: the store as it was, from the cleaned one and the receipt.
+// Undoes a clean-up: the store as it was, from the cleaned store and the receipt.
 
 ghost use mathlib.Core.Path.{_≡_};
 ghost use Prim.Native.Nat.{_+_, _*_, _≤_, _<_};
@@ -16,14 +16,14 @@ use receipt::entry_at;
 use records::Record;
 use twins_spec::TwinList;
 
-// What the way back answers: its number, and how many records were restored.
+// Done, with how many records were restored; or a refusal's number.
 pub struct Restored {
     pub answer: u8,
     pub records: usize,
 }
 
 impl Restored {
-    // A receipt that is not whole, or an entry of it that does not fit.
+    // The receipt's length is not a multiple of 8, or an entry does not fit the store.
     pub const BAD_RECEIPT: u8 = 25;
 
     fn refused(answer: u8) -> Restored
@@ -35,7 +35,7 @@ impl Restored {
 
 // ---- which receipts fit
 
-// Entry e fits where its number may be no less than `least`.
+// Whether entry e fits a store of `total` records; its number must be at least `least`, one above the entry before.
 fn entry_fits(receipt: &[u8], total: usize, e: usize, least: usize) -> bool
     requires { ⌜ (e < entriesIn (now receipt)) × (least ≡ leastAt (now receipt) e) ⌝ }
     ensures { λ r. ⌜ r ≡ entryFits (now (receipt .entry)) total e ⌝ }
@@ -67,7 +67,7 @@ fn receipt_fits(receipt: &[u8], total: usize) -> bool
     true
 }
 
-// Why a cleaned store with this receipt is not restored into so much room.
+// The number of the refusal, or done, given `room` lent bytes.
 fn restore_refusal(cleaned: &[u8], receipt: &[u8], room: usize) -> u8
     ensures { λ r. ⌜ r ≡ restoreRefusal (now (cleaned .entry)) (now (receipt .entry)) room ⌝ }
 {
@@ -92,7 +92,7 @@ fn restore_refusal(cleaned: &[u8], receipt: &[u8], room: usize) -> u8
 
 // ---- the bytes
 
-// So many of the lent bytes from `from` on, all of them before `to`, once more from `to` on.
+// Copies `size` bytes of `out` that begin at `from` and end before `to`, to `to`.
 fn copy_within(out: &mut [u8], from: usize, size: usize, to: usize)
     requires { ⌜ (from + size ≤ to) × (to + size ≤ length (now out)) ⌝ }
     ensures { λ _. ⌜ now (out .exit) ≡ paste (now (out .entry)) to (drop from (now (out .entry))) size ⌝ }
@@ -102,18 +102,23 @@ fn copy_within(out: &mut [u8], from: usize, size: usize, to: usize)
     }
 }
 
-// Record n as entry e tells it: its tile, and what follows it in the record that stays.
+// Writes record n by entry e: the entry's tile, and what follows the tile in the record that stays.
 fn put_back(receipt: &[u8], e: usize, out: &mut [u8], n: usize)
     requires { ⌜ PutBack (now receipt) e (now out) n ⌝ }
     ensures { λ _. ⌜ now (out .exit) ≡ putInto (now (receipt .entry)) e (now (out .entry)) n ⌝ }
 {
     let stays = entry_at(receipt, e).stays;
     let to = n * Record::SIZE;
-    copy_part(receipt, e * Entry::SIZE + Entry::HEAD, 4, out, to);
-    copy_within(out, stays * Record::SIZE + 4, 20, to + 4);
+    copy_part(receipt, e * Entry::SIZE + Entry::HEAD, Entry::TILE, out, to);
+    copy_within(
+        out,
+        stays * Record::SIZE + Entry::TILE,
+        Entry::REST,
+        to + Entry::TILE,
+    );
 }
 
-// The next entry is record n's.
+// Whether there is an entry e, and its number is n.
 fn is_next(receipt: &[u8], e: usize, n: usize) -> bool
     ensures { λ r. ⌜ r ≡ both (ltb e (entriesIn (now (receipt .entry)))) (eqb (numberAt (now (receipt .entry)) e) n) ⌝ }
 {
@@ -123,7 +128,7 @@ fn is_next(receipt: &[u8], e: usize, n: usize) -> bool
     entry_at(receipt, e).number == n
 }
 
-// Writes the store that was cleaned: the records of the cleaned one in order, and between them those that the receipt tells.
+// Writes the store as it was: the records of the cleaned store in order, and among them those that the receipt's entries put back.
 pub fn restore_store(cleaned: &[u8], receipt: &[u8], out: &mut [u8]) -> Restored
     ensures { λ r. ⌜ RestoredInto (now (cleaned .entry)) (now (receipt .entry)) (now (out .entry)) r (now (out .exit)) ⌝ }
 {

@@ -3,6 +3,7 @@ use mathlib.Core.Path.{sym, _∙_}
 use Prim.Native.Nat.{_-_}
 use native.Mathlib.Omega.{arith}
 use Rattle.twins_spec.proofs.Listing.{whole-when}
+use Rattle.clean.proofs.Linking.{met-goes}
 use Rattle.clean.proofs.Cleaning as laws
 use Rattle.clean.proofs.Cleaning.{SoFar}
 use Rattle.clean.proofs.clean_store.Statement.{statement}
@@ -32,11 +33,11 @@ link-records-requires c κs = let w = whole-when (c .before .before .list-refusa
 loop-holds : tie.Need-loop-holds Inv-loop μ-loop
 loop-holds c = laws.so-far-none _ _
 
-slice-aggregate-is-gone : tie.Need-slice-aggregate-is-gone Inv-loop μ-loop
-slice-aggregate-is-gone c = search needs
+slice-aggregate-repeated-along : tie.Need-slice-aggregate-repeated-along Inv-loop μ-loop
+slice-aggregate-repeated-along c = search needs
 
-is-gone-requires : tie.Need-is-gone-requires Inv-loop μ-loop
-is-gone-requires c κs = let w = whole-when (c .before .before .before .before .before .before .before .list-refusal .ensures) (c .before .before .before .before .before .before .if1 .left) in (search needs, (search needs, c .before .before .before .before .link-records .ensures))
+repeated-along-requires : tie.Need-repeated-along-requires Inv-loop μ-loop
+repeated-along-requires c κs = let w = whole-when (c .before .before .before .before .before .before .before .list-refusal .ensures) (c .before .before .before .before .before .before .if1 .left) in (search needs, (search needs, c .before .before .before .before .link-records .ensures))
 
 add-n : tie.Need-add-n Inv-loop μ-loop
 add-n c = search needs
@@ -45,7 +46,7 @@ loop-less : tie.Need-loop-less Inv-loop μ-loop
 loop-less c = search needs
 
 loop-again : tie.Need-loop-again Inv-loop μ-loop
-loop-again c = laws.so-far-gone (c .before .before .before .before .loop .inv) (search needs) (sym (c .before .is-gone .ensures) ∙ c .if2 .taken)
+loop-again c = laws.so-far-gone (c .before .before .before .before .loop .inv) (search needs) (met-goes (c .before .repeated-along .ensures) (c .if2 .taken))
 
 copy-record-requires : tie.Need-copy-record-requires Inv-loop μ-loop
 copy-record-requires c κs = let w = whole-when (c .before .before .before .before .before .before .before .before .before .before .list-refusal .ensures) (c .before .before .before .before .before .before .before .before .before .if1 .left) in let s = c .before .before .before .before .before .loop .inv in (search needs, omega arith)
@@ -60,7 +61,7 @@ loop-less-2 : tie.Need-loop-less-2 Inv-loop μ-loop
 loop-less-2 c = search needs
 
 loop-again-2 : tie.Need-loop-again-2 Inv-loop μ-loop
-loop-again-2 c = let w = whole-when (c .before .before .before .before .before .before .before .before .before .before .before .before .before .list-refusal .ensures) (c .before .before .before .before .before .before .before .before .before .before .before .before .if1 .left) in let s = c .before .before .before .before .before .before .before .before .loop .inv in laws.so-far-more s (search needs) (omega arith) (sym (c .before .before .before .before .before .is-gone .ensures) ∙ c .before .before .before .before .if2 .left) (c .before .before .copy-record .ensures)
+loop-again-2 c = let w = whole-when (c .before .before .before .before .before .before .before .before .before .before .before .before .before .list-refusal .ensures) (c .before .before .before .before .before .before .before .before .before .before .before .before .if1 .left) in let s = c .before .before .before .before .before .before .before .before .loop .inv in laws.so-far-more s (search needs) (omega arith) (c .before .before .before .before .before .repeated-along .ensures .stays (c .before .before .before .before .if2 .left)) (c .before .before .copy-record .ensures)
 
 sub-t9 : tie.Need-sub-t9 Inv-loop μ-loop
 sub-t9 c = search needs
@@ -83,8 +84,8 @@ clean-store-spec =
     slice-aggregate-link-records
     link-records-requires
     loop-holds
-    slice-aggregate-is-gone
-    is-gone-requires
+    slice-aggregate-repeated-along
+    repeated-along-requires
     add-n
     loop-less
     loop-again

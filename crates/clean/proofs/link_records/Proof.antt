@@ -1,13 +1,13 @@
 use borrow.Author.Needs.{needs}
 use mathlib.Core.Path.{_≡_, refl, _∙_, ap₂}
-use Prim.Native.Nat.{_≤_, _<_, _-_}
+use Prim.Native.Nat.{_≤_, _-_}
 use native.Mathlib.Omega.{arith}
 use lib.ListN.{length, length-set}
 use Rattle.records.specs.Store.{recordsIn}
 use Rattle.records.proofs.Readings.{unrefused, format-is, refused, part-of}
 use Rattle.twins_spec.proofs.Shown.{part-length}
 use Rattle.clean.specs.Links.{bucketCount, bucketOf}
-use Rattle.clean.proofs.Linking.{bucket-below, Linking, linking-none, linking-refused, linking-more}
+use Rattle.clean.proofs.Linking.{Linking, linking-none, linking-refused, linking-more}
 use Rattle.clean.proofs.link_records.Statement.{statement}
 use Rattle.clean.proofs.link_records.Tie as tie
 

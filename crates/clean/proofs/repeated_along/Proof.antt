@@ -1,10 +1,9 @@
 use borrow.Author.Needs.{needs}
 use mathlib.Core.Path.{sym, _∙_}
 use Rattle.records.proofs.Readings.{unrefused, refused}
-use Rattle.clean.proofs.Repeating.{refused-stays, reserved-stays}
-use Rattle.clean.proofs.Linking.{Passed, passed-none, earlier, next-less, passed-more, walked, met}
-use Rattle.clean.proofs.is_gone.Statement.{statement}
-use Rattle.clean.proofs.is_gone.Tie as tie
+use Rattle.clean.proofs.Linking.{Passed, met-refused, met-reserved, passed-none, earlier, next-less, passed-more, met-none, met-here}
+use Rattle.clean.proofs.repeated_along.Statement.{statement}
+use Rattle.clean.proofs.repeated_along.Tie as tie
 
 abbrev Inv-loop : tie.InvT-loop
 Inv-loop store links n at₀ at = Passed store n at
@@ -22,13 +21,13 @@ enum-told-2 : tie.Need-enum-told-2 Inv-loop μ-loop
 enum-told-2 c = search needs
 
 returns : tie.Need-returns Inv-loop μ-loop
-returns c = refused-stays _ _ (refused (c .before .before .record-at .ensures) (c .enum-told2 .given .1))
+returns c = met-refused _ _ (refused (c .before .before .record-at .ensures) (c .enum-told2 .given .1))
 
 mode-at-requires : tie.Need-mode-at-requires Inv-loop μ-loop
 mode-at-requires c κs = unrefused (c .before .before .record-at .ensures) (c .enum-told .given .1)
 
 returns-2 : tie.Need-returns-2 Inv-loop μ-loop
-returns-2 c = reserved-stays _ _ (sym (c .before .mode-at .ensures) ∙ c .if1 .taken)
+returns-2 c = met-reserved _ _ (sym (c .before .mode-at .ensures) ∙ c .if1 .taken)
 
 mul-place : tie.Need-mul-place Inv-loop μ-loop
 mul-place c = search needs
@@ -49,7 +48,7 @@ is-repeat-requires : tie.Need-is-repeat-requires Inv-loop μ-loop
 is-repeat-requires c κs = search needs
 
 returns-3 : tie.Need-returns-3 Inv-loop μ-loop
-returns-3 c = let s = c .before .before .before .before .before .before .before .before .before .before .before .before .before .pre in met (s .1 .1) _ (s .0) (c .before .before .before .loop .inv) (search needs) (sym (c .before .is-repeat .ensures) ∙ c .if2 .taken)
+returns-3 c = let s = c .before .before .before .before .before .before .before .before .before .before .before .before .before .pre in met-here (s .1 .1) _ (s .0) (c .before .before .before .loop .inv) (search needs) (sym (c .before .is-repeat .ensures) ∙ c .if2 .taken)
 
 mul-place-2 : tie.Need-mul-place-2 Inv-loop μ-loop
 mul-place-2 c = let s = c .before .before .before .before .before .before .before .before .before .before .before .before .before .pre in let l = earlier (s .1 .1) _ (s .0) (c .before .before .before .loop .inv) (search needs) in search needs
@@ -67,10 +66,10 @@ loop-again : tie.Need-loop-again Inv-loop μ-loop
 loop-again c = let s = c .before .before .before .before .before .before .before .before .before .before .before .before .before .before .before .pre in passed-more (s .1 .1) _ (s .0) (c .before .before .before .before .before .loop .inv) (search needs) (c .place2 .ensures) (sym (c .before .before .before .is-repeat .ensures) ∙ c .before .before .if2 .left)
 
 returns-4 : tie.Need-returns-4 Inv-loop μ-loop
-returns-4 c = let s = c .before .before .before .before .before .before .before .before .before .before .before .pre in walked (s .1 .1) _ (s .0) (c .before .loop .inv) (search needs)
+returns-4 c = let s = c .before .before .before .before .before .before .before .before .before .before .before .pre in met-none (s .1 .1) _ (s .0) (c .before .loop .inv) (search needs)
 
-pub is-gone-spec : {M : Type 1} → statement M
-is-gone-spec =
+pub repeated-along-spec : {M : Type 1} → statement M
+repeated-along-spec =
     tie.close
     (tie.spec
     Inv-loop

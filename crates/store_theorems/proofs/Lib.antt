@@ -1,0 +1,5 @@
+pub mod Carrying
+pub mod Pictures
+pub mod Growing
+pub mod Nights
+pub mod Orders

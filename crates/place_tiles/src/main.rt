@@ -1,18 +1,30 @@
 // Moves a store of 24-byte records to one of records with a place: reads it from standard input and writes the answer, a byte, and then the
 // moved store. Of a refused store the answer is all.
-use libc::STDIN_FILENO;
-use libc::STDOUT_FILENO;
-use moves::place_store;
-use places::Place;
-use records::Record;
+
+ghost use Rattle.records.specs.Store.{storeLimit};
+ghost use Rattle.moves_output.specs.Output.{placedOutput};
+ghost use Rattle.store_program.specs.Output.{Outgoing};
+use moves_output::Output;
+use moves_output::put_placed;
+use store_program::Input;
+use store_program::StoreInput;
+use store_program::first_bytes;
+use store_program::read_input;
+use store_program::write_text;
+
+// What goes out is the definition of what was read.
+fn write_placed(input: &[u8], size: usize, out: &[u8], end: usize)
+    requires { ⌜ Outgoing placedOutput storeLimit (now input) size (now out) end ⌝ }
+{
+    write_text(out, end);
+}
 
 fn main() {
-    let mut input = [0u8; Record::STORE + 1];
-    let size = io::read_full(STDIN_FILENO, &mut input);
-    let mut out = [0u8; Place::STORE];
-    let moved = place_store(&input[..size], &mut out);
-    let answer = [moved.answer];
-    if io::write_all(STDOUT_FILENO, &answer) {
-        io::write_all(STDOUT_FILENO, &out[..moved.records * Place::SIZE]);
-    }
+    let mut input = [0u8; StoreInput::ROOM];
+    let Input::Whole(size) = read_input(&mut input) else {
+        return;
+    };
+    let mut out = [0u8; Output::PLACED];
+    let end = put_placed(first_bytes(&input, size), &mut out);
+    write_placed(&input, size, &out, end);
 }

@@ -11,13 +11,20 @@ use Rattle.bc6h_spec.specs.Picture.{valueCount}
 use Rattle.bc6_numbers.specs.Numbers.{numberCount, fieldsFrom}
 use Rattle.bc6_palette.specs.Call.{refusalOf, valuesAt}
 
+-- 32 numbers of two bytes; the answer, and 48 values of two bytes
+abbrev pub inputSize : ℕ
+inputSize = 64
+
+abbrev pub outputSize : ℕ
+outputSize = 97
+
 -- number k, low byte first
 unfoldable pub numberIn : List ℕ → ℕ → ℕ
 numberIn input k = getD input (2 * k) 0 + 256 * getD input (2 * k + 1) 0
 
 -- the record; input of another length holds none
 unfoldable pub fieldsIn : List ℕ → Fields
-fieldsIn input = pick (eqb (length input) 64) (fieldsFrom (made (numberIn input) numberCount)) noFields
+fieldsIn input = pick (eqb (length input) inputSize) (fieldsFrom (made (numberIn input) numberCount)) noFields
 
 -- the answer, and then each value, low byte first
 unfoldable pub byteOf : ℕ → List ℕ → ℕ → ℕ
@@ -29,4 +36,4 @@ byteOf answer values k =
 unfoldable pub pictureBytes : List ℕ → List ℕ
 pictureBytes input =
     let f = fieldsIn input in
-    made (byteOf (refusalOf f valueCount) (valuesAt (refusalOf f valueCount) f (replicate valueCount 0))) 97
+    made (byteOf (refusalOf f valueCount) (valuesAt (refusalOf f valueCount) f (replicate valueCount 0))) outputSize

@@ -1,11 +1,14 @@
 // Standard input is a field record as 32 numbers of two bytes, low byte first, in the order of bc6_numbers. It writes 97 bytes: the answer of
 // `fields_pixels`, and the 48 values that the record shows, two bytes each, low byte first, all zero on a refusal. Input of another length
 // holds no record.
+
 use bc6_numbers::Numbers;
 use bc6h_spec::Block;
 use bc6h_spec::Fields;
-use libc::STDIN_FILENO;
-use libc::STDOUT_FILENO;
+use store_program::Input;
+use store_program::first_bytes;
+use store_program::read_input;
+use store_program::write_text;
 ghost use mathlib.Core.Path.{_≡_};
 ghost use mathlib.Core.List.{_++_};
 ghost use Prim.Native.Nat.{_+_, _*_, _/_, _%_, _<_, _≤_};
@@ -13,7 +16,8 @@ ghost use lib.ListN.{length, drop};
 ghost use Rattle.laws.specs.Pick.{pick};
 ghost use Rattle.laws.specs.Made.{made};
 ghost use Rattle.bc6_numbers.specs.Numbers.{numberCount};
-ghost use Rattle.show_fields.specs.Picture.{numberIn, fieldsIn, byteOf, pictureBytes};
+ghost use Rattle.store_program.specs.Output.{Outgoing};
+ghost use Rattle.show_fields.specs.Picture.{inputSize, outputSize, numberIn, fieldsIn, byteOf, pictureBytes};
 
 const INPUT_SIZE: usize = 64;
 
@@ -26,7 +30,7 @@ fn two_bytes(low: u8, high: u8) -> u16
 }
 
 fn numbers_in(input: &[u8]) -> [u16; Numbers::COUNT]
-    requires { ⌜ length (now input) ≡ 64 ⌝ }
+    requires { ⌜ length (now input) ≡ inputSize ⌝ }
     ensures { λ r. ⌜ r ≡ made (numberIn (now (input .entry))) numberCount ⌝ }
 {
     let mut numbers = [0u16; Numbers::COUNT];
@@ -58,7 +62,7 @@ fn half_of(value: u16, low: bool) -> u8
 
 // Byte k of what is written: the answer, then each value's low byte and its high byte.
 fn byte_of(answer: u8, values: [u16; Block::VALUES], k: usize) -> u8
-    requires { ⌜ k < 97 ⌝ }
+    requires { ⌜ k < outputSize ⌝ }
     ensures { λ r. ⌜ r ≡ byteOf answer values k ⌝ }
 {
     if k == 0 {
@@ -68,8 +72,8 @@ fn byte_of(answer: u8, values: [u16; Block::VALUES], k: usize) -> u8
 }
 
 fn put_answer(answer: u8, values: [u16; Block::VALUES], out: &mut [u8])
-    requires { ⌜ 97 ≤ length (now out) ⌝ }
-    ensures { λ _. ⌜ now (out .exit) ≡ made (byteOf answer values) 97 ++ drop 97 (now (out .entry)) ⌝ }
+    requires { ⌜ outputSize ≤ length (now out) ⌝ }
+    ensures { λ _. ⌜ now (out .exit) ≡ made (byteOf answer values) outputSize ++ drop outputSize (now (out .entry)) ⌝ }
 {
     for k in 0..OUTPUT_SIZE {
         out[k] = byte_of(answer, values, k);
@@ -77,8 +81,8 @@ fn put_answer(answer: u8, values: [u16; Block::VALUES], out: &mut [u8])
 }
 
 fn show(input: &[u8], out: &mut [u8])
-    requires { ⌜ 97 ≤ length (now out) ⌝ }
-    ensures { λ _. ⌜ now (out .exit) ≡ pictureBytes (now (input .entry)) ++ drop 97 (now (out .entry)) ⌝ }
+    requires { ⌜ outputSize ≤ length (now out) ⌝ }
+    ensures { λ _. ⌜ now (out .exit) ≡ pictureBytes (now (input .entry)) ++ drop outputSize (now (out .entry)) ⌝ }
 {
     let fields = fields_in(input);
     let mut values = [0u16; Block::VALUES];
@@ -86,11 +90,20 @@ fn show(input: &[u8], out: &mut [u8])
     put_answer(answer, values, out);
 }
 
+// What goes out is the definition of what was read.
+fn write_picture(input: &[u8], size: usize, out: &[u8], end: usize)
+    requires { ⌜ Outgoing pictureBytes inputSize (now input) size (now out) end ⌝ }
+{
+    write_text(out, end);
+}
+
 // One byte more than a record is read, so that a longer input is told from it.
 fn main() {
     let mut input = [0u8; INPUT_SIZE + 1];
+    let Input::Whole(size) = read_input(&mut input) else {
+        return;
+    };
     let mut out = [0u8; OUTPUT_SIZE];
-    let got = io::read_full(STDIN_FILENO, &mut input);
-    show(&input[..got], &mut out);
-    io::write_all(STDOUT_FILENO, &out);
+    show(first_bytes(&input, size), &mut out);
+    write_picture(&input, size, &out, OUTPUT_SIZE);
 }

@@ -1,18 +1,33 @@
 // Moves a store of records with a place back to one of 24-byte records: reads it from standard input and writes the answer, a byte, and
 // then the moved store. Of a refused store the answer is all.
-use libc::STDIN_FILENO;
-use libc::STDOUT_FILENO;
-use moves::unplace_store;
+
+ghost use Rattle.places.specs.Places.{placeLimit};
+ghost use Rattle.moves_output.specs.Output.{unplacedOutput};
+ghost use Rattle.store_program.specs.Output.{Outgoing};
+use moves_output::Output;
+use moves_output::put_unplaced;
 use places::Place;
-use records::Record;
+use store_program::Input;
+use store_program::first_bytes;
+use store_program::read_input;
+use store_program::write_text;
+
+// One byte more than a store may have: enough to tell that one is too long.
+const ROOM: usize = Place::STORE + 1;
+
+// What goes out is the definition of what was read.
+fn write_unplaced(input: &[u8], size: usize, out: &[u8], end: usize)
+    requires { ⌜ Outgoing unplacedOutput placeLimit (now input) size (now out) end ⌝ }
+{
+    write_text(out, end);
+}
 
 fn main() {
-    let mut input = [0u8; Place::STORE + 1];
-    let size = io::read_full(STDIN_FILENO, &mut input);
-    let mut out = [0u8; Record::STORE];
-    let moved = unplace_store(&input[..size], &mut out);
-    let answer = [moved.answer];
-    if io::write_all(STDOUT_FILENO, &answer) {
-        io::write_all(STDOUT_FILENO, &out[..moved.records * Record::SIZE]);
-    }
+    let mut input = [0u8; ROOM];
+    let Input::Whole(size) = read_input(&mut input) else {
+        return;
+    };
+    let mut out = [0u8; Output::UNPLACED];
+    let end = put_unplaced(first_bytes(&input, size), &mut out);
+    write_unplaced(&input, size, &out, end);
 }

@@ -36,6 +36,8 @@ BEFORE_VALUES, BEFORE_FIELDS = 4, 1
 # the kinds of records by their letters in the page's data, as the sheet's filter names them
 KINDS = {"": "all", "a": "looks alike", "c": "copies", "d": "damaged", "x": "refused"}
 PICTURES = "sca"
+# the rows of a printed column of a list: beside each other they fill a sheet of A4
+COLUMN = 72
 
 
 def count(number, word, words=None):
@@ -74,6 +76,12 @@ class Facts:
     @property
     def stays(self):
         return self.records - len(self.removed)
+
+    @property
+    def pictures(self):
+        """How many pictures are shown by more than one record: each is of a record that is no twin itself."""
+        twins = {twin["record"] for twin in self.twins}
+        return len({twin["stays"] for twin in self.twins} - twins)
 
 
 def kinds_of(store, twins):
@@ -161,7 +169,7 @@ def mood(facts):
 def counts(facts):
     rows = [("records", facts.records, ""), ("damaged", facts.damaged, "bad"), ("refused", facts.refused, "bad"), ("removed", len(facts.removed), "goes"),
             ("stays" if facts.stays == 1 else "stay", facts.stays, ""), ("of them look alike", facts.alike, "")]
-    return "".join(f'<li{f" class={name!r}" if name and number else ""}><strong>{number:,}</strong>{word}</li>' for word, number, name in rows)
+    return "".join(f'<li class="{name if number else ""}"><strong>{number:,}</strong>{word}</li>' for word, number, name in rows)
 
 
 def safe(facts):
@@ -183,7 +191,7 @@ def signed(facts):
     name, removed = html.escape(facts.name), len(facts.removed)
     damage = damage_told(facts)
     return (f"The clean-up of {name} removes {removed:,} of {count(facts.records, 'record')}. It takes the store with SHA-256 <span class=\"sum\">{facts.before}</span> and "
-            f"leaves a store of {count(facts.stays, 'record')} with SHA-256 <span class=\"sum\">{facts.after}</span>." + (f" {damage}, and {'stays' if facts.damaged + facts.refused == 1 else 'stay'}." if damage else ""))
+            f"leaves a store of {count(facts.stays, 'record')} with SHA-256 <span class=\"sum\">{facts.after}</span>." + (f" {damage}; {'it stays' if facts.damaged + facts.refused == 1 else 'all of them stay'}." if damage else ""))
 
 
 def twins_told(facts):
@@ -226,10 +234,12 @@ def next_steps(facts):
 # ---- lists
 
 
-def table(heads, rows, name, wide=False):
-    body = "".join("<tr>" + "".join(f"<td>{cell}</td>" for cell in row) + "</tr>" for row in rows)
-    head = "".join(f'<th scope="col">{word}</th>' for word in heads)
-    return f'<div class="list{" wide" * wide}" tabindex="0" role="group" aria-label="{name}"><table><thead><tr>{head}</tr></thead><tbody>{body}</tbody></table></div>'
+def table(heads, rows, name, shape="list"):
+    """A list as tables of one printed column each; the screen shows them as one."""
+    head = "<thead><tr>" + "".join(f'<th scope="col">{word}</th>' for word in heads) + "</tr></thead>"
+    lines = ["<tr>" + "".join(f"<td>{cell}</td>" for cell in row) + "</tr>" for row in rows]
+    columns = ["".join(lines[at:at + COLUMN]) for at in range(0, len(lines), COLUMN)]
+    return f'<div class="{shape}" tabindex="0" role="group" aria-label="{name}">' + "".join(f"<table>{head}<tbody>{column}</tbody></table>" for column in columns) + "</div>"
 
 
 def link(n):
@@ -237,26 +247,29 @@ def link(n):
 
 
 def faults(facts):
-    rows = [(link(n), facts.tile(n), "damaged: a reserved mode" if kind == "d" else f"refused, {facts.answers[n]}: {html.escape(house.MEANINGS[facts.answers[n]])}")
-            for n, kind in enumerate(facts.kinds) if kind in "dx"]
-    told = ("A damaged record has a block of a reserved mode, which no encoder writes: the capture or the file was damaged. A refused record has a wrong format or "
-            "spare byte. A clean-up leaves both as they are.")
-    return f"<p>{told}</p>" + table(["record", "tile", "cause"], rows, "Damaged and refused records", wide=True) if rows else ""
+    if not facts.damaged + facts.refused:
+        return ""
+    told = ["<p>A clean-up leaves damaged and refused records as they are. To mend them, look at where the store came from.</p><ul class=\"faults\">"]
+    if facts.damaged:
+        told.append("<li>damaged: the block has a reserved mode, which no encoder writes. It holds no picture.</li>")
+    told += [f"<li>refused, {answer}: {html.escape(house.MEANINGS[answer])}.</li>" for answer in sorted(set(facts.answers) - {0})]
+    rows = [(link(n), facts.tile(n), "damaged" if kind == "d" else f"refused, {facts.answers[n]}") for n, kind in enumerate(facts.kinds) if kind in "dx"]
+    return "".join(told) + "</ul>" + table(["record", "tile", "cause"], rows, "Damaged and refused records")
 
 
 def removed_list(facts):
     if not facts.removed:
         return "<p>No tile is removed.</p>"
     rows = [(tile, stays_tile, link(n), link(stays)) for n, tile, stays, stays_tile in facts.removed]
-    return table(["tile removed", "tile that stays", "record", "stays"], rows, "Removed tiles")
+    return table(["tile removed", "tile that stays", "record removed", "record that stays"], rows, "Removed tiles", "list four")
 
 
 def infinities_list(facts):
     rows = []
     for line in house.over_store("infinities", facts.store, infinities.ENDS).decode().splitlines()[:-1]:
         n, tile, many, pixel, channel = line.split()
-        rows.append((link(n), tile, many, f"column {int(pixel) % 4}, row {int(pixel) // 4}, {channel}"))
-    return table(["record", "tile", "values", "the first at"], rows, "Minus infinity", wide=True) if rows else "<p>No value is minus infinity.</p>"
+        rows.append((link(n), tile, many, f"{pixel}, {channel}"))
+    return table(["record", "tile", "values", "first pixel"], rows, "Minus infinity") if rows else "<p>No value is minus infinity.</p>"
 
 
 # ---- the page
@@ -281,7 +294,7 @@ def page_of(name, store, date):
     told = {
         "name": name, "mood": mood(facts), "before": facts.before, "after": facts.after, "length": f"{len(store):,}", "records": count(facts.records, "record"),
         "leftTold": f"{count(facts.stays, 'record')}, {len(facts.left):,} bytes", "version": facts.audit["knot"], "commit": facts.audit["commit"], "kit": facts.audit["kit"],
-        "date": date, "theorem": theorem(facts), "twinsTold": f"Records that show one picture: {len(facts.twins):,}", "told": twins_told(facts),
+        "date": date, "theorem": theorem(facts), "twinsTold": f"Pictures that several records show: {facts.pictures:,}", "told": twins_told(facts),
         "faultsTold": f"Damaged and refused records: {facts.damaged + facts.refused:,}", "alikeTold": f"Records that look alike: {facts.alike:,}",
         "removedTold": f"Removed tiles: {len(facts.removed):,}", "audit": audit.headed(facts.text, facts.audit),
     }

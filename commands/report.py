@@ -1,10 +1,16 @@
 """Writes a page to look at and sign before a clean-up.
 
-usage: knot report STORE OUT.html
+usage: knot report [--date YYYY-MM-DD] [--force] STORE OUT.html
 
-OUT is then one page that needs nothing else: what a clean-up of the store would do, each twin beside the record that stays, with both tiles
-drawn at an exposure to choose, all records as small tiles, what is damaged or refused, where minus infinity is, and room for a signature in
-print. It is written whole or not at all. Of a refused store the line 'store refused' and the number are all, and OUT stays as it was.
+OUT is one page that needs nothing else. It says first what is damaged or refused and what a clean-up would remove, with room for two signatures on the
+first printed sheet; then the command that runs exactly the clean-up that is signed. Records that look alike are drawn beside each other, copies are
+listed by the record that stays, and all records are small tiles. The page holds the SHA-256 of the store before and after the clean-up, which
+'knot clean --signed OUT.html' reads.
+
+  --date YYYY-MM-DD   the date on the page; today (UTC) without it. The same store, version and date make the same page, byte for byte.
+  --force             overwrite OUT. Without it OUT must not be there yet: a file that is there stays as it is, and the status is 3.
+
+OUT is written whole or not at all. Of a refused store the line 'store refused' and the number are all, and nothing is written.
 """
 import base64
 import datetime
@@ -12,23 +18,70 @@ import hashlib
 import html
 import json
 import os
-import pathlib
+import re
+import shlex
+import stat
 import string
 import struct
 
 from . import audit, clean, house, infinities
 
-PAGE = pathlib.Path(__file__).resolve().parent / "page"
+PAGE, SHARED = house.ROOT / "commands/page", house.ROOT / "web/page"
+STYLES = [SHARED / "shared.css", PAGE / "page.css"]
+SCRIPTS = [SHARED / name for name in ("colours.js", "records.js", "endpoints.js", "draw.js", "cards.js")] + [PAGE / "page.js"]
 # the bytes of a record's 48 values, and of its fields
 VALUES, FIELDS = 96, 44
 # the programs over runs of blocks answer a record with these bytes before the values, and before the fields
 BEFORE_VALUES, BEFORE_FIELDS = 4, 1
-# the kinds of records by their letters in the page's data, in words
-KINDS = {"k": ("kept", "kept"), "c": ("copy", "copies"), "a": ("alike", "alike"), "r": ("reserved", "reserved"), "x": ("refused", "refused")}
+# the kinds of records by their letters in the page's data, as the sheet's filter names them
+KINDS = {"": "all", "a": "looks alike", "c": "copies", "d": "damaged", "x": "refused"}
+PICTURES = "sca"
+# the rows of a printed column of a list: beside each other they fill a sheet of A4
+COLUMN = 72
 
 
 def count(number, word, words=None):
     return f"{number:,} {word if number == 1 else words or word + 's'}"
+
+
+def are(number):
+    return "is" if number == 1 else "are"
+
+
+# ---- what is known of a store
+
+
+class Facts:
+    """What the proved programs tell of a store, and what a clean-up would leave."""
+
+    def __init__(self, name, store):
+        self.name, self.store = name, store
+        self.text, self.audit = audit.audited(name, store)
+        self.twins = self.audit["twins"]
+        self.answers, self.kinds = kinds_of(store, self.twins)
+        self.left, removed = removal(store)
+        if removed != [(twin["record"], twin["tile"], twin["stays"], twin["stays_tile"]) for twin in self.twins if twin["verdict"] == "copy"]:
+            raise house.Trouble("the audit's copies are not the records that the clean-up removes")
+        self.removed = removed
+        self.records, self.alike = len(store) // house.RECORD, self.kinds.count("a")
+        self.damaged, self.refused = self.kinds.count("d"), self.kinds.count("x")
+        self.before, self.after = (hashlib.sha256(data).hexdigest() for data in (store, self.left))
+        told = self.audit["counts"]
+        if (told.get("damaged", self.damaged), told.get("refused", self.refused)) != (self.damaged, self.refused):
+            raise house.Trouble("the audit and the listing count other damaged or refused records")
+
+    def tile(self, n):
+        return int.from_bytes(self.store[n * house.RECORD:n * house.RECORD + 4], "little")
+
+    @property
+    def stays(self):
+        return self.records - len(self.removed)
+
+    @property
+    def pictures(self):
+        """How many pictures are shown by more than one record: each is of a record that is no twin itself."""
+        twins = {twin["record"] for twin in self.twins}
+        return len({twin["stays"] for twin in self.twins} - twins)
 
 
 def kinds_of(store, twins):
@@ -36,15 +89,19 @@ def kinds_of(store, twins):
     verdicts = {twin["record"]: twin["verdict"][0] for twin in twins}
     rows = [line.split() for line in house.listed(store).decode().splitlines()[:-1]]
     answers = [int(row[2]) for row in rows]
-    return answers, "".join("x" if row[2] != "0" else "r" if row[3] == "0" else verdicts.get(n, "k") for n, row in enumerate(rows))
+    return answers, "".join("x" if row[2] != "0" else "d" if row[3] == "0" else verdicts.get(n, "s") for n, row in enumerate(rows))
 
 
-def kinds_told(kinds):
-    return ", ".join(count(kinds.count(letter), *words) for letter, words in KINDS.items())
+def removal(store):
+    """The cleaned store, and for each removed record its number and tile and those of the record that stays."""
+    left, told = clean.cleaned(store)
+    lines = told.splitlines() if isinstance(told, (bytes, str)) else told
+    words = [line.decode() if isinstance(line, bytes) else line for line in lines]
+    return left, [tuple(map(int, line.split())) for line in words if re.fullmatch("[0-9]+( [0-9]+){3}", line.strip())]
 
 
 def answered(program, records, before, size, asked):
-    """What a program over a run of blocks answers for each of the records, without what stands before."""
+    """What a program over a run of blocks answers for each of the records, without what is before it."""
     told, _ = house.program(program, b"".join(records[n] for n in asked))
     each = before + size
     if len(told) != each * len(asked):
@@ -56,112 +113,253 @@ def answered(program, records, before, size, asked):
 def shown(store, kinds):
     """The values and the fields of each record that holds a picture, zeros for another."""
     records = [store[at + 4:at + 5] + store[at + 8:at + house.RECORD] for at in range(0, len(store), house.RECORD)]
-    asked = [n for n, kind in enumerate(kinds) if kind in "kca"]
+    asked = [n for n, kind in enumerate(kinds) if kind in PICTURES]
     return answered("decode_blocks", records, BEFORE_VALUES, VALUES, asked), answered("extract_fields", records, BEFORE_FIELDS, FIELDS, asked)
 
 
-def exposures(values):
-    """In whole stops, the exposure that a page begins with and the three that it prints. It begins where the middle one of the lit pixels stands at a
-    quarter of white or just below; printed is that one, or a brighter one, the one at which no value is above white, and one between them."""
+def exposure(values):
+    """In whole stops, the one exposure for all: the middle one of the lit pixels is at a quarter of white, or just below."""
     numbers = [number for (number,) in struct.iter_unpack("<e", values)]
     lit = sorted(top for top in map(max, numbers[::3], numbers[1::3], numbers[2::3]) if top > 0) or [0.25]
-    first, darkest = (next((stops for stops in range(24, -16, -1) if top * 2.0 ** stops <= white), -16) for top, white in ((lit[len(lit) // 2], 0.25), (lit[-1], 1)))
-    brightest = max(first, darkest + 8)
-    return first, [brightest, (brightest + darkest) // 2, darkest]
+    return next((stops for stops in range(24, -16, -1) if lit[len(lit) // 2] * 2.0 ** stops <= 0.25), -16)
 
 
-def items(rows, none):
-    return "<ul>" + "".join(f"<li>{row}</li>" for row in rows) + "</ul>" if rows else f"<p>{none}</p>"
+# ---- words
 
 
-def link(n, tile):
-    return f'<a href="#record-{n}">record {n}</a>, tile {tile}'
+def damage_told(facts):
+    """How many records are damaged and how many refused; nothing where none is."""
+    total, said = count(facts.records, "record"), []
+    if facts.damaged:
+        said.append(f"{facts.damaged:,} of {total} {are(facts.damaged)} damaged")
+    if facts.refused:
+        said.append(f"{facts.refused:,} of {total} {are(facts.refused)} refused" if not facts.damaged else f"{facts.refused:,} {are(facts.refused)} refused")
+    return " and ".join(said)
 
 
-def fault_rows(store, answers, kinds):
-    for n, kind in enumerate(kinds):
-        head = link(n, int.from_bytes(store[n * house.RECORD:n * house.RECORD + 4], "little"))
-        if kind == "x":
-            yield f"{head}: refused, {answers[n]}: {html.escape(house.MEANINGS[answers[n]])}"
-        elif kind == "r":
-            yield f"{head}: reserved mode, a damaged block"
+def removal_told(facts):
+    removed = len(facts.removed)
+    return f"The clean-up removes {removed:,} of {count(facts.records, 'record')}." if removed else "The clean-up removes nothing."
 
 
-def infinity_rows(store):
-    for line in house.over_store("infinities", store, infinities.ENDS).decode().splitlines()[:-1]:
-        n, tile, many, pixel, channel = line.split()
-        where = f"pixel {pixel} (column {int(pixel) % 4}, row {int(pixel) // 4}), {channel}"
-        yield f"{link(n, tile)}: {count(int(many), 'value')}, the first at {where}"
+def alike_told(facts):
+    if facts.alike == 1:
+        return "1 record looks like an earlier one but has other bytes. It stays."
+    return f"{facts.alike:,} records look like an earlier one but have other bytes. They stay." if facts.alike else ""
 
 
-def would_do(facts):
-    """What a clean-up would do, in a sentence, and what it would leave that looks alike."""
-    removed, alike, records = facts["counts"]["copies"], facts["counts"]["alike"], facts["store"]["records"]
-    first = "A clean-up would remove nothing."
-    if removed:
-        has = "it has" if removed == 1 else "each has"
-        first = f"A clean-up would remove {removed:,} of {count(records, 'record')}: {has} the same format and the same sixteen bytes as a record that stays."
-    if not alike:
-        return first
-    return first + f" {count(alike, 'record')} more only {'looks' if alike == 1 else 'look'} like an earlier one, and {'stays' if alike == 1 else 'stay'}."
+def verdict(facts):
+    damage, rows = damage_told(facts), []
+    if damage:
+        them = "It has no picture and stays" if facts.damaged + facts.refused == 1 else "They have no picture and stay"
+        rows.append(f'<p class="damage">{damage}.</p><p class="less">{them} in the store. <a href="#faults">See which</a> before you sign.</p>')
+    rows.append(f"<p>{removal_told(facts)}</p>")
+    if facts.removed:
+        one = len(facts.removed) == 1
+        rows.append(f'<p class="less">{"It is a copy" if one else "Each of them is a copy"}: a record with the same format and the same sixteen bytes stays.</p>')
+    if facts.alike:
+        rows.append(f'<p class="less">{alike_told(facts)} <a href="#twins">Look at {"it" if facts.alike == 1 else "them"}.</a></p>')
+    return "".join(rows)
 
 
-def twins_told(counts):
-    if not counts["copies"] + counts["alike"]:
+def mood(facts):
+    return "worry" if facts.damaged + facts.refused else "removes" if facts.removed else "nothing"
+
+
+def counts(facts):
+    rows = [("records", facts.records, ""), ("damaged", facts.damaged, "bad"), ("refused", facts.refused, "bad"), ("removed", len(facts.removed), "goes"),
+            ("stays" if facts.stays == 1 else "stay", facts.stays, ""), ("of them look alike", facts.alike, "")]
+    return "".join(f'<li class="{name if number else ""}"><strong>{number:,}</strong>{word}</li>' for word, number, name in rows)
+
+
+def safe(facts):
+    if not facts.removed:
+        return "The cleaned store would be the same file. No clean-up is needed."
+    return ("Every picture of the store is still there afterwards, since a record is removed only if another with the same bytes stays. Removed tile numbers are "
+            "kept in the receipt. The clean-up can be undone: <code>knot restore</code> brings back this store, byte for byte.")
+
+
+def theorem(facts):
+    covered = facts.audit["counts"]["covered"]
+    if not facts.twins:
+        return "No two records of this store show the same picture."
+    return (f"The copies theorem covers {covered:,} of the {count(len(facts.twins), 'record')} that show the picture of an earlier one: there the same picture is proved to mean the same "
+            "bytes. The clean-up does not rely on it, since it compares the bytes themselves.")
+
+
+def signed(facts):
+    name, removed = html.escape(facts.name), len(facts.removed)
+    damage = damage_told(facts)
+    return (f"The clean-up of {name} removes {removed:,} of {count(facts.records, 'record')}. It takes the store with SHA-256 <span class=\"sum\">{facts.before}</span> and "
+            f"leaves a store of {count(facts.stays, 'record')} with SHA-256 <span class=\"sum\">{facts.after}</span>." + (f" {damage}; {'it stays' if facts.damaged + facts.refused == 1 else 'all of them stay'}." if damage else ""))
+
+
+def twins_told(facts):
+    if not facts.twins:
         return "No record shows the picture of an earlier one."
-    return (f"{count(counts['copies'], 'copy', 'copies')}, which a clean-up removes; {counts['alike']:,} only {'looks' if counts['alike'] == 1 else 'look'} "
-            f"alike. The copies theorem covers {counts['covered']:,}.")
+    removed = len(facts.removed)
+    copies = f"{count(removed, 'copy is', 'copies are')} removed." if removed else ""
+    return " ".join(text for text in (alike_told(facts), copies, "Each card shows one picture with all its records; those with records that look alike come first.") if text)
 
 
-def signed(facts, left):
-    store, removed = facts["store"], facts["counts"]["copies"]
-    return (f"For the clean-up that removes {removed:,} of the {count(store['records'], 'record')} of {html.escape(store['name'])}, SHA-256 "
-            f"<span class=\"sum\">{store['sha256']}</span>, and leaves a store of {count(len(left) // house.RECORD, 'record')}, SHA-256 "
-            f"<span class=\"sum\">{hashlib.sha256(left).hexdigest()}</span>.")
+# ---- what to do next
+
+
+def file_name(name, ending=""):
+    """A file's name as a word of a shell; a name that does not print is left to the reader."""
+    if not name.isprintable() or name == "standard input":
+        return "STORE" + ending
+    return shlex.quote(("./" if name.startswith("-") else "") + name + ending)
+
+
+def command(which, text):
+    return f'<div class="command"><pre><code id="{which}">{html.escape(text)}</code></pre><button type="button" data-copy="{which}">Copy</button></div>'
+
+
+def next_steps(facts):
+    if not facts.removed:
+        return "<p>Nothing: there is no copy to remove.</p>"
+    store, out, receipt, restored = (file_name(facts.name, ending) for ending in ("", ".cleaned", ".receipt", ".restored"))
+    steps = [
+        "Sign, in the lines above or on the first printed sheet.",
+        "Run the clean-up. It refuses any store but the one that was signed, and writes the receipt before the cleaned store."
+        + command("clean-command", f"knot clean {store} {out} --signed {facts.before} --receipt {receipt}"),
+        "Check the result: the sum must be the second one above." + command("check-command", f"echo '{facts.after}  '{out} | sha256sum -c"),
+        "Keep the receipt beside the cleaned store. It has the tile number of each removed record and the record that stays for it. With it the clean-up can be undone:"
+        + command("restore-command", f"knot restore {out} {receipt} {restored}"),
+    ]
+    return '<ol class="steps">' + "".join(f"<li>{step}</li>" for step in steps) + "</ol>"
+
+
+# ---- lists
+
+
+def table(heads, rows, name, shape="list"):
+    """A list as tables of one printed column each; the screen shows them as one."""
+    head = "<thead><tr>" + "".join(f'<th scope="col">{word}</th>' for word in heads) + "</tr></thead>"
+    lines = ["<tr>" + "".join(f"<td>{cell}</td>" for cell in row) + "</tr>" for row in rows]
+    columns = ["".join(lines[at:at + COLUMN]) for at in range(0, len(lines), COLUMN)]
+    return f'<div class="{shape}" tabindex="0" role="group" aria-label="{name}">' + "".join(f"<table>{head}<tbody>{column}</tbody></table>" for column in columns) + "</div>"
+
+
+def link(n):
+    return f'<a href="#record-{n}">{n}</a>'
+
+
+def faults(facts):
+    if not facts.damaged + facts.refused:
+        return ""
+    told = ["<p>A clean-up leaves damaged and refused records as they are. To mend them, look at where the store came from.</p><ul class=\"faults\">"]
+    if facts.damaged:
+        told.append("<li>damaged: the block has a reserved mode, which no encoder writes. It holds no picture.</li>")
+    told += [f"<li>refused, {answer}: {html.escape(house.MEANINGS[answer])}.</li>" for answer in sorted(set(facts.answers) - {0})]
+    rows = [(link(n), facts.tile(n), "damaged" if kind == "d" else f"refused, {facts.answers[n]}") for n, kind in enumerate(facts.kinds) if kind in "dx"]
+    return "".join(told) + "</ul>" + table(["record", "tile", "cause"], rows, "Damaged and refused records")
+
+
+def removed_list(facts):
+    if not facts.removed:
+        return "<p>No tile is removed.</p>"
+    rows = [(tile, stays_tile, link(n), link(stays)) for n, tile, stays, stays_tile in facts.removed]
+    return table(["tile removed", "tile that stays", "record removed", "record that stays"], rows, "Removed tiles", "list four")
+
+
+def infinities_list(facts):
+    rows = []
+    for line in house.over_store("infinities", facts.store, infinities.ENDS).decode().splitlines()[:-1]:
+        n, tile, many, pixel, channel = line.split()
+        rows.append((link(n), tile, many, f"{pixel}, {channel}"))
+    return table(["record", "tile", "values", "first pixel"], rows, "Minus infinity") if rows else "<p>No value is minus infinity.</p>"
+
+
+# ---- the page
 
 
 def encoded(data):
     return base64.b64encode(data).decode()
 
 
-def page_of(name, store):
-    text, facts = audit.audited(name, store)
-    left, report = clean.cleaned(store)
-    copies = [f"{twin['record']} {twin['tile']} {twin['stays']} {twin['stays_tile']}" for twin in facts["twins"] if twin["verdict"] == "copy"]
-    if report.decode().splitlines()[:-1] != copies:
-        raise house.Trouble("the audit's copies are not the records that the clean-up removes")
-    answers, kinds = kinds_of(store, facts["twins"])
-    values, fields = shown(store, kinds)
-    exposure, printed = exposures(values)
-    data = {
-        "store": encoded(store), "values": encoded(values), "fields": encoded(fields), "kinds": kinds, "answers": answers,
-        "meanings": {answer: house.MEANINGS[answer] for answer in sorted(set(answers) - {0})},
-        "pairs": [[twin["record"], twin["stays"], int(twin["verdict"] == "copy"), int(twin["covered"])] for twin in facts["twins"]],
-        "exposure": exposure, "printed": printed,
+def data_of(facts):
+    values, fields = shown(facts.store, facts.kinds)
+    return {
+        "store": encoded(facts.store), "values": encoded(values), "fields": encoded(fields), "kinds": facts.kinds, "answers": facts.answers,
+        "meanings": {answer: house.MEANINGS[answer] for answer in sorted(set(facts.answers) - {0})},
+        "twins": [[twin["record"], twin["stays"], int(twin["verdict"] == "copy"), int(twin["covered"])] for twin in facts.twins],
+        "exposure": exposure(values),
     }
+
+
+def page_of(name, store, date):
+    facts = Facts(name, store)
     told = {
-        "name": name, "verdict": would_do(facts), "sha256": facts["store"]["sha256"], "length": f"{len(store):,}",
-        "records": count(facts["store"]["records"], "record"), "kinds": kinds_told(kinds),
-        "after": f"{count(len(left) // house.RECORD, 'record')}, {len(left):,} bytes, SHA-256", "afterSum": hashlib.sha256(left).hexdigest(),
-        "version": facts["knot"], "commit": facts["commit"], "kit": facts["kit"],
-        "date": datetime.datetime.now(datetime.timezone.utc).strftime("%Y-%m-%d %H:%M UTC"), "exposure": exposure,
-        "startTold": f"{exposure} stops".replace("-", "\N{MINUS SIGN}"), "twins": f"{len(facts['twins']):,}", "told": twins_told(facts["counts"]),
-        "audit": audit.headed(text, facts),
+        "name": name, "mood": mood(facts), "before": facts.before, "after": facts.after, "length": f"{len(store):,}", "records": count(facts.records, "record"),
+        "leftTold": f"{count(facts.stays, 'record')}, {len(facts.left):,} bytes", "version": facts.audit["knot"], "commit": facts.audit["commit"], "kit": facts.audit["kit"],
+        "date": date, "theorem": theorem(facts), "twinsTold": f"Pictures that several records show: {facts.pictures:,}", "told": twins_told(facts),
+        "faultsTold": f"Damaged and refused records: {facts.damaged + facts.refused:,}", "alikeTold": f"Records that look alike: {facts.alike:,}",
+        "removedTold": f"Removed tiles: {len(facts.removed):,}", "audit": audit.headed(facts.text, facts.audit),
     }
+    has_faults = facts.damaged + facts.refused > 0
     made = {
-        "css": (PAGE / "page.css").read_text(), "js": (PAGE / "page.js").read_text(), "data": json.dumps(data, separators=(",", ":")),
-        "faults": items(list(fault_rows(store, answers, kinds)), "None is damaged, none is refused."),
-        "infinities": items(list(infinity_rows(store)), "No value is minus infinity."), "signed": signed(facts, left),
+        "css": "\n".join(path.read_text() for path in STYLES), "js": "\n".join(path.read_text() for path in SCRIPTS),
+        "data": json.dumps(data_of(facts), separators=(",", ":")), "verdict": verdict(facts), "counts": counts(facts), "safe": safe(facts), "signed": signed(facts),
+        "next": next_steps(facts), "faults": faults(facts), "faultsHidden": "" if has_faults else " hidden", "removed": removed_list(facts),
+        "faultsLink": '<li><a href="#faults">Damaged and refused</a></li>' if has_faults else "", "infinities": infinities_list(facts),
+        "sheetKinds": "".join(f'<option value="{letter}">{word}</option>' for letter, word in KINDS.items() if not letter or letter in facts.kinds),
     }
     template = string.Template((PAGE / "page.html").read_text())
     return template.substitute(made, **{key: html.escape(str(value)) for key, value in told.items()})
 
 
-def run(words):
-    if len(words) != 2 or any(word.startswith("--") for word in words):
+# ---- the command
+
+
+def date_of(word):
+    try:
+        if re.fullmatch("[0-9]{4}-[0-9]{2}-[0-9]{2}", word):
+            return datetime.date.fromisoformat(word).isoformat()
+    except ValueError:
+        pass
+    raise house.Usage(f"--date takes a day as YYYY-MM-DD, and not '{house.shown(word, 40)}'")
+
+
+def parsed(words):
+    """The date, whether OUT may be overwritten, STORE and OUT."""
+    date, force, names, rest = None, False, [], list(words)
+    while rest:
+        word = rest.pop(0)
+        if word == "--":
+            names += rest
+            break
+        elif word == "--force":
+            force = True
+        elif word == "--date" or word.startswith("--date="):
+            if word == "--date" and not rest:
+                raise house.Usage("--date takes a day")
+            date = date_of(word.removeprefix("--date=") if word != "--date" else rest.pop(0))
+        elif word.startswith("-") and word != "-":
+            raise house.Usage(f"there is no option '{house.shown(word, 40)}'")
+        else:
+            names.append(word)
+    if len(names) != 2:
         raise house.Usage("it takes a STORE and an OUT.html")
-    source, out = words
+    return date or datetime.datetime.now(datetime.timezone.utc).date().isoformat(), force, *names
+
+
+def is_device(path):
+    """Whether a name is a device or a pipe, on which nothing is overwritten."""
+    try:
+        kind = os.stat(path).st_mode
+    except (OSError, ValueError):
+        return False
+    return not stat.S_ISREG(kind) and not stat.S_ISDIR(kind)
+
+
+def run(words):
+    date, force, source, out = parsed(words)
     house.keep_apart(out, source)
+    over = force or is_device(out)
+    if not over and os.path.lexists(out):
+        raise house.Trouble(f"{house.shown(out)}: it is there already, and is left as it is (--force overwrites it)")
     store = house.read(source, house.STORE)
     name = os.path.basename(house.read_last)
-    house.write_whole(out, page_of(name, store).encode(errors="backslashreplace"))
+    house.write_whole(out, page_of(name, store, date).encode(errors="backslashreplace"), over=over)

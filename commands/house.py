@@ -264,14 +264,15 @@ def asked(words):
 
 
 def version():
-    """Version, commit and the kit's identity. Where knot is installed, those that it was built with stand beside the commands."""
+    """Version, commit, the kit's identity, and how far the libraries are proved. Where knot is installed, what it was built with stands beside the commands."""
     number_of = (ROOT / "VERSION").read_text().strip()
     if (ROOT / "BUILT").is_file():
         return f"knot {number_of}\n{(ROOT / 'BUILT').read_text()}"
     commit = asked(["git", "-C", ROOT, "rev-parse", "--short=12", "HEAD"]) or "not known"
     changed = asked(["git", "-C", ROOT, "status", "--porcelain", "--untracked-files=no"])
     kit = asked(["rt", "version"]) or "not known: there is no 'rt' on the path"
-    return f"knot {number_of}\ncommit {commit}{' and changes' if changed else ''}\nkit {kit}\n"
+    standing = asked([ROOT / "tools/standing", os.uname().machine])
+    return f"knot {number_of}\ncommit {commit}{' and changes' if changed else ''}\nkit {kit}\n{standing}\n"
 
 
 def dispatch(words):

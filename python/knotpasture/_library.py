@@ -9,6 +9,9 @@ import threading
 
 NAME = "libknotpasture.so.0"
 
+# A library without code that asks for NAME by its name, so that the machine's loader takes the one for its processor: beside NAME, where there is more than one.
+LOADER = "libknotload.so"
+
 _IN, _OUT, _SLOT = ctypes.c_void_p, ctypes.c_void_p, ctypes.c_void_p
 _U8, _U32, _U64, _SIZE, _BOOL = ctypes.c_uint8, ctypes.c_uint32, ctypes.c_uint64, ctypes.c_size_t, ctypes.c_bool
 
@@ -63,9 +66,10 @@ def places() -> list[str]:
     if named:
         return [named]
     package = pathlib.Path(__file__).resolve().parent
-    beside = [package / NAME]
+    folders = [package]
     if len(package.parents) > 1:
-        beside += [package.parents[1] / "lib" / NAME, package.parents[1] / "target" / "lib" / platform.machine() / NAME]
+        folders += [package.parents[1] / "lib", package.parents[1] / "target" / "lib" / platform.machine()]
+    beside = [folder / name for folder in folders if (folder / NAME).is_file() for name in (LOADER, NAME)]
     return [str(path) for path in beside if path.is_file()] + [NAME]
 
 

@@ -181,7 +181,7 @@ module _ (s : Bool) (format n : ℕ) (known-format : format ≤ 1) (some : 1 ≤
     pub one-painted : {out after : List ℕ} {r : ℕ} → PaintedAs (made (oneValue s (endIn ends) word) 48) out r after → PaintedAs (pictureAs s g) out r after
     one-painted w = painted-as w same
 
-    -- .. of which in unsigned format none is counted
+    -- in unsigned format none of them is counted
     pub one-written : {out after : List ℕ} → s ≡ false → after ≡ made (oneValue s (endIn ends) word) 48 ++ drop 48 out → PaintedAs (pictureAs s g) out 0 after
     one-written {out} e w =
         record {

@@ -6,7 +6,7 @@ use Prim.Native.Nat.{ℕ, zero, suc, _+_, _*_, _%_, _^_, _≤_, _<_}
 use native.Mathlib.Nat.{mod-eq-of-lt, le-refl}
 use native.Mathlib.Omega.{arith}
 use lib.Dec.{T, eqb, ltb, lit<, lit≤, ltb→lt, eqb·suc-zero}
-use lib.IntN.{ℤ, pos, natAbs, _+ℤ_}
+use lib.IntN.{ℤ, pos, natAbs}
 use lib.ListN.{getD}
 use Rattle.laws.specs.Pick.{pick, both}
 use Rattle.laws.specs.Every.{below}
@@ -15,7 +15,7 @@ use Rattle.laws.proofs.Tests.{both-left, both-right, upto-at}
 use Rattle.bc6h_spec.specs.declared.Fields.{Fields}
 use Rattle.bc6h_spec.specs.Layout.{row, precision, ownWidth, transformed}
 use Rattle.bc6h_spec.specs.Fields.{gathered, stored, fieldsAt, Valid}
-use Rattle.bc6h_spec.specs.Half.{signExtend, keep, unquantized}
+use Rattle.bc6h_spec.specs.Half.{signExtend, keep, transform, unquantized}
 use Rattle.bc6h_spec.specs.Picture.{firstEnd, delta, otherEnd}
 use Rattle.bc6h_spec.proofs.Reading.{at-endpoint, read-valid}
 use Rattle.bc6h_spec.proofs.Widths.{mode-facts, first-fits, other-fits}
@@ -223,10 +223,10 @@ module _ {n : ℕ} {stored : Channels} (read : ChannelsRead 14 n stored) where
   unfolding endWord keep
   first-word s c h = ap (keep 16) (number-is read c 0 h (lit< tt)) ∙ mod-eq-of-lt (first-16 c h) ∙ sym (whole-16 s (placesOf 14 n c 0) (first-16 c h))
 
-  second-word : (s : Bool) (c : ℕ) → c < 3 → keep 16 (endAt (numbersIn stored c) 0 +ℤ signExtend 4 (storedIn (numbersIn stored c) 1)) ≡ endWord s 14 n 1 c
+  second-word : (s : Bool) (c : ℕ) → c < 3 → keep 16 (transform false 16 (endAt (numbersIn stored c) 0) (signExtend 4 (storedIn (numbersIn stored c) 1))) ≡ endWord s 14 n 1 c
   unfolding endWord
   second-word s c h =
-      (λ i. keep 16 (number-is read c 0 h (lit< tt) i +ℤ signExtend 4 (place-is read c 1 h (lit< tt) i)))
+      (λ i. keep 16 (transform false 16 (number-is read c 0 h (lit< tt) i) (signExtend 4 (place-is read c 1 h (lit< tt) i))))
       ∙ moved-16-is s (placesOf 14 n c 0) (placesOf 14 n c 1)
       ∙ (λ i. wordOf s 16 (otherEnd s (sym mode-14 i) 16 (sym (own-four c h) i) (firstEnd s 16 (placesOf 14 n c 0)) (placesOf 14 n c 1)))
 

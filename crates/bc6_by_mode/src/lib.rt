@@ -1,4 +1,5 @@
-// A block's ends, from its two words: read, transformed and unquantised on i32, four of a channel in an array; of one region its first two.
+// A block's ends, from its two words: read, transformed and unquantised on i32, four of a channel in an array. A block of one region has the
+// first two.
 //
 // Each mode has a function of its own in each format, so that its numbers are literals.
 use bc6_endpoints::moved_16;
@@ -17,12 +18,12 @@ fn ends_1_unsigned(lo: u64, hi: u64) -> Ends
     ensures { λ r. ⌜ EndsOf 4 false 1 (number (record { lo = lo; hi = hi })) r ⌝ }
 {
     let c = bc6_runs::channels_1(lo, hi);
-    let w = c.red;
-    let x = c.green;
-    let y = c.blue;
-    let red = moved_unsigned(w, 5, 10);
-    let green = moved_unsigned(x, 5, 10);
-    let blue = moved_unsigned(y, 5, 10);
+    let r = c.red;
+    let g = c.green;
+    let b = c.blue;
+    let red = moved_unsigned(r, 5, 10);
+    let green = moved_unsigned(g, 5, 10);
+    let blue = moved_unsigned(b, 5, 10);
     Ends { red, green, blue }
 }
 
@@ -30,12 +31,12 @@ fn ends_2_unsigned(lo: u64, hi: u64) -> Ends
     ensures { λ r. ⌜ EndsOf 4 false 2 (number (record { lo = lo; hi = hi })) r ⌝ }
 {
     let c = bc6_runs::channels_2(lo, hi);
-    let w = c.red;
-    let x = c.green;
-    let y = c.blue;
-    let red = moved_unsigned(w, 6, 7);
-    let green = moved_unsigned(x, 6, 7);
-    let blue = moved_unsigned(y, 6, 7);
+    let r = c.red;
+    let g = c.green;
+    let b = c.blue;
+    let red = moved_unsigned(r, 6, 7);
+    let green = moved_unsigned(g, 6, 7);
+    let blue = moved_unsigned(b, 6, 7);
     Ends { red, green, blue }
 }
 
@@ -43,12 +44,12 @@ fn ends_3_unsigned(lo: u64, hi: u64) -> Ends
     ensures { λ r. ⌜ EndsOf 4 false 3 (number (record { lo = lo; hi = hi })) r ⌝ }
 {
     let c = bc6_runs::channels_3(lo, hi);
-    let w = c.red;
-    let x = c.green;
-    let y = c.blue;
-    let red = moved_unsigned(w, 5, 11);
-    let green = moved_unsigned(x, 4, 11);
-    let blue = moved_unsigned(y, 4, 11);
+    let r = c.red;
+    let g = c.green;
+    let b = c.blue;
+    let red = moved_unsigned(r, 5, 11);
+    let green = moved_unsigned(g, 4, 11);
+    let blue = moved_unsigned(b, 4, 11);
     Ends { red, green, blue }
 }
 
@@ -56,12 +57,12 @@ fn ends_4_unsigned(lo: u64, hi: u64) -> Ends
     ensures { λ r. ⌜ EndsOf 4 false 4 (number (record { lo = lo; hi = hi })) r ⌝ }
 {
     let c = bc6_runs::channels_4(lo, hi);
-    let w = c.red;
-    let x = c.green;
-    let y = c.blue;
-    let red = moved_unsigned(w, 4, 11);
-    let green = moved_unsigned(x, 5, 11);
-    let blue = moved_unsigned(y, 4, 11);
+    let r = c.red;
+    let g = c.green;
+    let b = c.blue;
+    let red = moved_unsigned(r, 4, 11);
+    let green = moved_unsigned(g, 5, 11);
+    let blue = moved_unsigned(b, 4, 11);
     Ends { red, green, blue }
 }
 
@@ -69,12 +70,12 @@ fn ends_5_unsigned(lo: u64, hi: u64) -> Ends
     ensures { λ r. ⌜ EndsOf 4 false 5 (number (record { lo = lo; hi = hi })) r ⌝ }
 {
     let c = bc6_runs::channels_5(lo, hi);
-    let w = c.red;
-    let x = c.green;
-    let y = c.blue;
-    let red = moved_unsigned(w, 4, 11);
-    let green = moved_unsigned(x, 4, 11);
-    let blue = moved_unsigned(y, 5, 11);
+    let r = c.red;
+    let g = c.green;
+    let b = c.blue;
+    let red = moved_unsigned(r, 4, 11);
+    let green = moved_unsigned(g, 4, 11);
+    let blue = moved_unsigned(b, 5, 11);
     Ends { red, green, blue }
 }
 
@@ -82,12 +83,12 @@ fn ends_6_unsigned(lo: u64, hi: u64) -> Ends
     ensures { λ r. ⌜ EndsOf 4 false 6 (number (record { lo = lo; hi = hi })) r ⌝ }
 {
     let c = bc6_runs::channels_6(lo, hi);
-    let w = c.red;
-    let x = c.green;
-    let y = c.blue;
-    let red = moved_unsigned(w, 5, 9);
-    let green = moved_unsigned(x, 5, 9);
-    let blue = moved_unsigned(y, 5, 9);
+    let r = c.red;
+    let g = c.green;
+    let b = c.blue;
+    let red = moved_unsigned(r, 5, 9);
+    let green = moved_unsigned(g, 5, 9);
+    let blue = moved_unsigned(b, 5, 9);
     Ends { red, green, blue }
 }
 
@@ -95,12 +96,12 @@ fn ends_7_unsigned(lo: u64, hi: u64) -> Ends
     ensures { λ r. ⌜ EndsOf 4 false 7 (number (record { lo = lo; hi = hi })) r ⌝ }
 {
     let c = bc6_runs::channels_7(lo, hi);
-    let w = c.red;
-    let x = c.green;
-    let y = c.blue;
-    let red = moved_unsigned(w, 6, 8);
-    let green = moved_unsigned(x, 5, 8);
-    let blue = moved_unsigned(y, 5, 8);
+    let r = c.red;
+    let g = c.green;
+    let b = c.blue;
+    let red = moved_unsigned(r, 6, 8);
+    let green = moved_unsigned(g, 5, 8);
+    let blue = moved_unsigned(b, 5, 8);
     Ends { red, green, blue }
 }
 
@@ -108,12 +109,12 @@ fn ends_8_unsigned(lo: u64, hi: u64) -> Ends
     ensures { λ r. ⌜ EndsOf 4 false 8 (number (record { lo = lo; hi = hi })) r ⌝ }
 {
     let c = bc6_runs::channels_8(lo, hi);
-    let w = c.red;
-    let x = c.green;
-    let y = c.blue;
-    let red = moved_unsigned(w, 5, 8);
-    let green = moved_unsigned(x, 6, 8);
-    let blue = moved_unsigned(y, 5, 8);
+    let r = c.red;
+    let g = c.green;
+    let b = c.blue;
+    let red = moved_unsigned(r, 5, 8);
+    let green = moved_unsigned(g, 6, 8);
+    let blue = moved_unsigned(b, 5, 8);
     Ends { red, green, blue }
 }
 
@@ -121,12 +122,12 @@ fn ends_9_unsigned(lo: u64, hi: u64) -> Ends
     ensures { λ r. ⌜ EndsOf 4 false 9 (number (record { lo = lo; hi = hi })) r ⌝ }
 {
     let c = bc6_runs::channels_9(lo, hi);
-    let w = c.red;
-    let x = c.green;
-    let y = c.blue;
-    let red = moved_unsigned(w, 5, 8);
-    let green = moved_unsigned(x, 5, 8);
-    let blue = moved_unsigned(y, 6, 8);
+    let r = c.red;
+    let g = c.green;
+    let b = c.blue;
+    let red = moved_unsigned(r, 5, 8);
+    let green = moved_unsigned(g, 5, 8);
+    let blue = moved_unsigned(b, 6, 8);
     Ends { red, green, blue }
 }
 
@@ -134,12 +135,12 @@ fn ends_10_unsigned(lo: u64, hi: u64) -> Ends
     ensures { λ r. ⌜ EndsOf 4 false 10 (number (record { lo = lo; hi = hi })) r ⌝ }
 {
     let c = bc6_runs::channels_10(lo, hi);
-    let w = c.red;
-    let x = c.green;
-    let y = c.blue;
-    let red = whole_unsigned(w, 6);
-    let green = whole_unsigned(x, 6);
-    let blue = whole_unsigned(y, 6);
+    let r = c.red;
+    let g = c.green;
+    let b = c.blue;
+    let red = whole_unsigned(r, 6);
+    let green = whole_unsigned(g, 6);
+    let blue = whole_unsigned(b, 6);
     Ends { red, green, blue }
 }
 
@@ -147,12 +148,12 @@ fn ends_11_unsigned(lo: u64, hi: u64) -> Ends
     ensures { λ r. ⌜ EndsOf 4 false 11 (number (record { lo = lo; hi = hi })) r ⌝ }
 {
     let c = bc6_pair::read_pair(lo, hi, 0);
-    let w = c.red;
-    let x = c.green;
-    let y = c.blue;
-    let red = whole_unsigned(w, 10);
-    let green = whole_unsigned(x, 10);
-    let blue = whole_unsigned(y, 10);
+    let r = c.red;
+    let g = c.green;
+    let b = c.blue;
+    let red = whole_unsigned(r, 10);
+    let green = whole_unsigned(g, 10);
+    let blue = whole_unsigned(b, 10);
     Ends { red, green, blue }
 }
 
@@ -160,12 +161,12 @@ fn ends_12_unsigned(lo: u64, hi: u64) -> Ends
     ensures { λ r. ⌜ EndsOf 4 false 12 (number (record { lo = lo; hi = hi })) r ⌝ }
 {
     let c = bc6_pair::read_pair(lo, hi, 1);
-    let w = c.red;
-    let x = c.green;
-    let y = c.blue;
-    let red = moved_unsigned(w, 9, 11);
-    let green = moved_unsigned(x, 9, 11);
-    let blue = moved_unsigned(y, 9, 11);
+    let r = c.red;
+    let g = c.green;
+    let b = c.blue;
+    let red = moved_unsigned(r, 9, 11);
+    let green = moved_unsigned(g, 9, 11);
+    let blue = moved_unsigned(b, 9, 11);
     Ends { red, green, blue }
 }
 
@@ -173,12 +174,12 @@ fn ends_13_unsigned(lo: u64, hi: u64) -> Ends
     ensures { λ r. ⌜ EndsOf 4 false 13 (number (record { lo = lo; hi = hi })) r ⌝ }
 {
     let c = bc6_pair::read_pair(lo, hi, 2);
-    let w = c.red;
-    let x = c.green;
-    let y = c.blue;
-    let red = moved_unsigned(w, 8, 12);
-    let green = moved_unsigned(x, 8, 12);
-    let blue = moved_unsigned(y, 8, 12);
+    let r = c.red;
+    let g = c.green;
+    let b = c.blue;
+    let red = moved_unsigned(r, 8, 12);
+    let green = moved_unsigned(g, 8, 12);
+    let blue = moved_unsigned(b, 8, 12);
     Ends { red, green, blue }
 }
 
@@ -186,12 +187,12 @@ fn ends_1_signed(lo: u64, hi: u64) -> Ends
     ensures { λ r. ⌜ EndsOf 4 true 1 (number (record { lo = lo; hi = hi })) r ⌝ }
 {
     let c = bc6_runs::channels_1(lo, hi);
-    let w = c.red;
-    let x = c.green;
-    let y = c.blue;
-    let red = moved_signed(w, 5, 10);
-    let green = moved_signed(x, 5, 10);
-    let blue = moved_signed(y, 5, 10);
+    let r = c.red;
+    let g = c.green;
+    let b = c.blue;
+    let red = moved_signed(r, 5, 10);
+    let green = moved_signed(g, 5, 10);
+    let blue = moved_signed(b, 5, 10);
     Ends { red, green, blue }
 }
 
@@ -199,12 +200,12 @@ fn ends_2_signed(lo: u64, hi: u64) -> Ends
     ensures { λ r. ⌜ EndsOf 4 true 2 (number (record { lo = lo; hi = hi })) r ⌝ }
 {
     let c = bc6_runs::channels_2(lo, hi);
-    let w = c.red;
-    let x = c.green;
-    let y = c.blue;
-    let red = moved_signed(w, 6, 7);
-    let green = moved_signed(x, 6, 7);
-    let blue = moved_signed(y, 6, 7);
+    let r = c.red;
+    let g = c.green;
+    let b = c.blue;
+    let red = moved_signed(r, 6, 7);
+    let green = moved_signed(g, 6, 7);
+    let blue = moved_signed(b, 6, 7);
     Ends { red, green, blue }
 }
 
@@ -212,12 +213,12 @@ fn ends_3_signed(lo: u64, hi: u64) -> Ends
     ensures { λ r. ⌜ EndsOf 4 true 3 (number (record { lo = lo; hi = hi })) r ⌝ }
 {
     let c = bc6_runs::channels_3(lo, hi);
-    let w = c.red;
-    let x = c.green;
-    let y = c.blue;
-    let red = moved_signed(w, 5, 11);
-    let green = moved_signed(x, 4, 11);
-    let blue = moved_signed(y, 4, 11);
+    let r = c.red;
+    let g = c.green;
+    let b = c.blue;
+    let red = moved_signed(r, 5, 11);
+    let green = moved_signed(g, 4, 11);
+    let blue = moved_signed(b, 4, 11);
     Ends { red, green, blue }
 }
 
@@ -225,12 +226,12 @@ fn ends_4_signed(lo: u64, hi: u64) -> Ends
     ensures { λ r. ⌜ EndsOf 4 true 4 (number (record { lo = lo; hi = hi })) r ⌝ }
 {
     let c = bc6_runs::channels_4(lo, hi);
-    let w = c.red;
-    let x = c.green;
-    let y = c.blue;
-    let red = moved_signed(w, 4, 11);
-    let green = moved_signed(x, 5, 11);
-    let blue = moved_signed(y, 4, 11);
+    let r = c.red;
+    let g = c.green;
+    let b = c.blue;
+    let red = moved_signed(r, 4, 11);
+    let green = moved_signed(g, 5, 11);
+    let blue = moved_signed(b, 4, 11);
     Ends { red, green, blue }
 }
 
@@ -238,12 +239,12 @@ fn ends_5_signed(lo: u64, hi: u64) -> Ends
     ensures { λ r. ⌜ EndsOf 4 true 5 (number (record { lo = lo; hi = hi })) r ⌝ }
 {
     let c = bc6_runs::channels_5(lo, hi);
-    let w = c.red;
-    let x = c.green;
-    let y = c.blue;
-    let red = moved_signed(w, 4, 11);
-    let green = moved_signed(x, 4, 11);
-    let blue = moved_signed(y, 5, 11);
+    let r = c.red;
+    let g = c.green;
+    let b = c.blue;
+    let red = moved_signed(r, 4, 11);
+    let green = moved_signed(g, 4, 11);
+    let blue = moved_signed(b, 5, 11);
     Ends { red, green, blue }
 }
 
@@ -251,12 +252,12 @@ fn ends_6_signed(lo: u64, hi: u64) -> Ends
     ensures { λ r. ⌜ EndsOf 4 true 6 (number (record { lo = lo; hi = hi })) r ⌝ }
 {
     let c = bc6_runs::channels_6(lo, hi);
-    let w = c.red;
-    let x = c.green;
-    let y = c.blue;
-    let red = moved_signed(w, 5, 9);
-    let green = moved_signed(x, 5, 9);
-    let blue = moved_signed(y, 5, 9);
+    let r = c.red;
+    let g = c.green;
+    let b = c.blue;
+    let red = moved_signed(r, 5, 9);
+    let green = moved_signed(g, 5, 9);
+    let blue = moved_signed(b, 5, 9);
     Ends { red, green, blue }
 }
 
@@ -264,12 +265,12 @@ fn ends_7_signed(lo: u64, hi: u64) -> Ends
     ensures { λ r. ⌜ EndsOf 4 true 7 (number (record { lo = lo; hi = hi })) r ⌝ }
 {
     let c = bc6_runs::channels_7(lo, hi);
-    let w = c.red;
-    let x = c.green;
-    let y = c.blue;
-    let red = moved_signed(w, 6, 8);
-    let green = moved_signed(x, 5, 8);
-    let blue = moved_signed(y, 5, 8);
+    let r = c.red;
+    let g = c.green;
+    let b = c.blue;
+    let red = moved_signed(r, 6, 8);
+    let green = moved_signed(g, 5, 8);
+    let blue = moved_signed(b, 5, 8);
     Ends { red, green, blue }
 }
 
@@ -277,12 +278,12 @@ fn ends_8_signed(lo: u64, hi: u64) -> Ends
     ensures { λ r. ⌜ EndsOf 4 true 8 (number (record { lo = lo; hi = hi })) r ⌝ }
 {
     let c = bc6_runs::channels_8(lo, hi);
-    let w = c.red;
-    let x = c.green;
-    let y = c.blue;
-    let red = moved_signed(w, 5, 8);
-    let green = moved_signed(x, 6, 8);
-    let blue = moved_signed(y, 5, 8);
+    let r = c.red;
+    let g = c.green;
+    let b = c.blue;
+    let red = moved_signed(r, 5, 8);
+    let green = moved_signed(g, 6, 8);
+    let blue = moved_signed(b, 5, 8);
     Ends { red, green, blue }
 }
 
@@ -290,12 +291,12 @@ fn ends_9_signed(lo: u64, hi: u64) -> Ends
     ensures { λ r. ⌜ EndsOf 4 true 9 (number (record { lo = lo; hi = hi })) r ⌝ }
 {
     let c = bc6_runs::channels_9(lo, hi);
-    let w = c.red;
-    let x = c.green;
-    let y = c.blue;
-    let red = moved_signed(w, 5, 8);
-    let green = moved_signed(x, 5, 8);
-    let blue = moved_signed(y, 6, 8);
+    let r = c.red;
+    let g = c.green;
+    let b = c.blue;
+    let red = moved_signed(r, 5, 8);
+    let green = moved_signed(g, 5, 8);
+    let blue = moved_signed(b, 6, 8);
     Ends { red, green, blue }
 }
 
@@ -303,12 +304,12 @@ fn ends_10_signed(lo: u64, hi: u64) -> Ends
     ensures { λ r. ⌜ EndsOf 4 true 10 (number (record { lo = lo; hi = hi })) r ⌝ }
 {
     let c = bc6_runs::channels_10(lo, hi);
-    let w = c.red;
-    let x = c.green;
-    let y = c.blue;
-    let red = whole_signed(w, 6);
-    let green = whole_signed(x, 6);
-    let blue = whole_signed(y, 6);
+    let r = c.red;
+    let g = c.green;
+    let b = c.blue;
+    let red = whole_signed(r, 6);
+    let green = whole_signed(g, 6);
+    let blue = whole_signed(b, 6);
     Ends { red, green, blue }
 }
 
@@ -316,12 +317,12 @@ fn ends_11_signed(lo: u64, hi: u64) -> Ends
     ensures { λ r. ⌜ EndsOf 4 true 11 (number (record { lo = lo; hi = hi })) r ⌝ }
 {
     let c = bc6_pair::read_pair(lo, hi, 0);
-    let w = c.red;
-    let x = c.green;
-    let y = c.blue;
-    let red = whole_signed(w, 10);
-    let green = whole_signed(x, 10);
-    let blue = whole_signed(y, 10);
+    let r = c.red;
+    let g = c.green;
+    let b = c.blue;
+    let red = whole_signed(r, 10);
+    let green = whole_signed(g, 10);
+    let blue = whole_signed(b, 10);
     Ends { red, green, blue }
 }
 
@@ -329,12 +330,12 @@ fn ends_12_signed(lo: u64, hi: u64) -> Ends
     ensures { λ r. ⌜ EndsOf 4 true 12 (number (record { lo = lo; hi = hi })) r ⌝ }
 {
     let c = bc6_pair::read_pair(lo, hi, 1);
-    let w = c.red;
-    let x = c.green;
-    let y = c.blue;
-    let red = moved_signed(w, 9, 11);
-    let green = moved_signed(x, 9, 11);
-    let blue = moved_signed(y, 9, 11);
+    let r = c.red;
+    let g = c.green;
+    let b = c.blue;
+    let red = moved_signed(r, 9, 11);
+    let green = moved_signed(g, 9, 11);
+    let blue = moved_signed(b, 9, 11);
     Ends { red, green, blue }
 }
 
@@ -342,30 +343,30 @@ fn ends_13_signed(lo: u64, hi: u64) -> Ends
     ensures { λ r. ⌜ EndsOf 4 true 13 (number (record { lo = lo; hi = hi })) r ⌝ }
 {
     let c = bc6_pair::read_pair(lo, hi, 2);
-    let w = c.red;
-    let x = c.green;
-    let y = c.blue;
-    let red = moved_signed(w, 8, 12);
-    let green = moved_signed(x, 8, 12);
-    let blue = moved_signed(y, 8, 12);
+    let r = c.red;
+    let g = c.green;
+    let b = c.blue;
+    let red = moved_signed(r, 8, 12);
+    let green = moved_signed(g, 8, 12);
+    let blue = moved_signed(b, 8, 12);
     Ends { red, green, blue }
 }
 
-// Of sixteen bits the two formats' numbers have the same bits.
+// In mode 14 the ends of both formats have the same sixteen bits.
 fn ends_14(lo: u64, hi: u64) -> Ends
     ensures { λ r. ⌜ EndsOf 2 false 14 (number (record { lo = lo; hi = hi })) r × EndsOf 2 true 14 (number (record { lo = lo; hi = hi })) r ⌝ }
 {
     let c = bc6_pair::read_pair(lo, hi, 6);
-    let w = c.red;
-    let x = c.green;
-    let y = c.blue;
-    let red = moved_16(w);
-    let green = moved_16(x);
-    let blue = moved_16(y);
+    let r = c.red;
+    let g = c.green;
+    let b = c.blue;
+    let red = moved_16(r);
+    let green = moved_16(g);
+    let blue = moved_16(b);
     Ends { red, green, blue }
 }
 
-// The endpoints of a block, by the five bits that name its mode: one match for all modes, in each format.
+// The ends of an unsigned block, by the five bits that name its mode.
 pub fn unsigned_ends(lo: u64, hi: u64) -> Ends
     requires { ⌜ 1 ≤ modeIn (number (record { lo = lo; hi = hi })) ⌝ }
     ensures { λ r. ⌜ BlockEnds false (number (record { lo = lo; hi = hi })) r ⌝ }
@@ -388,6 +389,7 @@ pub fn unsigned_ends(lo: u64, hi: u64) -> Ends
     }
 }
 
+// The ends of a signed block, in the same way.
 pub fn signed_ends(lo: u64, hi: u64) -> Ends
     requires { ⌜ 1 ≤ modeIn (number (record { lo = lo; hi = hi })) ⌝ }
     ensures { λ r. ⌜ BlockEnds true (number (record { lo = lo; hi = hi })) r ⌝ }

@@ -6,26 +6,10 @@ use native.Mathlib.Nat.{mul-div-cancel, mul-pos, suc-mul, mul-comm, mul-assoc, a
 use native.Mathlib.Decide.{ℕ-discrete}
 use native.Mathlib.Omega.{arith}
 use lib.Arith.{digits-div}
-use lib.Dec.{T, leb, ltb, lit≤}
-use lib.IntN.{ℤ, pos}
+use lib.Dec.{leb, lit≤}
 use lib.Pow.{pow-add, pow-pos, pow-mono}
-use mir.Syntax.{w32}
-use mir.Val.{toZ, ofZ}
 use borrow.Author.Tests.{lt-leb, eq-eqb, ne-eqb}
-use Rattle.laws.proofs.Num.{Num, shl-at}
 use Rattle.bc6h_spec.specs.Half.{unquantizeU}
-
--- ---- a shift to the left of a number that was worked out
-
-abbrev pub shl-of : (x : Num) (a : ℕ) → x .z ≡ pos a → (k n : ℕ) → a * k ≤ n → T (ltb n 2147483648) → Num
-shl-of x a e k n h t =
-    record {
-      n = n;
-      v = toZ w32 ((ofZ w32 (x .v) * k) % 4294967296);
-      z = pos (a * k);
-      is = ap (λ (w : ℤ). toZ w32 ((ofZ w32 w * k) % 4294967296)) (x .is ∙ e) ∙ shl-at (pos a) tt k n h t;
-      bound = record { upto = h };
-    }
 
 -- ---- steps
 

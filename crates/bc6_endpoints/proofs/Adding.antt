@@ -77,7 +77,7 @@ unfolding keep
 unmoved s p w first h =
     whole-by s p w (pos first) (pos 0) first (ap (λ (z : ℤ). keep p (pos first +ℤ z)) (nothing w) ∙ ap (keep p) (+ℤ-idr (pos first)) ∙ mod-eq-of-lt h)
 
--- .. and 0 plus a number
+-- 0 plus a number
 pub from-zero : (s : Bool) (p n : ℕ) → n < 2 ^ p → endOf s p p (pos 0) (pos n) ≡ wholeOf s p n
 from-zero s p n h = whole-by s p p (pos 0) (pos n) n (ap (keep p) (+ℤ-idl (signExtend p n)) ∙ kept-extended p n h)
 
@@ -88,10 +88,12 @@ unfolding wordOf unquantized unquantizeU firstEnd keep
 whole-16 true n h = kept-extended 16 n h
 whole-16 false n h = mod-eq-of-lt h
 
-pub moved-16-is : (s : Bool) (first n : ℕ) → keep 16 (pos first +ℤ signExtend 4 n) ≡ wordOf s 16 (otherEnd s true 16 4 (firstEnd s 16 first) n)
-unfolding otherEnd delta transform firstEnd
+-- the transform of the unsigned format has the bits of either
+pub moved-16-is : (s : Bool) (first n : ℕ) → keep 16 (transform false 16 (pos first) (signExtend 4 n)) ≡ wordOf s 16 (otherEnd s true 16 4 (firstEnd s 16 first) n)
+unfolding otherEnd delta transform firstEnd wordOf unquantized unquantizeU
 moved-16-is true first n =
     let k = keep 16 (pos first +ℤ signExtend 4 n) in
-    sym (whole-16 true k (keep-lt 16 (pos first +ℤ signExtend 4 n)))
+    let l = keep-lt 16 (pos first +ℤ signExtend 4 n) in
+    whole-16 false k l ∙ sym (whole-16 true k l)
     ∙ ap (λ (j : ℕ). wordOf true 16 (signExtend 16 j)) (from-whole 16 4 n (lit≤ tt) first ∙ sym (from-extended 16 4 n (lit≤ tt) first))
-moved-16-is false first n = sym (whole-16 false (keep 16 (pos first +ℤ signExtend 4 n)) (keep-lt 16 (pos first +ℤ signExtend 4 n)))
+moved-16-is false first n = refl

@@ -2,7 +2,7 @@
 use mathlib.Core.Path.{_≡_, _∙_, refl, sym, ap, subst}
 use mathlib.Core.Bool.{Bool, true, false}
 use mathlib.Core.List.{List, [], _∷_}
-use Prim.Native.Nat.{ℕ, zero, suc, _+_, _-_, _^_, _≤_, _<_}
+use Prim.Native.Nat.{ℕ, _^_, _≤_, _<_}
 use native.Mathlib.Omega.{arith}
 use lib.Dec.{lit<, lit≤}
 use lib.IntN.{ℤ, pos, natAbs, _+ℤ_}
@@ -13,6 +13,7 @@ use mir.Val.{SFits, toZ, ofZ}
 use mir.ValLaws.{toZ-ofZ}
 use Rattle.laws.specs.Ranges.{Below, Within, InBits}
 use Rattle.laws.proofs.Num.{abs-below, read}
+use Rattle.laws.proofs.Below.{below-four}
 use Rattle.bc6h_spec.specs.Half.{signExtend, transform, unquantized, unquantizeU}
 use Rattle.bc6h_spec.specs.Picture.{delta}
 use Rattle.bc6h_spec.proofs.Ranges.{delta-within, transformed-in}
@@ -93,14 +94,6 @@ narrow-told p z r e = e
 
 -- ---- a channel whose ends are differences
 
--- four of them
-each-of : (P : ℕ → Type 0) → P 0 → P 1 → P 2 → P 3 → (e : ℕ) → e < 4 → P e
-each-of P a b c d zero h = a
-each-of P a b c d (suc zero) h = b
-each-of P a b c d (suc (suc zero)) h = c
-each-of P a b c d (suc (suc (suc zero))) h = d
-each-of P a b c d (suc (suc (suc (suc e)))) h = absurd (omega arith)
-
 module _ {p w : ℕ} {n : List ℤ} (k : Channel p w n) where
   few-p : 2 ^ p ≤ 65536
   few-p = bits-16 p (omega (arith, k .narrow .most))
@@ -134,7 +127,7 @@ module _ {p w : ℕ} {n : List ℤ} (k : Channel p w n) where
     moved-done {a} {b} {c} {d} ea eb ec ed =
         record {
           each =
-              each-of (λ e. endAt (a ∷ b ∷ c ∷ d ∷ []) e ≡ endFrom s p w (storedIn n) e) (first-done a ea) (other-done 1 (lit≤ tt) (lit< tt) b eb)
+              below-four (λ e. endAt (a ∷ b ∷ c ∷ d ∷ []) e ≡ endFrom s p w (storedIn n) e) (first-done a ea) (other-done 1 (lit≤ tt) (lit< tt) b eb)
               (other-done 2 (lit≤ tt) (lit< tt) c ec) (other-done 3 (lit≤ tt) (lit< tt) d ed);
         }
 
@@ -156,6 +149,6 @@ module _ {p : ℕ} {n : List ℤ} (k : Whole p n) where
     whole-done {a} {b} {c} {d} ea eb ec ed =
         record {
           each =
-              each-of (λ e. endAt (a ∷ b ∷ c ∷ d ∷ []) e ≡ wholeOf s p (storedIn n e)) (one-done 0 (lit< tt) a ea) (one-done 1 (lit< tt) b eb)
+              below-four (λ e. endAt (a ∷ b ∷ c ∷ d ∷ []) e ≡ wholeOf s p (storedIn n e)) (one-done 0 (lit< tt) a ea) (one-done 1 (lit< tt) b eb)
               (one-done 2 (lit< tt) c ec) (one-done 3 (lit< tt) d ed);
         }

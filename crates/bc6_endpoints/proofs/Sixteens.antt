@@ -1,17 +1,17 @@
--- The sum of sixteen bits and a difference of four, on i32. Assumes nothing.
+-- The transform of sixteen bits by a difference of four. Assumes nothing.
 use mathlib.Core.Path.{_≡_, _∙_, sym, ap, subst}
-use mathlib.Core.Bool.{true}
+use mathlib.Core.Bool.{true, false}
 use mathlib.Core.List.{List, [], _∷_}
 use Prim.Native.Nat.{ℕ, _^_, _<_, _≤_}
+use native.Mathlib.Omega.{arith}
 use lib.Dec.{lit<, lit≤}
-use lib.IntN.{ℤ, pos, natAbs, _+ℤ_}
+use lib.IntN.{ℤ, pos, natAbs}
 use lib.Signed.{mag}
 use mir.Syntax.{w32}
-use mir.Val.{SFits, toZ, ofZ}
-use mir.ValLaws.{toZ-ofZ}
+use mir.Val.{toZ, ofZ}
 use Rattle.laws.specs.Ranges.{Below, Within}
-use Rattle.laws.proofs.Num.{upto-mag, upto-add, fits, read}
-use Rattle.bc6h_spec.specs.Half.{signExtend}
+use Rattle.laws.proofs.Num.{read}
+use Rattle.bc6h_spec.specs.Half.{signExtend, transform}
 use Rattle.bc6h_spec.specs.Picture.{delta}
 use Rattle.bc6h_spec.proofs.Ranges.{delta-within}
 use Rattle.bc6_endpoints.specs.Ends.{endAt, storedIn, Sixteen}
@@ -32,13 +32,12 @@ module _ (n : List ℤ) (whole : Below (2 ^ 16) (endAt n 0)) (few : Below (2 ^ 4
   unfolding delta
   within = delta-within true true 4 (storedIn n 1) (lit< tt) (lit≤ tt) (size few)
 
-  sum-is : toZ w32 (ofZ w32 (endAt n 0)) +ℤ toZ w32 (ofZ w32 d) ≡ endAt n 0 +ℤ signExtend 4 (storedIn n 1)
-  sum-is i = first-is i +ℤ difference i
+  pub transform-asks : (0 < 16) × (16 ≤ 16) × (Within 65536 (toZ w32 (ofZ w32 (endAt n 0))) × Within 65536 (toZ w32 (ofZ w32 d)))
+  transform-asks = (
+    lit< tt,
+    lit≤ tt,
+    (subst (Within 65536) (sym first-is) (record { inside = omega (arith, whole .below) }), subst (Within 65536) (sym difference) within),
+  )
 
-  pub sum-asks : SFits w32 (toZ w32 (ofZ w32 (endAt n 0)) +ℤ toZ w32 (ofZ w32 d))
-  sum-asks =
-      subst (SFits w32) (sym sum-is)
-      (fits (upto-add {m = 65536} {n = 65536} (upto-mag {n = 65536} {z = endAt n 0} (whole .below)) (upto-mag {n = 65536} {z = signExtend 4 (storedIn n 1)} (within .inside))) tt)
-
-  pub sum-done : {x y : ℤ} → Sixteen n (toZ w32 (ofZ w32 (endAt n 0)) ∷ toZ w32 (ofZ w32 (toZ w32 (ofZ w32 (endAt n 0)) +ℤ toZ w32 (ofZ w32 d))) ∷ x ∷ y ∷ [])
-  sum-done = record { first = first-is; second = toZ-ofZ w32 _ sum-asks ∙ sum-is }
+  pub sum-done : {t x y : ℤ} → t ≡ transform false 16 (toZ w32 (ofZ w32 (endAt n 0))) (toZ w32 (ofZ w32 d)) → Sixteen n (toZ w32 (ofZ w32 (endAt n 0)) ∷ t ∷ x ∷ y ∷ [])
+  sum-done e = record { first = first-is; second = e ∙ (λ i. transform false 16 (first-is i) (difference i)) }

@@ -1,10 +1,10 @@
 -- The endpoints of a block, from what is stored. Assumes nothing.
 use mathlib.Core.Path.{_≡_}
-use mathlib.Core.Bool.{Bool, true}
+use mathlib.Core.Bool.{Bool, true, false}
 use mathlib.Core.List.{List}
 use Prim.Native.Nat.{ℕ, _^_, _≤_, _<_}
 use lib.Dec.{eqb}
-use lib.IntN.{ℤ, pos, natAbs, _+ℤ_}
+use lib.IntN.{ℤ, pos, natAbs}
 use lib.ListN.{getD}
 use Rattle.laws.specs.Pick.{pick}
 use Rattle.laws.specs.Ranges.{Below}
@@ -15,15 +15,15 @@ use Rattle.bc6h_spec.specs.Picture.{firstEnd, otherEnd}
 unfoldable pub wordOf : Bool → ℕ → ℤ → ℕ
 wordOf signed p z = keep 16 (unquantized signed p z)
 
--- of p bits that are stored whole, unquantised
+-- an endpoint of p bits that is stored whole, unquantised
 unfoldable pub wholeOf : Bool → ℕ → ℕ → ℤ
 wholeOf signed p n = unquantized signed p (firstEnd signed p n)
 
--- .. of a difference of w bits from a first one of p
+-- an endpoint that is stored as a difference of w bits from a first one of p, unquantised
 unfoldable pub movedOf : Bool → ℕ → ℕ → ℕ → ℕ → ℤ
 movedOf signed p w first n = unquantized signed p (otherEnd signed true p w (firstEnd signed p first) n)
 
--- .. as both are worked out: the difference is added to p bits that are stored
+-- how both are worked out: the difference is added to p bits as they are stored
 unfoldable pub endOf : Bool → ℕ → ℕ → ℤ → ℤ → ℤ
 endOf signed p w base x = unquantized signed p (transform signed p base (signExtend w (natAbs x)))
 
@@ -69,7 +69,7 @@ pub record Whole (p : ℕ) (n : List ℤ) : Type 0 where
 pub record WholeEnds (signed : Bool) (p : ℕ) (n r : List ℤ) : Type 0 where
   pub each : (e : ℕ) → e < 4 → endAt r e ≡ wholeOf signed p (storedIn n e)
 
--- sixteen bits and a difference of four, whose sum has them in its lowest sixteen
+-- sixteen bits, and their sum with a difference of four, of which sixteen bits are kept
 pub record Sixteen (n r : List ℤ) : Type 0 where
   pub first : endAt r 0 ≡ endAt n 0
-  pub second : endAt r 1 ≡ endAt n 0 +ℤ signExtend 4 (storedIn n 1)
+  pub second : endAt r 1 ≡ transform false 16 (endAt n 0) (signExtend 4 (storedIn n 1))

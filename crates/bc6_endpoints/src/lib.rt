@@ -1,4 +1,5 @@
-// A block's endpoints, from the numbers stored to the ends of its pixels' colours, unquantised on i32: a channel's four, of one region its two.
+// A channel's ends, from the numbers that a block stores: sign extension, transform and unquantising on i32. The arithmetic is bc6_half's and
+// bc6_colour's, which serves the field record too.
 //
 // The bits of a mode come as literals, and each format has functions of its own: the compiler then works out four ends at once.
 use bc6_colour::transform_one;
@@ -11,7 +12,7 @@ ghost use Prim.Native.Nat.{_^_};
 ghost use Rattle.laws.specs.Ranges.{Below};
 ghost use Rattle.bc6_endpoints.specs.Ends.{endAt, endOf, Apart, Channel, ChannelEnds, Whole, WholeEnds, Sixteen};
 
-// The end that is stored as a difference of `width` bits from `base`, p bits as they are stored.
+// The end, in unsigned format, that is stored as a difference of `width` bits from `base`, which has p bits.
 fn end_unsigned(base: i32, x: i32, width: u8, p: u8) -> i32
     requires { ⌜ Apart p width base x ⌝ }
     ensures { λ r. ⌜ r ≡ endOf false p width base x ⌝ }
@@ -19,6 +20,7 @@ fn end_unsigned(base: i32, x: i32, width: u8, p: u8) -> i32
     unquantize_narrow(transform_one(base, sign_extend(x, width), p, false), p)
 }
 
+// The same in signed format. The difference is added to the bits of the base as they are stored, and the sign is extended after it.
 fn end_signed(base: i32, x: i32, width: u8, p: u8) -> i32
     requires { ⌜ Apart p width base x ⌝ }
     ensures { λ r. ⌜ r ≡ endOf true p width base x ⌝ }
@@ -26,7 +28,7 @@ fn end_signed(base: i32, x: i32, width: u8, p: u8) -> i32
     unquantize_signed(transform_one(base, sign_extend(x, width), p, true), p)
 }
 
-// A channel whose ends are differences from the first, which is no difference ..
+// A channel whose first end is stored whole and whose others are differences from it, in unsigned format. The first is its own difference of 0.
 pub fn moved_unsigned(n: [i32; 4], width: u8, p: u8) -> [i32; 4]
     requires { ⌜ Channel p width n ⌝ }
     ensures { λ r. ⌜ ChannelEnds false p width n r ⌝ }
@@ -39,6 +41,7 @@ pub fn moved_unsigned(n: [i32; 4], width: u8, p: u8) -> [i32; 4]
     ]
 }
 
+// The same in signed format.
 pub fn moved_signed(n: [i32; 4], width: u8, p: u8) -> [i32; 4]
     requires { ⌜ Channel p width n ⌝ }
     ensures { λ r. ⌜ ChannelEnds true p width n r ⌝ }
@@ -51,7 +54,7 @@ pub fn moved_signed(n: [i32; 4], width: u8, p: u8) -> [i32; 4]
     ]
 }
 
-// .. or are all stored whole: differences from 0.
+// A channel whose ends are all stored whole, which is a difference from 0, in unsigned format.
 pub fn whole_unsigned(n: [i32; 4], p: u8) -> [i32; 4]
     requires { ⌜ Whole p n ⌝ }
     ensures { λ r. ⌜ WholeEnds false p n r ⌝ }
@@ -64,6 +67,7 @@ pub fn whole_unsigned(n: [i32; 4], p: u8) -> [i32; 4]
     ]
 }
 
+// The same in signed format.
 pub fn whole_signed(n: [i32; 4], p: u8) -> [i32; 4]
     requires { ⌜ Whole p n ⌝ }
     ensures { λ r. ⌜ WholeEnds true p n r ⌝ }
@@ -76,10 +80,15 @@ pub fn whole_signed(n: [i32; 4], p: u8) -> [i32; 4]
     ]
 }
 
-// Of sixteen bits nothing is left to unquantise.
+// The two ends of sixteen bits, the second as a difference of four, in either format: there is nothing to unquantise.
 pub fn moved_16(n: [i32; 4]) -> [i32; 4]
     requires { ⌜ Below (2 ^ 16) (endAt n 0) × Below (2 ^ 4) (endAt n 1) ⌝ }
     ensures { λ r. ⌜ Sixteen n r ⌝ }
 {
-    [n[0], n[0] + sign_extend(n[1], 4), 0, 0]
+    [
+        n[0],
+        transform_one(n[0], sign_extend(n[1], 4), 16, false),
+        0,
+        0,
+    ]
 }

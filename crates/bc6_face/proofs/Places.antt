@@ -1,7 +1,7 @@
 -- Where the pixels of a face stand: no two in one place, and what is stored block by block is the face. Assumes nothing.
 use mathlib.Core.Path.{_≡_, _∙_, refl, sym, ap, ap₂}
 use mathlib.Core.Bool.{Bool, true, false}
-use mathlib.Core.List.{List, [], _∷_}
+use mathlib.Core.List.{List, [], _∷_, _++_, append-nil}
 use Prim.Native.Nat.{ℕ, zero, suc, _+_, _-_, _*_, _/_, _%_, _≤_, _<_}
 use native.Mathlib.Nat.{add-zero, mul-add, mul-comm, mul-assoc, mul-left-comm, mul-le-mul-left, mul-pos, mul-add-div, mul-add-mod-self-left, div-eq-of-lt, mod-eq-of-lt, mod-lt, mod-le, div-le-self, div-add-mod, div-lt-iff-lt-mul}
 use native.Mathlib.Numerals.{add-one}
@@ -13,12 +13,13 @@ use borrow.Author.Tests.{ltb-true, lt-ltb}
 use Rattle.laws.proofs.Tests.{cases, both-true}
 use Rattle.laws.proofs.Sameness.{true-false, not-so}
 use Rattle.laws.proofs.Rows.{made-each, getD-made, length-made}
-use Rattle.laws.specs.Made.{countOf}
+use Rattle.laws.proofs.Joined.{run-length, run-value}
+use Rattle.laws.specs.Made.{made, countOf, join}
 use Rattle.bc6h_spec.specs.Half.{minusInfinity}
 use Rattle.bc6_blocks.specs.Run.{shownAt, runOf}
 use Rattle.bc6_face.specs.Face.{lanes, opaque, laneOf, laneAt, rowSize, FaceShown, inFace, valueAt, faceIn}
-use Rattle.bc6_face.specs.Stores.{scattered, pixelOf, pixelPlace, blockPut, corner, placeAt, cellAt, facePut, FaceWritten, Fitting}
-use Rattle.bc6_face.proofs.Scatter.{scattered-length, scattered-on, scattered-miss, scattered-hit}
+use Rattle.bc6_face.specs.Stores.{scattered, pixelOf, pixelIn, rowOf, plainValue, pixelPlace, blockPut, corner, placeAt, cellAt, facePut, FaceWritten, Fitting}
+use Rattle.bc6_face.proofs.Scatter.{sets-made, sets-run, scattered-length, scattered-on, scattered-run, scattered-miss, scattered-hit}
 
 -- ---- rows of one length: which row, and where in it
 
@@ -41,6 +42,9 @@ lanes-high false = omega arith
 pub lanes-four : (alpha : Bool) → alpha ≡ true → lanes alpha ≡ 4
 lanes-four alpha e = rw e
 
+pub lanes-three : (alpha : Bool) → alpha ≡ false → lanes alpha ≡ 3
+lanes-three alpha e = rw e
+
 pub length-pixel : (alpha : Bool) (values : List ℕ) (k : ℕ) → length (pixelOf alpha values k) ≡ lanes alpha
 unfolding pixelOf
 length-pixel true values k = refl
@@ -55,24 +59,65 @@ pixel-lane true values k (suc (suc (suc zero))) h = refl
 pixel-lane false values k (suc (suc (suc zero))) h = absurd (omega arith)
 pixel-lane alpha values k (suc (suc (suc (suc c)))) h = absurd (let l = lanes-high alpha in omega arith)
 
--- the stores of a pixel
-pub pixel-plain : (alpha : Bool) (values l : List ℕ) (k at : ℕ) → alpha ≡ false
-    → set (set (set l at (getD values (3 * k) 0)) (at + 1) (getD values (3 * k + 1) 0)) (at + 2) (getD values (3 * k + 2) 0) ≡ sets l at (pixelOf alpha values k)
-unfolding pixelOf
-pixel-plain alpha values l k at e =
-    let one : at + 1 ≡ suc at = omega arith in
-    let two : at + 2 ≡ suc (suc at) = omega arith in
-    rw (e, one, two) refl
-
-pub pixel-opaque : (alpha : Bool) (values l : List ℕ) (k at : ℕ) → alpha ≡ true
+-- the stores of a pixel with alpha
+pub pixel-opaque : (values l : List ℕ) (k at : ℕ)
     → set (set (set (set l at (getD values (3 * k) 0)) (at + 1) (getD values (3 * k + 1) 0)) (at + 2) (getD values (3 * k + 2) 0)) (at + 3) opaque
-    ≡ sets l at (pixelOf alpha values k)
+    ≡ sets l at (pixelOf true values k)
 unfolding pixelOf
-pixel-opaque alpha values l k at e =
+pixel-opaque values l k at =
     let one : at + 1 ≡ suc at = omega arith in
     let two : at + 2 ≡ suc (suc at) = omega arith in
     let three : at + 3 ≡ suc (suc (suc at)) = omega arith in
-    rw (e, one, two, three) refl
+    rw (one, two, three) refl
+
+-- ---- the values of a row of a block
+
+pub length-in : (alpha : Bool) (values : List ℕ) (row j : ℕ) → length (pixelIn alpha values row j) ≡ lanes alpha
+unfolding pixelIn
+length-in alpha values row j = length-pixel alpha values (4 * row + j)
+
+-- without alpha they stand one behind the other in the block
+pub plain-row : (values : List ℕ) (row : ℕ) → made (plainValue values row) 12 ≡ rowOf false values row
+unfolding plainValue pixelIn laneOf
+plain-row values row = sym (made-each (plainValue values row) (rowOf false values row) 12 (run-length (pixelIn false values row) 3 (length-in false values row) 4) value)
+  where
+    value : (x : ℕ) → x < 12 → getD (rowOf false values row) x 0 ≡ plainValue values row x
+    value x h =
+        let here : 3 * (x / 3) + x % 3 ≡ x = omega arith in
+        let there : 3 * (4 * row + x / 3) + x % 3 ≡ 12 * row + x = omega arith in
+        let low : x % 3 < 3 = omega arith in
+        ap (λ (l : List ℕ). getD l x 0) (sym (append-nil (rowOf false values row)))
+        ∙ ap (λ (k : ℕ). getD (rowOf false values row ++ []) k 0) (sym here)
+        ∙ run-value (pixelIn false values row) 3 (length-in false values row) 4 (x / 3) (x % 3) [] (omega arith) low
+        ∙ pixel-lane false values (4 * row + x / 3) (x % 3) low
+        ∙ rw (lt-ltb (x % 3) 3 low, there)
+
+-- ---- the loops over a row
+
+module _ (values : List ℕ) (row : ℕ) (out : List ℕ) (at : ℕ) where
+  pub plain-start : out ≡ sets out at (made (plainValue values row) 0)
+  unfolding made
+  plain-start = refl
+
+  pub plain-step : {lent : List ℕ} (x : ℕ) → lent ≡ sets out at (made (plainValue values row) x)
+      → set lent (at + x) (getD values (12 * row + x) 0) ≡ sets out at (made (plainValue values row) (x + 1))
+  unfolding plainValue
+  plain-step x e = ap (λ (l : List ℕ). set l (at + x) (plainValue values row x)) e ∙ sets-made (plainValue values row) out at x
+
+  pub plain-end : {after : List ℕ} (x : ℕ) → after ≡ sets out at (made (plainValue values row) x) → x ≤ 12 → 12 ≤ x → after ≡ sets out at (rowOf false values row)
+  plain-end x e h l = let same : x ≡ 12 = omega arith in rw same at e ∙ ap (sets out at) (plain-row values row)
+
+  pub opaque-start : out ≡ sets out at (join (made (pixelIn true values row) 0))
+  unfolding made
+  opaque-start = refl
+
+  pub opaque-step : {lent after : List ℕ} (x : ℕ) → lent ≡ sets out at (join (made (pixelIn true values row) x))
+      → after ≡ sets lent (at + 4 * x) (pixelOf true values (4 * row + x)) → after ≡ sets out at (join (made (pixelIn true values row) (x + 1)))
+  unfolding pixelIn
+  opaque-step x e s = s ∙ ap (λ (l : List ℕ). sets l (at + 4 * x) (pixelIn true values row x)) e ∙ sets-run (pixelIn true values row) 4 (length-in true values row) out at x
+
+  pub opaque-end : {after : List ℕ} (x : ℕ) → after ≡ sets out at (join (made (pixelIn true values row) x)) → x ≤ 4 → 4 ≤ x → after ≡ sets out at (rowOf true values row)
+  opaque-end x e h l = let same : x ≡ 4 = omega arith in rw same at e
 
 length-cell : (signed alpha : Bool) (blocks : List ℕ) (q : ℕ) → length (cellAt signed alpha blocks q) ≡ lanes alpha
 unfolding cellAt
@@ -289,32 +334,33 @@ module _ (signed alpha : Bool) (blocks : List ℕ) (width height pitch : ℕ) (o
         off (i % pitch / lanes alpha) (i / pitch) (i % pitch % lanes alpha) (p .across) (p .down) (p .lane) (p .whole)));
   }
 
--- ---- the loop over a block's pixels
+-- ---- the loop over a block's rows
 
-pub record Roomed (pitch step k : ℕ) : Type 0 where
-  pub rows : pitch * (k / 4) ≤ pitch * 3
-  pub across : step * (k % 4) + step ≤ step * 4
-
-pub roomed : (pitch step k : ℕ) → k < 16 → Roomed pitch step k
-roomed pitch step k h =
-    let m : step * (k % 4 + 1) ≤ step * 4 = mul-le-mul-left step (omega arith) in
-    let e : step * (k % 4 + 1) ≡ step * (k % 4) + step * 1 = mul-add step (k % 4) 1 in
-    record { rows = mul-le-mul-left pitch (omega arith); across = omega arith }
+pub row-room : (pitch row : ℕ) → row < 4 → pitch * row ≤ pitch * 3
+row-room pitch row h = mul-le-mul-left pitch (omega arith)
 
 module _ (alpha : Bool) (pitch : ℕ) (values : List ℕ) (at : ℕ) (out : List ℕ) where
-  pub block-start : out ≡ scattered (pixelPlace alpha pitch at) (pixelOf alpha values) 0 out
+  pub block-start : out ≡ scattered (pixelPlace alpha pitch at) (pixelOf alpha values) (4 * 0) out
   unfolding scattered
   block-start = refl
 
-  pub block-step : {lent after : List ℕ} {step : ℕ} (k : ℕ) → step ≡ lanes alpha → lent ≡ scattered (pixelPlace alpha pitch at) (pixelOf alpha values) k out
-      → after ≡ sets lent (at + (pitch * (k / 4) + step * (k % 4))) (pixelOf alpha values k)
-      → after ≡ scattered (pixelPlace alpha pitch at) (pixelOf alpha values) (k + 1) out
-  unfolding scattered pixelPlace
-  block-step k l e s = s ∙ rw (l, e, add-one k)
+  pub block-step : {lent after : List ℕ} (row : ℕ) → lent ≡ scattered (pixelPlace alpha pitch at) (pixelOf alpha values) (4 * row) out
+      → after ≡ sets lent (at + pitch * row) (rowOf alpha values row)
+      → after ≡ scattered (pixelPlace alpha pitch at) (pixelOf alpha values) (4 * (row + 1)) out
+  unfolding pixelPlace pixelIn
+  block-step row e s =
+      let more : 4 * row + 4 ≡ 4 * (row + 1) = omega arith in
+      s ∙ ap (λ (l : List ℕ). sets l (at + pitch * row) (rowOf alpha values row)) e
+      ∙ scattered-run (pixelPlace alpha pitch at) (pixelOf alpha values) (pixelIn alpha values row) (lanes alpha) (at + pitch * row) (4 * row) (length-in alpha values row) out 4
+      place-in (λ j h. refl)
+      ∙ ap (λ (k : ℕ). scattered (pixelPlace alpha pitch at) (pixelOf alpha values) k out) more
+    where
+      place-in : (j : ℕ) → j < 4 → at + pitch * row + lanes alpha * j ≡ pixelPlace alpha pitch at (4 * row + j)
+      place-in j h = rw (row-div 4 row j h, row-mod 4 row j h) (omega arith)
 
-  pub block-end : {after : List ℕ} (k : ℕ) → after ≡ scattered (pixelPlace alpha pitch at) (pixelOf alpha values) k out → k ≤ 16 → 16 ≤ k
+  pub block-end : {after : List ℕ} (row : ℕ) → after ≡ scattered (pixelPlace alpha pitch at) (pixelOf alpha values) (4 * row) out → row ≤ 4 → 4 ≤ row
       → after ≡ blockPut alpha pitch values at out
-  block-end k e h l = let same : k ≡ 16 = omega arith in rw same at e
+  block-end row e h l = let same : row ≡ 4 = omega arith in rw same at e
 
 -- ---- the loop over the blocks
 

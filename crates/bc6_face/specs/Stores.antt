@@ -1,4 +1,4 @@
--- The same values in the order in which they are stored: block by block, pixel by pixel. Assumes nothing.
+-- The same values in the order in which they are stored: block by block, row by row, pixel by pixel. Assumes nothing.
 use mathlib.Core.Path.{_≡_}
 use mathlib.Core.Bool.{Bool}
 use mathlib.Core.List.{List, [], _∷_}
@@ -6,7 +6,7 @@ use Prim.Native.Nat.{ℕ, zero, suc, _+_, _-_, _*_, _/_, _%_, _≤_, _<_}
 use lib.ListN.{length, getD}
 use lib.Seq.{sets}
 use Rattle.laws.specs.Pick.{pick}
-use Rattle.laws.specs.Made.{countOf}
+use Rattle.laws.specs.Made.{made, countOf, join}
 use Rattle.bc6h_spec.specs.Bits.{blockSize}
 use Rattle.bc6h_spec.specs.Half.{minusInfinity}
 use Rattle.bc6_blocks.specs.Run.{shownAt, runOf}
@@ -21,7 +21,18 @@ scattered place cell (suc n) out = sets (scattered place cell n out) (place n) (
 unfoldable pub pixelOf : Bool → List ℕ → ℕ → List ℕ
 pixelOf alpha values k = getD values (3 * k) 0 ∷ getD values (3 * k + 1) 0 ∷ getD values (3 * k + 2) 0 ∷ pick alpha (opaque ∷ []) []
 
--- where it goes, of the block whose first value stands at `at`; and the sixteen
+-- pixel j of a row of a block, and the four of the row
+unfoldable pub pixelIn : Bool → List ℕ → ℕ → ℕ → List ℕ
+pixelIn alpha values row j = pixelOf alpha values (4 * row + j)
+
+abbrev pub rowOf : Bool → List ℕ → ℕ → List ℕ
+rowOf alpha values row = join (made (pixelIn alpha values row) 4)
+
+-- value x of a row without alpha
+unfoldable pub plainValue : List ℕ → ℕ → ℕ → ℕ
+plainValue values row x = getD values (12 * row + x) 0
+
+-- where pixel k goes, of the block whose first value stands at `at`; and the sixteen
 unfoldable pub pixelPlace : Bool → ℕ → ℕ → ℕ → ℕ
 pixelPlace alpha pitch at k = at + (pitch * (k / 4) + lanes alpha * (k % 4))
 

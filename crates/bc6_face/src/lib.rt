@@ -12,7 +12,7 @@ ghost use Rattle.bc6h_spec.specs.Bits.{blockSize};
 ghost use Rattle.bc6h_spec.specs.Picture.{isSigned};
 ghost use Rattle.bc6_blocks.specs.Run.{blocksIn};
 ghost use Rattle.bc6_face.specs.Face.{lanes, faceRefusal, FacePainted};
-ghost use Rattle.bc6_face.specs.Stores.{pixelOf, blockPut, FaceWritten, Fitting};
+ghost use Rattle.bc6_face.specs.Stores.{pixelOf, rowOf, blockPut, FaceWritten, Fitting};
 
 // What the calls over a face answer: how many values are minus infinity, 0 on a refusal.
 pub struct FacePixels {
@@ -44,18 +44,48 @@ fn lanes_of(alpha: bool) -> usize
     3
 }
 
-// Pixel k of a block.
-fn put_pixel(values: &[u16; 48], k: usize, alpha: bool, out: &mut [u16], at: usize)
-    requires { ⌜ (k < 16) × (at + lanes alpha ≤ length (now out)) ⌝ }
-    ensures { λ _. ⌜ now (out .exit) ≡ sets (now (out .entry)) at (pixelOf alpha (now (values .entry)) k) ⌝ }
+// Row `row` of a block's pixels without alpha, twelve values.
+fn put_plain_row(values: &[u16; 48], row: usize, out: &mut [u16], at: usize)
+    requires { ⌜ (row < 4) × (at + 12 ≤ length (now out)) ⌝ }
+    ensures { λ _. ⌜ now (out .exit) ≡ sets (now (out .entry)) at (rowOf false (now (values .entry)) row) ⌝ }
+{
+    for x in 0..12usize {
+        out[at + x] = values[12 * row + x];
+    }
+}
+
+// Pixel k of a block with its alpha.
+fn put_opaque(values: &[u16; 48], k: usize, out: &mut [u16], at: usize)
+    requires { ⌜ (k < 16) × (at + 4 ≤ length (now out)) ⌝ }
+    ensures { λ _. ⌜ now (out .exit) ≡ sets (now (out .entry)) at (pixelOf true (now (values .entry)) k) ⌝ }
 {
     out[at] = values[3 * k];
     out[at + 1] = values[3 * k + 1];
     out[at + 2] = values[3 * k + 2];
-    if !alpha {
+    out[at + 3] = FacePixels::OPAQUE;
+}
+
+// Row `row` of a block's pixels with alpha, sixteen values.
+fn put_opaque_row(values: &[u16; 48], row: usize, out: &mut [u16], at: usize)
+    requires { ⌜ (row < 4) × (at + 16 ≤ length (now out)) ⌝ }
+    ensures { λ _. ⌜ now (out .exit) ≡ sets (now (out .entry)) at (rowOf true (now (values .entry)) row) ⌝ }
+{
+    for x in 0..4usize {
+        let place = at + 4 * x;
+        put_opaque(values, 4 * row + x, out, place);
+    }
+}
+
+// Row `row` of a block's pixels. Each of its values is stored next to the one before it, so that the compiler stores several at once.
+fn put_row(values: &[u16; 48], row: usize, alpha: bool, out: &mut [u16], at: usize)
+    requires { ⌜ (row < 4) × (at + lanes alpha * 4 ≤ length (now out)) ⌝ }
+    ensures { λ _. ⌜ now (out .exit) ≡ sets (now (out .entry)) at (rowOf alpha (now (values .entry)) row) ⌝ }
+{
+    if alpha {
+        put_opaque_row(values, row, out, at);
         return;
     }
-    out[at + 3] = FacePixels::OPAQUE;
+    put_plain_row(values, row, out, at);
 }
 
 // The sixteen pixels of a block, in four rows.
@@ -63,10 +93,9 @@ fn put_block(values: &[u16; 48], alpha: bool, out: &mut [u16], at: usize, pitch:
     requires { ⌜ at + (pitch * 3 + lanes alpha * 4) ≤ length (now out) ⌝ }
     ensures { λ _. ⌜ now (out .exit) ≡ blockPut alpha pitch (now (values .entry)) at (now (out .entry)) ⌝ }
 {
-    let step = lanes_of(alpha);
-    for k in 0..16usize {
-        let place = at + (pitch * (k / 4) + step * (k % 4));
-        put_pixel(values, k, alpha, out, place);
+    for row in 0..4usize {
+        let place = at + pitch * row;
+        put_row(values, row, alpha, out, place);
     }
 }
 

@@ -62,14 +62,14 @@ pub fn interpolate(a: i32, b: i32, w: u16) -> i32
     (a * ((64 - w) as i32) + b * (w as i32) + 32) >> 6
 }
 
-// A number of 16 bits in two's complement ..
+// The lowest 16 bits of a number, in two's complement.
 pub fn kept_16(x: i32) -> u16
     ensures { λ r. ⌜ r ≡ keep 16 x ⌝ }
 {
     keep_bits(x, 16) as u16
 }
 
-// .. and the number that it stands for.
+// The number that 16 bits stand for.
 pub fn number_16(u: u16) -> i32
     ensures { λ r. ⌜ r ≡ signExtend 16 u ⌝ }
 {

@@ -1,4 +1,4 @@
-// The values of a block of one region, each worked out from its ends and its pixel's index: no palette. They lie between ends 0 and 1.
+// The values of a block of one region. Each is worked out from its pixel's index and lies between ends 0 and 1: there is no palette.
 //
 // A turn paints pixels k and k + 8, one channel of both after the other: of that the compiler makes vector code of eight pixels whose numbers
 // stay in registers. Each format has a caller of its own, into which it is inlined: the ends then never go through memory.
@@ -31,7 +31,7 @@ pub fn paint_one_unsigned(ends: Ends, word: u64, out: &mut [u16])
     }
 }
 
-// .. and in signed, with how many of the values are minus infinity.
+// In signed format. It answers how many of the values are minus infinity.
 pub fn paint_one_signed(ends: Ends, word: u64, out: &mut [u16]) -> u16
     requires { ⌜ 48 ≤ length (now out) ⌝ }
     ensures { λ r. ⌜ PaintedAs (made (oneValue true (endIn ends) word) 48) (now (out .entry)) r (now (out .exit)) ⌝ }

@@ -2,4 +2,3 @@ pub mod Chosen
 pub mod Points
 pub mod Pixels
 pub mod Link
-pub mod Elements

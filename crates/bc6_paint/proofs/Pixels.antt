@@ -127,7 +127,7 @@ pub stores-of : {f : ℕ → ℕ} {m k : ℕ} {l out : List ℕ} → Fronts f m 
 stores-of e h = record { below = h; room = omega (arith, e .long, e .room) }
 
 module _ {k : ℕ} {out : List ℕ} (t : Stores k out) where
-  -- .. and once a pair is stored
+  -- the same once a pair is stored
   pub stores-on : {after : List ℕ} (i j x y : ℕ) → after ≡ set (set out i x) j y → Stores k after
   stores-on i j x y e = record { below = t .below; room = rw e (simp length-set (t .room)) }
 

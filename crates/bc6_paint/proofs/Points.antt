@@ -6,8 +6,14 @@ use Prim.Native.Nat.{ℕ, _≤_, _<_}
 use native.Mathlib.Omega.{arith}
 use lib.IntN.{ℤ, pos}
 use lib.ListN.{getD}
+use mir.Syntax.{w32}
+use mir.Val.{Val, toZ, ofZ}
+use denote.Array.{each}
+use denote.Shadow.{shadow}
+use denote.Signed.{SInt}
 use Rattle.laws.specs.Pick.{pick}
 use Rattle.laws.specs.Ranges.{InBits, Within}
+use Rattle.laws.proofs.Elements.{element-is}
 use Rattle.bc6h_spec.specs.Half.{keep, interpolated, finished}
 use Rattle.bc6h_spec.proofs.Ranges.{interpolated-in, in-16, keep-lt}
 use Rattle.bc6_half.specs.declared.Half.{Half}
@@ -35,6 +41,10 @@ module _ (s : Bool) (a b w : ℕ) (ha : a < 65536) (hb : b < 65536) (hw : w ≤ 
   pub half-is : (z : ℤ) (h : Half) → z ≡ pointOf s a b w → h ≡ halfOf s z → h ≡ marked (shadeOf s a b w)
   unfolding shadeOf
   half-is z h ez eh = eh ∙ ap (halfOf s) ez ∙ half-marked s (pointOf s a b w) point-in
+
+-- end e of a channel, as it is read, of which 16 bits are kept
+pub held-is : (l : List ℤ) (us : List Val) (e : ℕ) {r : ℕ} → shadow (each ℤ (SInt w32 .own) l us) → r ≡ keep 16 (toZ w32 (ofZ w32 (getD l e (pos 0)))) → r ≡ heldAt l e
+held-is l us e p t = t ∙ ap (keep 16) (element-is l us e p)
 
 -- end e of a channel has 16 bits
 pub held-lt : (l : List ℤ) (e : ℕ) → heldAt l e < 65536

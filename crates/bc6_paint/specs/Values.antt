@@ -105,7 +105,7 @@ pairAt signed t ends at out = set (set out at (shadeIn signed ends (t .second) (
 abbrev pub counted : ℕ → ℕ
 counted value = pick (eqb value minusInfinity) 1 0
 
--- .. in signed format, with how many of them are minus infinity
+-- the two in signed format, and how many of them are minus infinity
 pub record Pair (t : Turn) (ends : List ℤ) (at : ℕ) (out : List ℕ) (infinite : ℕ) (after : List ℕ) : Type 0 where
   pub holds : after ≡ pairAt true t ends at out
   pub counts : infinite ≡ counted (shadeIn true ends (t .second) (t .w)) + counted (shadeIn true ends (t .second8) (t .w8))

@@ -24,26 +24,28 @@ pub struct Ends {
     pub blue: [i32; 4],
 }
 
-// The first eight of sixteen indices in a word, pixel 0 lowest, and the other eight: of three bits ..
+// The first eight of sixteen indices of three bits, pixel 0 lowest.
 fn low_24(word: u64) -> u32
     ensures { λ r. ⌜ r ≡ word % 2 ^ 24 ⌝ }
 {
     (word % 0x100_0000) as u32
 }
 
+// The other eight.
 fn high_24(word: u64) -> u32
     ensures { λ r. ⌜ r ≡ word / 2 ^ 24 % 2 ^ 24 ⌝ }
 {
     ((word >> 24) % 0x100_0000) as u32
 }
 
-// .. and of four.
+// The first eight of sixteen indices of four bits, pixel 0 lowest.
 fn low_32(word: u64) -> u32
     ensures { λ r. ⌜ r ≡ word % 2 ^ 32 ⌝ }
 {
     (word % 0x1_0000_0000) as u32
 }
 
+// The other eight.
 fn high_32(word: u64) -> u32
     ensures { λ r. ⌜ r ≡ word / 2 ^ 32 ⌝ }
 {
@@ -80,7 +82,7 @@ pub struct Turn {
     pub w8: u16,
 }
 
-// Turn k of a block of one region, by its indices ..
+// Turn k of a block of one region, by its indices.
 pub fn turn_one(word: u64, k: usize) -> Turn
     requires { ⌜ k < 8 ⌝ }
     ensures { λ r. ⌜ TurnOf oneSecond (oneWeight word) k r ⌝ }
@@ -93,7 +95,7 @@ pub fn turn_one(word: u64, k: usize) -> Turn
     }
 }
 
-// .. and of one of two, by the map of its regions too.
+// Turn k of a block of two regions, by their map and its indices.
 pub fn turn_two(word: u64, map: u16, k: usize) -> Turn
     requires { ⌜ k < 8 ⌝ }
     ensures { λ r. ⌜ TurnOf (twoSecond map) (twoWeight word) k r ⌝ }
@@ -106,8 +108,8 @@ pub fn turn_two(word: u64, map: u16, k: usize) -> Turn
     }
 }
 
-// Of two numbers the one of the pixel's region, by its mask. (And, or: an exclusive or of the two would be taken before the loop, out of the
-// vector.)
+// The one of two numbers that is of the pixel's region, by its mask. The compiler would take an exclusive or of the two before the loop, and
+// the ends out of the vector with it.
 fn select(second: u16, a: u16, c: u16) -> u16
     ensures { λ r. ⌜ r ≡ selected second a c ⌝ }
 {
@@ -133,8 +135,8 @@ fn point_signed(second: u16, a: u16, b: u16, c: u16, d: u16, w: u16) -> i32
     )
 }
 
-// A channel of a turn's pixels, whose values stand at `at` and 24 behind it, by its four ends. (They go through 16 bits, so that the compiler
-// takes eight at a time.)
+// A channel of a turn's pixels by its four ends, in unsigned format: the values go to `at` and 24 behind it. The ends go through 16 bits, so
+// that the compiler takes eight at a time.
 pub fn channel_unsigned(t: Turn, ends: [i32; 4], at: usize, out: &mut [u16])
     requires { ⌜ (t .w ≤ 64) × (t .w8 ≤ 64) × (at + 24 < length (now out)) ⌝ }
     ensures { λ _. ⌜ now (out .exit) ≡ pairAt false t ends at (now (out .entry)) ⌝ }
@@ -149,7 +151,7 @@ pub fn channel_unsigned(t: Turn, ends: [i32; 4], at: usize, out: &mut [u16])
     out[at + 24] = high.pattern;
 }
 
-// .. and how many of the two are minus infinity.
+// The same in signed format. It answers how many of the two values are minus infinity.
 pub fn channel_signed(t: Turn, ends: [i32; 4], at: usize, out: &mut [u16]) -> u16
     requires { ⌜ (t .w ≤ 64) × (t .w8 ≤ 64) × (at + 24 < length (now out)) ⌝ }
     ensures { λ r. ⌜ Pair t ends at (now (out .entry)) r (now (out .exit)) ⌝ }

@@ -56,7 +56,7 @@ module _ (w x y z : ℕ) (hw : w < 65536) (hx : x < 65536) (hy : y < 65536) (hz 
   lane-of-four (suc (suc (suc zero))) h = lane-3
   lane-of-four (suc (suc (suc (suc e)))) h = absurd (omega arith)
 
-  -- .. which has 64 bits
+  -- the word has 64 bits
   pub four-fits : fourOf w x y z < below64
   four-fits = omega arith
 

@@ -75,7 +75,7 @@ by-test : (n : ℕ) (b : Bool) (r : Run) (rs : List Run) → sum n (pick b (r �
 by-test n true r rs = refl
 by-test n false r rs = sym (zero-add (sum n rs))
 
--- .. and behind them
+-- what is added behind them
 sum-last : (n e : ℕ) (cs : List ℕ) (c : ℕ) → sumAt n (cs ++ (c ∷ [])) e ≡ sumAt n cs e + pick (eqb (endOf c) e) (part n (runIn c)) 0
 sum-last n e [] c = by-test n (eqb (endOf c) e) (runIn c) [] ∙ add-zero _ ∙ sym (zero-add _)
 sum-last n e (x ∷ cs) c =

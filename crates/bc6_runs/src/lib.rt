@@ -8,8 +8,8 @@ ghost use Rattle.bcn_util.specs.Stream.{number};
 ghost use Rattle.bcn_util.specs.Runs.{part, readable};
 ghost use Rattle.bc6_runs.specs.Ends.{fourOf, runIn, sumAt, fits, ChannelsRead};
 
-// A run of bits, by a code: two hexadecimal digits from which bit on, two how many, one of which endpoint, and one as which of its bits the
-// lowest is read.
+// A run of bits, by a code of hexadecimal digits: two for the bit that it starts at, two for its length, one for its endpoint, and one for the
+// bit that its lowest becomes there.
 fn run(stream: BitStream, code: u32) -> u64
     requires { ⌜ T (readable (runIn code)) ⌝ }
     ensures { λ r. ⌜ r ≡ part (number stream) (runIn code) ⌝ }
@@ -22,7 +22,8 @@ fn run(stream: BitStream, code: u32) -> u64
     read.bits << shift
 }
 
-// The runs of a table, each added to its endpoint's number. (A caller's table is literal: the compiler writes the runs out one after the other.)
+// The runs of a table, each added to its endpoint's number. A caller's table is literal, so that the compiler writes the runs out one after the
+// other.
 fn word(stream: BitStream, runs: &[u32]) -> [i32; 4]
     requires { ⌜ T (fits (now runs)) ⌝ }
     ensures { λ r. ⌜ r ≡ fourOf (sumAt (number stream) (now (runs .entry))) ⌝ }

@@ -1,5 +1,5 @@
-// The values of a block of two regions, each worked out from its ends and its pixel's index: no palette. They lie between ends 0 and 1 in
-// region 0, between 2 and 3 in region 1.
+// The values of a block of two regions. Each is worked out from its pixel's index and lies between ends 0 and 1 in region 0, between 2 and 3 in
+// region 1: there is no palette.
 //
 // A turn paints pixels k and k + 8, one channel of both after the other: of that the compiler makes vector code of eight pixels whose numbers
 // stay in registers. Each format has a caller of its own, into which it is inlined: the ends then never go through memory.
@@ -32,7 +32,7 @@ pub fn paint_two_unsigned(ends: Ends, map: u16, word: u64, out: &mut [u16])
     }
 }
 
-// .. and in signed. No value of a block of two regions is minus infinity: its flags are not added up.
+// In signed format. No value of a block of two regions is minus infinity, so that there is nothing to count.
 pub fn paint_two_signed(ends: Ends, map: u16, word: u64, out: &mut [u16])
     requires { ⌜ 48 ≤ length (now out) ⌝ }
     ensures { λ _. ⌜ now (out .exit) ≡ made (twoValue true (endIn ends) map word) 48 ++ drop 48 (now (out .entry)) ⌝ }

@@ -1,16 +1,16 @@
 -- The values of a strip are those of four rows of the face. Assumes nothing.
 use mathlib.Core.Path.{_≡_, _∙_, refl, sym, ap}
-use mathlib.Core.List.{List, _++_, append-nil}
+use mathlib.Core.List.{List, [], _++_, append-nil}
 use Prim.Native.Nat.{ℕ, zero, suc, _+_, _*_, _/_, _%_, _≤_, _<_}
 use native.Mathlib.Omega.{arith}
 use lib.ListN.{length, getD, take, drop, length-take, length-drop}
 use Rattle.laws.specs.Made.{made, join}
-use Rattle.laws.proofs.Rows.{length-made, made-same, join-last}
+use Rattle.laws.proofs.Rows.{length-made, getD-made, made-same, made-each}
 use Rattle.probe.specs.Probe.{placeOf, recordFor, shownIn, tripleOf, tripleAt, tripleFor}
 use Rattle.probe.specs.Held.{RecordOf}
 use Rattle.probe.proofs.Asking.{shown-length}
 use Rattle.faces.specs.Face.{rowValue, rowOf}
-use Rattle.faces.specs.Strip.{stripBlock, stripOf, stripValue, stripRow, rowIn, fourRows}
+use Rattle.faces.specs.Strip.{stripBlock, stripOf, pieceValue, stripPiece, stripValue, stripRow, rowIn, fourRows}
 use Rattle.laws.proofs.Joined.{run-value, run-length, run-fours}
 
 -- ---- lengths
@@ -32,9 +32,34 @@ unfolding fourRows rowIn
 four-length store edge face row =
     run-length (rowIn store edge face row) (12 * edge) (λ k. row-length store edge face (4 * row + k)) 4 ∙ omega arith
 
-pub strip-value : (strip : List ℕ) (k i : ℕ) → getD strip (48 * (i / 12) + (12 * k + i % 12)) 0 ≡ stripValue strip k i
-unfolding stripValue
-strip-value strip k i = refl
+-- ---- a strip's row is copied piece by piece
+
+pub piece-value : (strip : List ℕ) (from x : ℕ) → getD strip (from + x) 0 ≡ pieceValue strip from x
+unfolding pieceValue
+piece-value strip from x = refl
+
+pub piece-is : (strip out : List ℕ) {part : List ℕ} (column k : ℕ) → part ≡ made (pieceValue strip (48 * column + 12 * k)) 12 ++ drop 12 out → part ≡ stripPiece strip k column ++ drop 12 out
+unfolding stripPiece
+piece-is strip out column k e = e
+
+pub piece-length : (strip : List ℕ) (k column : ℕ) → length (stripPiece strip k column) ≡ 12
+unfolding stripPiece
+piece-length strip k column = length-made (pieceValue strip (48 * column + 12 * k)) 12
+
+pub pieces-row : (strip : List ℕ) (edge k : ℕ) → join (made (stripPiece strip k) edge) ≡ stripRow strip edge k
+unfolding stripRow stripValue stripPiece pieceValue
+pieces-row strip edge k = made-each (stripValue strip k) (join (made (stripPiece strip k) edge)) (12 * edge) (run-length (stripPiece strip k) 12 (piece-length strip k) edge) value
+  where
+    value : (i : ℕ) → i < 12 * edge → getD (join (made (stripPiece strip k) edge)) i 0 ≡ stripValue strip k i
+    value i h =
+        let here : 12 * (i / 12) + i % 12 ≡ i = omega arith in
+        let there : 48 * (i / 12) + 12 * k + i % 12 ≡ 48 * (i / 12) + (12 * k + i % 12) = omega arith in
+        let all = join (made (stripPiece strip k) edge) in
+        ap (λ (l : List ℕ). getD l i 0) (sym (append-nil all))
+        ∙ ap (λ (j : ℕ). getD (all ++ []) j 0) (sym here)
+        ∙ run-value (stripPiece strip k) 12 (piece-length strip k) edge (i / 12) (i % 12) [] (omega arith) (omega arith)
+        ∙ getD-made (pieceValue strip (48 * (i / 12) + 12 * k)) 12 (i % 12) 0 (omega arith)
+        ∙ ap (λ (j : ℕ). getD strip j 0) there
 
 -- ---- a block that is decoded
 

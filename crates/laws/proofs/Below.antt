@@ -1,4 +1,4 @@
--- A loop that tests every number below n. Assumes nothing.
+-- What holds at every number below n, and a loop that tests each of them. Assumes nothing.
 use mathlib.Core.Path.{_≡_, refl, sym, subst}
 use mathlib.Core.Bool.{Bool, true, false}
 use Prim.Native.Nat.{ℕ, zero, suc, _+_, _≤_, _<_}
@@ -9,6 +9,14 @@ use Rattle.laws.specs.Pick.{both}
 use Rattle.laws.specs.Every.{below}
 use Rattle.laws.proofs.Tests.{below-at}
 use Rattle.laws.proofs.Search.{is-false, both-hold}
+
+-- what holds of four numbers, one by one
+pub below-four : (P : ℕ → Type 0) → P 0 → P 1 → P 2 → P 3 → (e : ℕ) → e < 4 → P e
+below-four P a b c d zero h = a
+below-four P a b c d (suc zero) h = b
+below-four P a b c d (suc (suc zero)) h = c
+below-four P a b c d (suc (suc (suc zero))) h = d
+below-four P a b c d (suc (suc (suc (suc e)))) h = absurd (omega arith)
 
 -- what holds at every number below n
 pub below-all : (f : ℕ → Bool) (n : ℕ) → ((k : ℕ) → k < n → T (f k)) → T (below f n)

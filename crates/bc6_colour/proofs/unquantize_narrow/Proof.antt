@@ -6,8 +6,8 @@ use Prim.Native.Nat.{ℕ, _+_, _-_, _*_, _^_, _<_, _≤_}
 use lib.IntN.{ℤ, pos, natAbs, _+ℤ_, _-ℤ_}
 use lib.Pow.{pow-mono}
 use lib.Signed.{pos-natAbs, shrZ}
-use Rattle.laws.proofs.Num.{Num, arg, lit, add, sub, shl, shr, ones, named, diff, need, kept, abs-below}
-use Rattle.bc6_colour.proofs.Stepped.{shl-of, someOf, topOf, Summed, summed}
+use Rattle.laws.proofs.Num.{Num, arg, lit, add, sub, shl, shl-of, shr, ones, named, diff, need, kept, abs-below}
+use Rattle.bc6_colour.proofs.Stepped.{someOf, topOf, Summed, summed}
 use Rattle.bc6_colour.proofs.unquantize_narrow.Statement.{statement}
 use Rattle.bc6_colour.proofs.unquantize_narrow.Tie as tie
 

@@ -7,8 +7,7 @@ use native.Mathlib.Omega.{arith}
 use lib.ListN.{set, length-set}
 use lib.Seq.{set-comm}
 use Rattle.laws.proofs.Num.{read}
-use Rattle.bc6_paint.proofs.Elements.{held-is}
-use Rattle.bc6_paint.proofs.Points.{Drawn, drawn-in, half-drawn, shade, adds}
+use Rattle.bc6_paint.proofs.Points.{held-is, Drawn, drawn-in, half-drawn, shade, adds}
 use Rattle.bc6_paint.proofs.channel_signed.Statement.{statement}
 use Rattle.bc6_paint.proofs.channel_signed.Tie as tie
 

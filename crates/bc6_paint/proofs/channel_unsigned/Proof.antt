@@ -3,8 +3,7 @@ use borrow.Author.Needs.{needs}
 use mathlib.Core.Bool.{false}
 use Prim.Native.Nat.{_+_}
 use lib.ListN.{set}
-use Rattle.bc6_paint.proofs.Elements.{held-is}
-use Rattle.bc6_paint.proofs.Points.{Drawn, half-drawn, shade}
+use Rattle.bc6_paint.proofs.Points.{held-is, Drawn, half-drawn, shade}
 use Rattle.bc6_paint.proofs.channel_unsigned.Statement.{statement}
 use Rattle.bc6_paint.proofs.channel_unsigned.Tie as tie
 

@@ -91,8 +91,7 @@ def version():
     """Version, commit, the kit's identity, and how far the libraries are proved. Where knot is installed, what it was built with is beside the commands."""
     number_of = text_at("VERSION").strip()
     if os.path.isfile(os.path.join(ROOT, "BUILT")):
-        return f"knot {number_of}
-{text_at('BUILT')}"
+        return f"knot {number_of}\n{text_at('BUILT')}"
     commit = asked(["git", "-C", ROOT, "rev-parse", "--short=12", "HEAD"]) or "not known"
     changed = asked(["git", "-C", ROOT, "status", "--porcelain", "--untracked-files=no"])
     kit = asked(["rt", "version"]) or "not known: there is no 'rt' on the path"

@@ -1,0 +1,93 @@
+// Written by tools/web-calls from include/knotpasture.h and python/knotpasture/words.py: edit those, and run it again.
+
+export const VERSION = "0.9.0";
+export const UNSIGNED = 0;
+export const SIGNED = 1;
+export const KEPT = 0;
+export const TWIN = 1;
+export const BAD = 2;
+export const BLOCK_SIZE = 16;
+export const VALUES = 48;
+export const FIELDS = 32;
+export const RECORD_SIZE = 24;
+export const STORE_LIMIT = 48000;
+export const SCRATCH_VALUES = 49;
+export const OPAQUE = 15360;
+export const PLACED_SIZE = 32;
+export const PLACED_STORE_LIMIT = 64000;
+export const FACES = 6;
+export const NO_FACE = 255;
+export const EDGE_LIMIT = 16;
+export const BC7_BYTES = 64;
+export const BC7_RESERVED = 8;
+export const DDS_HEADER = 148;
+export const DDS_LIMIT = 4096;
+export const DDS_FILE = 16777364;
+export const PFM_LIMIT = 4096;
+export const PFM_FILE = 201326610;
+
+// What the number of a refusal means.
+export const WORDS = Object.freeze({
+  1: "the format is neither 0 (unsigned) nor 1 (signed)",
+  2: "the block is not 16 bytes long",
+  3: "the room for the result is too small",
+  4: "the mode is reserved",
+  5: "the store has more than 2,000 records",
+  6: "the store's length is not a whole number of records",
+  7: "a spare byte of a record is not zero",
+  8: "there is no record of that number",
+  9: "the blocks' length is not a multiple of 16",
+  10: "no block has these fields",
+  11: "the block's buffer is not 16 bytes long",
+  12: "a record that is not refused has a reserved mode: the capture is damaged",
+  13: "the header is not that of a BC6H texture of one level under the DX10 header",
+  14: "the width or height is out of range",
+  15: "the block bytes are short or left over for the size",
+  16: "the width or height is zero, not a multiple of 4 or above 4,096",
+  17: "the face is bad, or a record that is not placed has a position",
+  18: "a placed record does not move back",
+  19: "the edge is not 1 to 16",
+  20: "a record is not placed",
+  21: "a position is at or past the edge",
+  22: "a place is taken twice",
+  23: "a place is empty",
+  24: "the face, x or y is out of range",
+});
+
+// What each call answers and takes: inN and outN are lent elements of N bits, a pointer and a length; slotN is room for one number; uN a number.
+export const CALLS = Object.freeze({
+  knot_block_pixels: { answers: "u32", takes: ["in8 block", "u8 format", "out16 out"] },
+  knot_blocks_pixels: { answers: "u32", takes: ["in8 blocks", "u8 format", "out16 out", "slot64 done", "slot64 infinite"] },
+  knot_face_pixels: { answers: "u32", takes: ["in8 blocks", "u64 width", "u64 height", "u8 format", "out16 out", "u64 pitch", "slot64 infinite"] },
+  knot_face_rgba: { answers: "u32", takes: ["in8 blocks", "u64 width", "u64 height", "u8 format", "out16 out", "u64 pitch", "slot64 infinite"] },
+  knot_block_fields: { answers: "u32", takes: ["in8 block", "u8 format", "out16 numbers"] },
+  knot_write_block: { answers: "u32", takes: ["in16 numbers", "out8 out"] },
+  knot_fields_pixels: { answers: "u32", takes: ["in16 numbers", "out16 out"] },
+  knot_record_at: { answers: "u64", takes: ["in8 store", "u64 n"] },
+  knot_record_block: { answers: "u64", takes: ["in8 store", "u64 n"] },
+  knot_tile_at: { answers: "u32", takes: ["in8 store", "u64 n"] },
+  knot_twin_list: { answers: "u64", takes: ["in8 store", "out8 marks"] },
+  knot_twin_list_in: { answers: "u64", takes: ["in8 store", "out8 marks", "out16 scratch"] },
+  knot_strict_twin_list: { answers: "u64", takes: ["in8 store", "out8 marks"] },
+  knot_first_damaged: { answers: "u64", takes: ["in8 store"] },
+  knot_first_twin: { answers: "u64", takes: ["in8 store", "u64 n"] },
+  knot_is_covered: { answers: "bool", takes: ["in8 store", "u64 n", "u64 earlier"] },
+  knot_clean_store: { answers: "u64", takes: ["in8 store", "out8 out"] },
+  knot_first_of: { answers: "u64", takes: ["in8 store", "u64 n"] },
+  knot_placed_record_at: { answers: "u64", takes: ["in8 store", "u64 n", "slot16 column", "slot16 row"] },
+  knot_placed_record_block: { answers: "u64", takes: ["in8 store", "u64 n"] },
+  knot_place_store: { answers: "u64", takes: ["in8 old", "out8 out"] },
+  knot_unplace_store: { answers: "u64", takes: ["in8 store", "out8 out"] },
+  knot_probe_pixel: { answers: "u64", takes: ["in8 store", "u32 edge", "u32 face", "u32 x", "u32 y"] },
+  knot_probe_check: { answers: "u64", takes: ["in8 store", "u32 edge"] },
+  knot_probe_face: { answers: "u32", takes: ["in8 store", "u32 edge", "u32 face", "out16 out"] },
+  knot_is_trusted: { answers: "bool", takes: ["in8 block", "u8 format"] },
+  knot_bc7_pixels: { answers: "u32", takes: ["in8 block", "out8 out"] },
+  knot_bc7_blocks_pixels: { answers: "u64", takes: ["in8 blocks", "out8 out", "slot64 done"] },
+  knot_dds_head: { answers: "u64", takes: ["in8 file"] },
+  knot_dds_read: { answers: "u64", takes: ["in8 file"] },
+  knot_dds_blocks: { answers: "u64", takes: ["in8 file"] },
+  knot_dds_write: { answers: "u64", takes: ["in8 blocks", "u8 format", "u32 width", "u32 height", "out8 out"] },
+  knot_pfm_write: { answers: "u64", takes: ["in8 blocks", "u8 format", "u32 width", "u32 height", "out8 out"] },
+  knot_pfm_length: { answers: "u64", takes: ["u32 width", "u32 height"] },
+});

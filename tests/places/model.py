@@ -3,7 +3,8 @@ import struct
 
 OLD, OLD_LIMIT = 24, 48_000
 NEW, NEW_LIMIT = 32, 64_000
-DONE, BAD_FORMAT, SHORT, LONG, UNEVEN, SPARE, NO_RECORD, BAD_PLACE, PLACED = 0, 1, 3, 5, 6, 7, 8, 17, 18
+DONE, BAD_FORMAT, SHORT, LONG, UNEVEN, SPARE, NO_RECORD, DAMAGED, BAD_PLACE, PLACED = 0, 1, 3, 5, 6, 7, 8, 12, 17, 18
+RESERVED = (0b10011, 0b10111, 0b11011, 0b11111)  # the five low bits of a block with a reserved mode
 
 
 def old_record(tile, form, block, spare=bytes(3)):
@@ -60,6 +61,19 @@ def place(store, room):
 
 def unplace(store, room):
     return moved(store, room, NEW_LIMIT, NEW, OLD, back_refusal, lambda record: record[:5] + bytes(3) + record[16:])
+
+
+def faulty(store):
+    """What the program `checking` prints of a store of records with a place."""
+    if len(store) > NEW_LIMIT:
+        return f"store refused {LONG}\n"
+    if len(store) % NEW:
+        return f"store refused {UNEVEN}\n"
+    records = split(store, NEW)
+    causes = [new_refusal(record) or (DAMAGED if record[16] % 32 in RESERVED else DONE) for record in records]
+    lines = [f"{n} {struct.unpack_from('<I', record)[0]} {cause}\n" for n, (record, cause) in enumerate(zip(records, causes)) if cause]
+    damaged = causes.count(DAMAGED)
+    return "".join(lines) + f"records {len(records)} refused {len(lines) - damaged} damaged {damaged}\n"
 
 
 def read(store, n):

@@ -7,7 +7,7 @@ use native.Mathlib.Numerals.{add-one}
 use native.Mathlib.Omega.{arith}
 use lib.Dec.{eqb, ltb}
 use lib.ListN.{length}
-use borrow.Author.Tests.{lt-ltb, le-ltb, eq-eqb, ne-eqb, ltb-false}
+use borrow.Author.Tests.{lt-ltb, le-ltb, eq-eqb, ne-eqb, eqb-true, ltb-false}
 use Rattle.laws.specs.Pick.{pick}
 use Rattle.laws.proofs.Tests.{cases}
 use Rattle.bc6h_spec.specs.Answers.{done, longStore, unevenStore, reservedBlock}
@@ -34,7 +34,7 @@ module _ (byte : ℕ) where
   is-plain o = rw (ne-eqb _ _ o)
 
   -- what holds of both forms
-  by-form : (P : RecordForm → Type 0) → P placedForm → P plainForm → P (formOf byte)
+  pub by-form : (P : RecordForm → Type 0) → P placedForm → P plainForm → P (formOf byte)
   unfolding formOf
   by-form P x y = cases (eqb byte placeSize) (λ t. rw t x) (λ f. rw f y)
 
@@ -56,9 +56,15 @@ module _ (form : RecordForm) (size : ℕ) where
   unfolding storeRefusal
   whole h w = rw (le-ltb _ _ h, eq-eqb _ _ w)
 
-  fits : storeRefusal form size ≡ done → size ≤ form .limit
+  pub fits : storeRefusal form size ≡ done → size ≤ form .limit
   unfolding storeRefusal
   fits z = cases (ltb (form .limit) size) (λ t. absurd (omega (arith, rw t at z))) (λ f. ltb-false _ _ f)
+
+  pub even : storeRefusal form size ≡ done → size % form .size ≡ 0
+  unfolding storeRefusal
+  even z =
+      cases (ltb (form .limit) size) (λ t. absurd (omega (arith, rw t at z)))
+      (λ f. cases (eqb (size % form .size) 0) (λ t. eqb-true _ _ t) (λ u. absurd (omega (arith, rw (f, u) at z))))
 
 pub few-records : (byte : ℕ) (store : List ℕ) → storeRefusal (formOf byte) (length store) ≡ done → countIn (formOf byte) store ≤ mostRecords
 few-records byte store z =

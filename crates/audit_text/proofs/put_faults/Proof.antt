@@ -4,21 +4,6 @@ use borrow.Author.Needs.{needs}
 use Rattle.audit_text.proofs.put_faults.Statement.{statement}
 use Rattle.audit_text.proofs.put_faults.Tie as tie
 
-slice-aggregate-put-count : tie.Need-slice-aggregate-put-count
-slice-aggregate-put-count c = search needs
-
-put-count-requires : tie.Need-put-count-requires
-put-count-requires c κs = search needs
-
-slice-aggregate-put-count-2 : tie.Need-slice-aggregate-put-count-2
-slice-aggregate-put-count-2 c = search needs
-
-put-count-requires-2 : tie.Need-put-count-requires-2
-put-count-requires-2 c κs = search needs
-
-same-length : tie.Need-same-length
-same-length c = search needs
-
 returns : tie.Need-returns
 unfolding faultWords
 returns c = (search needs, then (c .before .before .before .before .before .before .before .put-count .ensures .1) (c .before .before .put-count2 .ensures .1))
@@ -27,9 +12,9 @@ pub put-faults-spec : {M : Type 1} → statement M
 put-faults-spec =
     tie.close
     (tie.spec
-    slice-aggregate-put-count
-    put-count-requires
-    slice-aggregate-put-count-2
-    put-count-requires-2
-    same-length
+    (λ c. search needs)
+    (λ c κs. search needs)
+    (λ c. search needs)
+    (λ c κs. search needs)
+    (λ c. search needs)
     returns)

@@ -20,15 +20,6 @@ abbrev μ-loop : tie.MeasureT-loop
 loop-holds : tie.Need-loop-holds Inv-loop μ-loop
 loop-holds c = (search needs, search needs, search needs, twins.no-tally (c .before .before .before .args .store .now), twins.no-lines (c .before .before .before .args .store .now) (c .before .before .before .args .text .now) (c .before .before .before .args .at))
 
-shared-slice-read-if1 : tie.Need-shared-slice-read-if1 Inv-loop μ-loop
-shared-slice-read-if1 c = search needs
-
-add-n : tie.Need-add-n Inv-loop μ-loop
-add-n c = search needs
-
-loop-less : tie.Need-loop-less Inv-loop μ-loop
-loop-less c = search needs
-
 loop-again : tie.Need-loop-again Inv-loop μ-loop
 loop-again c =
     let l = c .before .before .before .loop in
@@ -36,41 +27,17 @@ loop-again c =
     let m = c .before .before .before .before .before .before .before .pre .1 .1 .at (l .n) (search needs) in
     (search needs, search needs, search needs, twins.tally-skipped store (l .n) _ m (c .if1 .taken) (l .inv .3), twins.line-skipped store (l .n) _ m (c .if1 .taken) (l .inv .4))
 
-examine-requires : tie.Need-examine-requires Inv-loop μ-loop
-examine-requires c κs = search needs
-
-put-twin-requires : tie.Need-put-twin-requires Inv-loop μ-loop
-put-twin-requires c κs = search needs
-
-one-if-requires : tie.Need-one-if-requires Inv-loop μ-loop
-one-if-requires c κs = search needs
-
 add-copies : tie.Need-add-copies Inv-loop μ-loop
 add-copies c = let few = c .before .before .before .before .before .before .before .before .before .loop .inv .3 .few in search needs
-
-one-if-requires-2 : tie.Need-one-if-requires-2 Inv-loop μ-loop
-one-if-requires-2 c κs = search needs
 
 add-alike : tie.Need-add-alike Inv-loop μ-loop
 add-alike c = let few = c .before .before .before .before .before .before .before .before .before .before .before .loop .inv .3 .few in search needs
 
-one-if-requires-3 : tie.Need-one-if-requires-3 Inv-loop μ-loop
-one-if-requires-3 c κs = search needs
-
 add-covered : tie.Need-add-covered Inv-loop μ-loop
 add-covered c = let few = c .before .before .before .before .before .before .before .before .before .before .before .before .loop .inv .3 .few in search needs
 
-one-if-requires-4 : tie.Need-one-if-requires-4 Inv-loop μ-loop
-one-if-requires-4 c κs = search needs
-
 add-before : tie.Need-add-before Inv-loop μ-loop
 add-before c = let few = c .before .before .before .before .before .before .before .before .before .before .before .before .before .loop .inv .3 .few in search needs
-
-add-n-2 : tie.Need-add-n-2 Inv-loop μ-loop
-add-n-2 c = search needs
-
-loop-less-2 : tie.Need-loop-less-2 Inv-loop μ-loop
-loop-less-2 c = search needs
 
 loop-again-2 : tie.Need-loop-again-2 Inv-loop μ-loop
 loop-again-2 c =
@@ -85,15 +52,6 @@ loop-again-2 c =
       twins.line-more store (l .n) _ m (c .before .before .before .before .before .before .before .before .before .before .if1 .left) f (l .inv .4) (c .before .before .before .before .before .before .before .put-twin .ensures .1),
     )
 
-count-faults-requires : tie.Need-count-faults-requires Inv-loop μ-loop
-count-faults-requires c κs = search needs
-
-put-tally-requires : tie.Need-put-tally-requires Inv-loop μ-loop
-put-tally-requires c κs = search needs
-
-same-length : tie.Need-same-length Inv-loop μ-loop
-same-length c = search needs
-
 returns : tie.Need-returns Inv-loop μ-loop
 returns c =
     let l = c .before .before .before .before .before .before .loop in
@@ -107,24 +65,24 @@ put-twins-spec =
     Inv-loop
     μ-loop
     loop-holds
-    shared-slice-read-if1
-    add-n
-    loop-less
+    (λ c. search needs)
+    (λ c. search needs)
+    (λ c. search needs)
     loop-again
-    examine-requires
-    put-twin-requires
-    one-if-requires
+    (λ c κs. search needs)
+    (λ c κs. search needs)
+    (λ c κs. search needs)
     add-copies
-    one-if-requires-2
+    (λ c κs. search needs)
     add-alike
-    one-if-requires-3
+    (λ c κs. search needs)
     add-covered
-    one-if-requires-4
+    (λ c κs. search needs)
     add-before
-    add-n-2
-    loop-less-2
+    (λ c. search needs)
+    (λ c. search needs)
     loop-again-2
-    count-faults-requires
-    put-tally-requires
-    same-length
+    (λ c κs. search needs)
+    (λ c κs. search needs)
+    (λ c. search needs)
     returns)

@@ -15,20 +15,8 @@ Inv-loop text₀ form store count end₀ n₀ text end n = (n ≤ count) × (len
 abbrev μ-loop : tie.MeasureT-loop
 μ-loop text₀ form store count end₀ n₀ text end n = count - n
 
-record-count-requires : tie.Need-record-count-requires Inv-loop μ-loop
-record-count-requires c κs = search needs
-
 loop-holds : tie.Need-loop-holds Inv-loop μ-loop
 loop-holds c = (search needs, search needs, search needs, lines.no-lines _ (c .before .before .before .args .store .now) (c .before .before .before .args .text .now))
-
-cause-of-requires : tie.Need-cause-of-requires Inv-loop μ-loop
-cause-of-requires c κs = search needs
-
-add-n : tie.Need-add-n Inv-loop μ-loop
-add-n c = search needs
-
-loop-less : tie.Need-loop-less Inv-loop μ-loop
-loop-less c = search needs
 
 loop-again : tie.Need-loop-again Inv-loop μ-loop
 loop-again c = (search needs, search needs, search needs, lines.line-skipped _ (c .before .before .before .before .before .before .before .args .store .now) (c .before .before .before .loop .n) (c .before .cause-of .ensures) (c .if1 .taken) (c .before .before .before .loop .inv .3))
@@ -36,17 +24,8 @@ loop-again c = (search needs, search needs, search needs, lines.line-skipped _ (
 put-fault-requires : tie.Need-put-fault-requires Inv-loop μ-loop
 put-fault-requires c κs = let l = c .before .before .before .before .loop .inv in let e = c .before .before .before .before .before .record-count .ensures in search needs
 
-add-n-2 : tie.Need-add-n-2 Inv-loop μ-loop
-add-n-2 c = search needs
-
-loop-less-2 : tie.Need-loop-less-2 Inv-loop μ-loop
-loop-less-2 c = search needs
-
 loop-again-2 : tie.Need-loop-again-2 Inv-loop μ-loop
 loop-again-2 c = (search needs, search needs, search needs, lines.line-more _ (c .before .before .before .before .before .before .before .before .before .before .before .args .store .now) (c .before .before .before .before .before .before .before .loop .n) (c .before .before .before .before .before .cause-of .ensures) (c .before .before .before .before .if1 .left) (c .before .before .before .before .before .before .before .loop .inv .3) (c .before .before .put-fault .ensures .1))
-
-same-length : tie.Need-same-length Inv-loop μ-loop
-same-length c = search needs
 
 returns : tie.Need-returns Inv-loop μ-loop
 returns c = (search needs, lines.all-lines _ (c .before .before .before .before .before .args .store .now) (c .before .loop .n) _ (search needs) (search needs) (c .before .loop .inv .3))
@@ -57,15 +36,15 @@ put-faults-spec =
     (tie.spec
     Inv-loop
     μ-loop
-    record-count-requires
+    (λ c κs. search needs)
     loop-holds
-    cause-of-requires
-    add-n
-    loop-less
+    (λ c κs. search needs)
+    (λ c. search needs)
+    (λ c. search needs)
     loop-again
     put-fault-requires
-    add-n-2
-    loop-less-2
+    (λ c. search needs)
+    (λ c. search needs)
     loop-again-2
-    same-length
+    (λ c. search needs)
     returns)

@@ -4,17 +4,11 @@ use borrow.Author.Needs.{needs}
 use Rattle.faulty_records.proofs.cause_of.Statement.{statement}
 use Rattle.faulty_records.proofs.cause_of.Tie as tie
 
-is-damaged-requires : tie.Need-is-damaged-requires
-is-damaged-requires c κs = search needs
-
 returns : tie.Need-returns
 returns c = cause-damaged _ _ _ (sym (c .before .is-damaged .ensures) ∙ c .if1 .taken)
-
-record-refusal-requires : tie.Need-record-refusal-requires
-record-refusal-requires c κs = search needs
 
 returns-2 : tie.Need-returns-2
 returns-2 c = cause-refusal _ _ _ (sym (c .before .before .is-damaged .ensures) ∙ c .before .if1 .left) (c .record-refusal .ensures)
 
 pub cause-of-spec : {M : Type 1} → statement M
-cause-of-spec = tie.close (tie.spec is-damaged-requires returns record-refusal-requires returns-2)
+cause-of-spec = tie.close (tie.spec (λ c κs. search needs) returns (λ c κs. search needs) returns-2)

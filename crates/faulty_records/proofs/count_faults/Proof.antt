@@ -11,35 +11,14 @@ Inv-loop form store count refused₀ damaged₀ n₀ refused damaged n = (n ≤ 
 abbrev μ-loop : tie.MeasureT-loop
 μ-loop form store count refused₀ damaged₀ n₀ refused damaged n = count - n
 
-record-count-requires : tie.Need-record-count-requires Inv-loop μ-loop
-record-count-requires c κs = search needs
-
 loop-holds : tie.Need-loop-holds Inv-loop μ-loop
 loop-holds c = (search needs, none-counted _ _)
-
-is-refused-requires : tie.Need-is-refused-requires Inv-loop μ-loop
-is-refused-requires c κs = search needs
-
-one-if-requires : tie.Need-one-if-requires Inv-loop μ-loop
-one-if-requires c κs = search needs
 
 add-refused : tie.Need-add-refused Inv-loop μ-loop
 add-refused c = let few = c .before .before .before .loop .inv .1 .few in search needs
 
-is-damaged-requires : tie.Need-is-damaged-requires Inv-loop μ-loop
-is-damaged-requires c κs = search needs
-
-one-if-requires-2 : tie.Need-one-if-requires-2 Inv-loop μ-loop
-one-if-requires-2 c κs = search needs
-
 add-damaged : tie.Need-add-damaged Inv-loop μ-loop
 add-damaged c = let few = c .before .before .before .before .before .loop .inv .1 .few in search needs
-
-add-n : tie.Need-add-n Inv-loop μ-loop
-add-n c = search needs
-
-loop-less : tie.Need-loop-less Inv-loop μ-loop
-loop-less c = search needs
 
 loop-again : tie.Need-loop-again Inv-loop μ-loop
 loop-again c = (search needs, one-counted _ _ (c .before .before .before .before .before .loop .inv .1) (c .before .before .before .is-refused .ensures) (c .before .before .one-if .ensures) (c .before .is-damaged .ensures) (c .one-if2 .ensures))
@@ -53,15 +32,15 @@ count-faults-spec =
     (tie.spec
     Inv-loop
     μ-loop
-    record-count-requires
+    (λ c κs. search needs)
     loop-holds
-    is-refused-requires
-    one-if-requires
+    (λ c κs. search needs)
+    (λ c κs. search needs)
     add-refused
-    is-damaged-requires
-    one-if-requires-2
+    (λ c κs. search needs)
+    (λ c κs. search needs)
     add-damaged
-    add-n
-    loop-less
+    (λ c. search needs)
+    (λ c. search needs)
     loop-again
     returns)

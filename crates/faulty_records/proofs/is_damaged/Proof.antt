@@ -4,20 +4,11 @@ use borrow.Author.Needs.{needs}
 use Rattle.faulty_records.proofs.is_damaged.Statement.{statement}
 use Rattle.faulty_records.proofs.is_damaged.Tie as tie
 
-record-refusal-requires : tie.Need-record-refusal-requires
-record-refusal-requires c κs = search needs
-
 returns : tie.Need-returns
 returns c = refused-undamaged _ _ _ (c .before .record-refusal .ensures) (c .if1 .taken)
 
-block-of-requires : tie.Need-block-of-requires
-block-of-requires c κs = search needs
-
 new-requires : tie.Need-new-requires
 new-requires c κs = part-length _ _ _ (sym (c .before .before .record-refusal .ensures) ∙ c .before .if1 .left) (c .block-of .ensures)
-
-extract-mode-requires : tie.Need-extract-mode-requires
-extract-mode-requires c κs = search needs
 
 returns-2 : tie.Need-returns-2
 returns-2 c = damaged-by-mode _ _ _ (sym (c .before .before .before .before .record-refusal .ensures) ∙ c .before .before .before .if1 .left) (c .before .before .block-of .ensures) (c .before .new .ensures) (c .extract-mode .ensures)
@@ -26,9 +17,9 @@ pub is-damaged-spec : {M : Type 1} → statement M
 is-damaged-spec =
     tie.close
     (tie.spec
-    record-refusal-requires
+    (λ c κs. search needs)
     returns
-    block-of-requires
+    (λ c κs. search needs)
     new-requires
-    extract-mode-requires
+    (λ c κs. search needs)
     returns-2)

@@ -3,11 +3,8 @@ use borrow.Author.Needs.{needs}
 use Rattle.faulty_records.proofs.is_refused.Statement.{statement}
 use Rattle.faulty_records.proofs.is_refused.Tie as tie
 
-record-refusal-requires : tie.Need-record-refusal-requires
-record-refusal-requires c κs = search needs
-
 returns : tie.Need-returns
 returns c = refused-when _ _ _ (c .record-refusal .ensures)
 
 pub is-refused-spec : {M : Type 1} → statement M
-is-refused-spec = tie.close (tie.spec record-refusal-requires returns)
+is-refused-spec = tie.close (tie.spec (λ c κs. search needs) returns)

@@ -4,9 +4,6 @@ use borrow.Author.Needs.{needs}
 use Rattle.faulty_records.proofs.record_count.Statement.{statement}
 use Rattle.faulty_records.proofs.record_count.Tie as tie
 
-record-size-requires : tie.Need-record-size-requires
-record-size-requires c κs = search needs
-
 div-result : tie.Need-div-result
 div-result c = omega (arith, size-some (c .before .before .args .form))
 
@@ -14,4 +11,4 @@ returns : tie.Need-returns
 returns c = rw (c .record-size .ensures)
 
 pub record-count-spec : {M : Type 1} → statement M
-record-count-spec = tie.close (tie.spec record-size-requires div-result returns)
+record-count-spec = tie.close (tie.spec (λ c κs. search needs) div-result returns)

@@ -4,14 +4,8 @@ use borrow.Author.Needs.{needs}
 use Rattle.faulty_records.proofs.store_refusal.Statement.{statement}
 use Rattle.faulty_records.proofs.store_refusal.Tie as tie
 
-store-limit-requires : tie.Need-store-limit-requires
-store-limit-requires c κs = search needs
-
 returns : tie.Need-returns
 returns c = long _ _ (search needs)
-
-record-size-requires : tie.Need-record-size-requires
-record-size-requires c κs = search needs
 
 rem-if2 : tie.Need-rem-if2
 rem-if2 c = omega (arith, size-some (c .before .before .before .before .args .form))
@@ -25,4 +19,4 @@ returns-3 c = whole _ _ (search needs) (rw (c .before .record-size .ensures) at 
 pub store-refusal-spec : {M : Type 1} → statement M
 store-refusal-spec =
     tie.close
-    (tie.spec store-limit-requires returns record-size-requires rem-if2 returns-2 returns-3)
+    (tie.spec (λ c κs. search needs) returns (λ c κs. search needs) rem-if2 returns-2 returns-3)

@@ -10,11 +10,8 @@ tile-at-requires c κs = placed-below _ (c .before .before .args .store .now) (c
 returns : tie.Need-returns
 returns c = rw (is-placed _ (c .before .if1 .taken)) (c .tile-at .ensures)
 
-tile-at-requires-2 : tie.Need-tile-at-requires-2
-tile-at-requires-2 c κs = search needs
-
 returns-2 : tie.Need-returns-2
 returns-2 c = rw (is-plain _ (c .before .if1 .left)) (c .tile-at2 .ensures)
 
 pub tile-of-spec : {M : Type 1} → statement M
-tile-of-spec = tie.close (tie.spec tile-at-requires returns tile-at-requires-2 returns-2)
+tile-of-spec = tie.close (tie.spec tile-at-requires returns (λ c κs. search needs) returns-2)

@@ -3,14 +3,8 @@ use borrow.Author.Needs.{needs}
 use Rattle.moves.proofs.back_refusal.Statement.{statement}
 use Rattle.moves.proofs.back_refusal.Tie as tie
 
-place-record-refusal-requires : tie.Need-place-record-refusal-requires
-place-record-refusal-requires c κs = search needs
-
 returns : tie.Need-returns
 returns c = refused-before _ _ (c .before .place-record-refusal .ensures) (c .if1 .taken)
-
-place-at-requires : tie.Need-place-at-requires
-place-at-requires c κs = search needs
 
 returns-2 : tie.Need-returns-2
 returns-2 c = is-placed _ _ (c .before .before .before .before .place-record-refusal .ensures) (c .before .before .before .if1 .left) (c .before .before .place-at .ensures) (c .if2 .taken)
@@ -21,4 +15,4 @@ returns-3 c = not-placed _ _ (c .before .before .before .before .place-record-re
 pub back-refusal-spec : {M : Type 1} → statement M
 back-refusal-spec =
     tie.close
-    (tie.spec place-record-refusal-requires returns place-at-requires returns-2 returns-3)
+    (tie.spec (λ c κs. search needs) returns (λ c κs. search needs) returns-2 returns-3)

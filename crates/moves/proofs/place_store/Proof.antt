@@ -3,23 +3,11 @@ use borrow.Author.Needs.{needs}
 use Rattle.moves.proofs.place_store.Statement.{statement}
 use Rattle.moves.proofs.place_store.Tie as tie
 
-placing-fault-requires : tie.Need-placing-fault-requires
-placing-fault-requires c κs = search needs
-
-refused-requires : tie.Need-refused-requires
-refused-requires c κs = search needs
-
 returns : tie.Need-returns
 returns c = moved-refused _ _ _ (c .before .before .before .placing-fault .ensures) (c .before .if1 .taken) (c .refused .ensures)
 
 place-records-requires : tie.Need-place-records-requires
 place-records-requires c κs = place-room _ _ (c .before .before .before .placing-fault .ensures) (c .before .if1 .left)
-
-done-requires : tie.Need-done-requires
-done-requires c κs = search needs
-
-same-length : tie.Need-same-length
-same-length c = search needs
 
 returns-2 : tie.Need-returns-2
 returns-2 c = let w = c .before .before .before in moved-done _ _ _ (w .before .before .before .before .placing-fault .ensures) _ (w .before .before .if1 .left) (c .done .ensures) (placed-length _) (w .place-records .ensures)
@@ -28,10 +16,10 @@ pub place-store-spec : {M : Type 1} → statement M
 place-store-spec =
     tie.close
     (tie.spec
-    placing-fault-requires
-    refused-requires
+    (λ c κs. search needs)
+    (λ c κs. search needs)
     returns
     place-records-requires
-    done-requires
-    same-length
+    (λ c κs. search needs)
+    (λ c. search needs)
     returns-2)

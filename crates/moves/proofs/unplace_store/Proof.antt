@@ -3,23 +3,11 @@ use borrow.Author.Needs.{needs}
 use Rattle.moves.proofs.unplace_store.Statement.{statement}
 use Rattle.moves.proofs.unplace_store.Tie as tie
 
-unplacing-fault-requires : tie.Need-unplacing-fault-requires
-unplacing-fault-requires c κs = search needs
-
-refused-requires : tie.Need-refused-requires
-refused-requires c κs = search needs
-
 returns : tie.Need-returns
 returns c = moved-refused _ _ _ (c .before .before .before .unplacing-fault .ensures) (c .before .if1 .taken) (c .refused .ensures)
 
 unplace-records-requires : tie.Need-unplace-records-requires
 unplace-records-requires c κs = unplace-room _ _ (c .before .before .before .unplacing-fault .ensures) (c .before .if1 .left)
-
-done-requires : tie.Need-done-requires
-done-requires c κs = search needs
-
-same-length : tie.Need-same-length
-same-length c = search needs
 
 returns-2 : tie.Need-returns-2
 returns-2 c = let w = c .before .before .before in moved-done _ _ _ (w .before .before .before .before .unplacing-fault .ensures) _ (w .before .before .if1 .left) (c .done .ensures) (old-length _) (w .unplace-records .ensures)
@@ -28,10 +16,10 @@ pub unplace-store-spec : {M : Type 1} → statement M
 unplace-store-spec =
     tie.close
     (tie.spec
-    unplacing-fault-requires
-    refused-requires
+    (λ c κs. search needs)
+    (λ c κs. search needs)
     returns
     unplace-records-requires
-    done-requires
-    same-length
+    (λ c κs. search needs)
+    (λ c. search needs)
     returns-2)

@@ -12,8 +12,6 @@ A length that no such store has counts as a refused record. So a store without a
 single refused record is told as what it is: a faulty record. A store of black tiles reads as records with a place too, nearly all of them in
 one place: as such a store counts only one of which three quarters of the placed records have places of their own.
 """
-import re
-
 from . import house
 
 # The two forms of a store by the bytes of a record; face, column and row of a record that is not placed.
@@ -22,16 +20,7 @@ NO_PLACE = b"\xff\0\0\0\0"
 # The most bytes of a store of either form: of a longer file one byte more is read, which is enough to refuse it.
 MOST = house.PLACED_STORE
 
-SIGNATURES = {
-    rb"DDS \x7c\0\0\0": "a DDS file",
-    rb"PF\n[0-9]+ [0-9]+\n": "a Portable Float Map",
-}
-CHECKING = house.Text(
-    "[0-9]+ [0-9]+ (?:1|7|12|17)",
-    "records R refused X damaged D",
-    rows=lambda records, refused, damaged: refused + damaged,
-    records=lambda records, refused, damaged: records,
-)
+CHECKING = house.Text(3, "records refused damaged", rows=lambda records, refused, damaged: refused + damaged, records=lambda records, *_: records)
 
 
 class Reading:
@@ -69,14 +58,23 @@ def store_in_words(form, records):
     return f"a store of {records:,} record{'' if records == 1 else 's'}{' with a place, such as a probe' if form == PLACED else ' of 24 bytes'}"
 
 
+def signature_of(data):
+    """What a file is that begins as one with a header does. The byte of a first record's format is then none: no store begins so unless that
+    record is refused."""
+    if data.startswith(b"DDS \x7c\0\0\0"):
+        return "a DDS file"
+    if data.startswith(b"PF\n") and data[3:5].replace(b" ", b"0").isdigit():
+        return "a Portable Float Map"
+    return None
+
+
 def looks_like(data, form):
     """What a file that is given as a store of `form` looks like instead, in words; None where it may well be that store."""
     own = Reading(data, form)
     if not own.has_refused():
         return None
-    for signature, words in SIGNATURES.items():
-        if re.match(signature, data):
-            return words
+    if signed := signature_of(data):
+        return signed
     other = Reading(data, PLACED if form == PLAIN else PLAIN)
     if other.fits():
         return store_in_words(other.form, other.records)

@@ -26,7 +26,6 @@ class Option:
 
 AS_STORE = Option("--as-store", "take the file as it is given, whatever it looks like")
 JSON = Option("--json", "print JSON, for other programs; a refusal is JSON too")
-HELP = Option("-h, --help", "print this")
 
 
 class Form:
@@ -106,30 +105,12 @@ class Line:
         file = "" if name.startswith("--") else f"; a file of that name is ./{shown(name, 40)}"
         return f"there is no option '{shown(name, 40)}'{close}{file}"
 
-    def usage(self, command):
-        inside = {name for form in self.forms for name in form.options}
-        free = "[OPTIONS] " if any(option.name not in inside for option in self.options) else ""
-        return "\n".join(f"{'usage:' if k == 0 else '      '} knot {command} {free}{form.text}" for k, form in enumerate(self.forms))
-
 
 def meant(word, known):
     """What a wrong word may have been meant to be, as the end of a message."""
     import difflib
     close = difflib.get_close_matches(word[:40], known, 1)
     return f": did you mean '{close[0]}'?" if close else ""
-
-
-def help_of(name, module):
-    """What `knot COMMAND --help` prints: usage, what it does, options, statuses, an example."""
-    text, line = module.__doc__.strip(), getattr(module, "LINE", None)
-    if line is None:
-        return f"{text}\n\n{STATUSES}\n"
-    options = [*line.options, HELP]
-    width = max(len(option.told()) for option in options)
-    lines = [line.usage(name), "", text, "", "options:", *(f"  {option.told():<{width}}  {option.help}" for option in options), "", line.statuses]
-    if line.example:
-        lines += ["", "example:", *(f"  $ {example}" for example in line.example.splitlines())]
-    return "\n".join(lines) + "\n"
 
 
 def number(word, what, most=None):

@@ -147,6 +147,10 @@ def changed_program(knot, folder):
     status, out, told, _ = outcome(knot, "list", [SAMPLES / "four.store"], folder)
     if (status, out) != (3, b"") or "the program listing is not the one that was installed" not in told[0]:
         is_wrong("program that was changed", f"{status} {out!r} {told}")
+    (knot.parent / "programs/checking").unlink()
+    status, out, told, _ = outcome(knot, "check", [SAMPLES / "four.store"], folder)
+    if (status, out) != (3, b"") or "the program checking is missing from this installation" not in told[0]:
+        is_wrong("program that is missing", f"{status} {out!r} {told}")
     status, out, told, _ = outcome(knot, "--check", [], folder)
-    if (status, out) != (3, b"") or "programs/listing is another" not in told[0]:
+    if (status, out) != (3, b"") or "programs/listing is another" not in told[0] or "programs/checking: no such file" not in told[0]:
         is_wrong("program that was changed, --check", f"{status} {out!r} {told}")

@@ -134,7 +134,7 @@ def overridden(folder):
         check(f"wrong file, {command} --as-store", [command, "--as-store", path], 0)
     out.unlink(missing_ok=True)
     check("wrong file, why", ["place", path, out], 1, b"store refused 28\n", f"{path}: refused, 28: it looks like a store of 24 records with a place, such as a probe; --as-store overrides")
-    check("wrong file, place --as-store", ["place", path, out, "--as-store"], 1, b"store refused 7\n", "refused, 7")
+    check("wrong file, place --as-store", ["place", SAMPLES / "small.probe", out, "--as-store"], 1, b"store refused 7\n", "refused, 7")
     check("wrong file, record --as-store", ["record", "append", path, one, out, "--as-store"], 0, b"")
     text = folder / "text"
     text.write_bytes(run([ROOT / "knot", "fields", SAMPLES / "lamp.block", "unsigned"]).stdout)

@@ -6,7 +6,6 @@ NAME. So each command is tried with each of its programs ending early, printing 
 import hashlib
 import os
 import shutil
-import subprocess
 import sys
 
 from harness import ROOT, SAMPLES, count, is_wrong, run, wanted
@@ -42,6 +41,8 @@ if mode == "killed":
     os.kill(os.getpid(), 9)
 sys.exit(7 if mode == "fails" else 0)
 """
+# The programs that the commands run.
+NAMES = {path.parent.parent.name for path in (ROOT / "crates").glob("*/src/main.rt")} - {"replay", "pixel_limits", "store_limits", "float_patterns", "decode_bc7"} | {"checking"}
 # How an answer is spoiled: each way at the first command that runs a program, the first three at every other one.
 SPOILED = ["nothing", "half", "fails", "lost", "more", "killed"]
 
@@ -78,11 +79,9 @@ def house_of(folder):
     (house / "tools/run").write_text('#!/bin/sh\nexec "$@"\n')
     (house / "tools/run").chmod(0o755)
     (folder / "kept").mkdir()
-    programs = {path.parent.parent.name: None for path in (ROOT / "crates").glob("*/src/main.rt")} | {"checking": None}
-    for name in programs:
-        subprocess.run([ROOT / "tools/prove", name], stdout=subprocess.DEVNULL, stderr=subprocess.DEVNULL)
-        built = [ROOT / "programs" / name, ROOT / "target/built" / name]
-        programs[name] = next((str(path) for path in built if path.is_file()), None)
+    sys.path.insert(0, str(ROOT))
+    from commands.programs import program_at
+    programs = {name: program_at(name) for name in sorted(NAMES)}
     script = SCRIPT.format(python=sys.executable, used=str(folder / "used"), kept=str(folder / "kept"), run=str(ROOT / "tools/run"), programs=programs)
     for name in programs:
         (house / "programs" / name).write_text(script)
@@ -113,7 +112,10 @@ def failing_programs(folder):
         return
     knot, used = house_of(folder)
     met = set()
+    names = [path.name for path in (knot.parent / "programs").iterdir()]
     for command, words in commands(folder).items():
+        if not any(wanted(f"program {name} of {command}: {mode}") for name in names for mode in [*SPOILED, "warns"]):
+            continue
         used.unlink(missing_ok=True)
         true = outcome(knot, command, words, folder)
         if true[0] != 0 or true[2]:
@@ -136,7 +138,8 @@ def failing_programs(folder):
                 warned = outcome(knot, command, words, folder, MODE="warns", NAME=name)
                 if warned != true:
                     is_wrong(case, f"{warned[0]} {warned[1][:80]!r} {warned[2]}, and not as without the warning")
-    changed_program(knot, folder)
+    if wanted("program that was changed"):
+        changed_program(knot, folder)
 
 
 def changed_program(knot, folder):

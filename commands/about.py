@@ -62,14 +62,15 @@ def tell_version():
 
 
 def version():
-    """Version, commit and the kit's identity. Where knot is installed, those that it was built with are beside the commands."""
+    """Version, commit, the kit's identity, and how far the libraries are proved. Where knot is installed, what it was built with is beside the commands."""
     number_of = text_at("VERSION").strip()
     if os.path.isfile(os.path.join(ROOT, "BUILT")):
         return f"knot {number_of}\n{text_at('BUILT')}"
     commit = asked(["git", "-C", ROOT, "rev-parse", "--short=12", "HEAD"]) or "not known"
     changed = asked(["git", "-C", ROOT, "status", "--porcelain", "--untracked-files=no"])
     kit = asked(["rt", "version"]) or "not known: there is no 'rt' on the path"
-    return f"knot {number_of}\ncommit {commit}{' and changes' if changed else ''}\nkit {kit}\n"
+    standing = asked([os.path.join(ROOT, "tools/standing"), os.uname().machine])
+    return f"knot {number_of}\ncommit {commit}{' and changes' if changed else ''}\nkit {kit}\n" + (f"{standing}\n" if standing else "")
 
 
 def check_installation():

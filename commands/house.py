@@ -8,7 +8,7 @@ import os
 import sys
 
 from . import ends, files, line
-from .ends import DONE, REFUSED, ROOT, TROUBLE, USAGE, Faulty, Refused, Signalled, Trouble, Usage, meaning  # noqa: F401
+from .ends import DONE, REFUSED, TROUBLE, USAGE, Faulty, Refused, Signalled, Trouble, Usage, meaning  # noqa: F401
 from .files import is_standard_output, painted, put, read, reason, remark, say, shown, tell  # noqa: F401
 from .line import number  # noqa: F401
 from .programs import Text, ask, listed, over_store, program, program_at  # noqa: F401
@@ -49,6 +49,9 @@ def __getattr__(name):
         return files.read_last
     if name == "MEANINGS":
         return ends.meanings()
+    if name == "ROOT":
+        import pathlib
+        return pathlib.Path(ends.ROOT)
     if name in LATER:
         return getattr(command(LATER[name]), name)
     raise AttributeError(name)

@@ -115,7 +115,8 @@ def wrong_files(folder):
     if not wanted("wrong file"):
         return
     seen = lines_of(table(folder))
-    page = [line for line in PAGE.read_text().splitlines() if line.startswith("|")]
+    text = PAGE.read_text()
+    page = text[text.find(seen[0]):].split("\n\n")[0].splitlines() if seen[0] in text else []
     for line in sorted(set(seen) ^ set(page)):
         is_wrong("wrong file, docs/TESTING.md", f"{'seen' if line in seen else 'on the page'}: {line}")
     overridden(folder)

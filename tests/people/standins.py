@@ -10,6 +10,9 @@ import sys
 
 from harness import ROOT, SAMPLES, count, is_wrong, run, wanted
 
+sys.path.insert(0, str(ROOT))
+from commands.programs import program_at  # noqa: E402
+
 SCRIPT = """#!{python} -ISB
 import hashlib, os, sys
 name, given = os.path.basename(sys.argv[0]), sys.stdin.buffer.read()
@@ -67,6 +70,11 @@ def commands(folder):
     }
 
 
+def built():
+    """Where each program is, proved and built where it was not."""
+    return {name: program_at(name) for name in sorted(NAMES)}
+
+
 def house_of(folder):
     """An installation whose programs are scripts: its knot, and the file that names the programs that a command has run."""
     house = folder / "lib/knotpasture"
@@ -79,9 +87,7 @@ def house_of(folder):
     (house / "tools/run").write_text('#!/bin/sh\nexec "$@"\n')
     (house / "tools/run").chmod(0o755)
     (folder / "kept").mkdir()
-    sys.path.insert(0, str(ROOT))
-    from commands.programs import program_at
-    programs = {name: program_at(name) for name in sorted(NAMES)}
+    programs = built()
     script = SCRIPT.format(python=sys.executable, used=str(folder / "used"), kept=str(folder / "kept"), run=str(ROOT / "tools/run"), programs=programs)
     for name in programs:
         (house / "programs" / name).write_text(script)

@@ -111,7 +111,11 @@ def placed_to_change(path, as_store=False):
 def store_to_show(path, as_store=False):
     """The bytes of a store of 24-byte records for a command that only shows: with a remark where it looks like something else."""
     data = house.read(path, MOST)
+    remark_on(data, as_store)
+    return data
+
+
+def remark_on(data, as_store):
     looks = None if as_store else looks_like(data, PLAIN)
     if looks:
         house.remark(f"it looks like {looks}; --as-store silences this")
-    return data

@@ -5,12 +5,15 @@ Neither form has a header, so that the bytes of one may pass for the other: the 
 A file looks like something else than the store that it is given as when one of its records is refused and
 
 - it begins as a DDS file or a Portable Float Map does, or
-- the other reading has records, and none of them is refused, or
+- the other reading fits better: it has records, and none of them is refused, or at most a quarter of the share that is refused here, or
 - it has more than one record, and more than half of them are refused.
 
-A length that no such store has counts as a refused record. So a store without a refused record always passes, as an empty one does, and a
+A length that no such store has counts as all of it refused. So a store without a refused record always passes, as an empty one does, and a
 single refused record is told as what it is: a faulty record. A store of black tiles reads as records with a place too, nearly all of them in
 one place: as such a store counts only one of which three quarters of the placed records have places of their own.
+
+A whole probe never passes for a store of 24-byte records. Read so, its first, fourth, seventh .. record has its face and column where a record's
+spare bytes are: on face 0 and in column 0 an edge of n blocks has n of them, and there are 2 n n.
 """
 from . import house
 
@@ -46,9 +49,12 @@ class Reading:
         """Three quarters of the placed records have places of their own, which those of a true store of that form have."""
         return self.form == PLAIN or 4 * len(set(self.places)) >= 3 * len(self.places)
 
-    def fits(self):
-        """There are records, none is refused, and their places are not nearly all one."""
-        return self.records > 0 and not self.has_refused() and self.has_places_apart()
+    def share(self):
+        """How much of it is refused."""
+        return 1 if self.bad_length else self.refused / max(self.records, 1)
+
+    def fits_better(self, own):
+        return self.records > 0 and self.has_places_apart() and 4 * self.share() <= own.share()
 
     def mostly_refused(self):
         return self.records > 1 and 2 * self.refused > self.records
@@ -76,18 +82,16 @@ def looks_like(data, form):
     if signed := signature_of(data):
         return signed
     other = Reading(data, PLACED if form == PLAIN else PLAIN)
-    if other.fits():
+    if other.fits_better(own):
         return store_in_words(other.form, other.records)
     return f"no store at all: {own.refused:,} of its {own.records:,} records are refused" if own.mostly_refused() else None
 
 
 def likelier_reading(data):
     """The reading of a file that has fewer of its records refused: that of 24-byte records where both have as many."""
-    def share(reading):
-        return 2 if reading.bad_length or not reading.has_places_apart() else reading.refused / max(reading.records, 1)
-
     plain = Reading(data, PLAIN)
-    return min(plain, Reading(data, PLACED), key=share) if plain.has_refused() else plain
+    placed = Reading(data, PLACED) if plain.has_refused() else plain
+    return placed if placed.has_places_apart() and placed.share() < plain.share() else plain
 
 
 def to_change(path, form, as_store):

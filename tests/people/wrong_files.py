@@ -47,6 +47,7 @@ def files():
         "a store of black tiles, one refused": b"".join(record(n, n == 1 and 2, BLACK) for n in range(12)),
         "a probe of edge 2": probe(2),
         "a probe of edge 15, black": probe(15, BLACK),
+        "a probe of edge 15, black, one record refused": probe(15, BLACK)[:-32] + placed(9, 7, 0, 0),
         "a probe of edge 16": probe(16),
         "5 records with a place": b"".join(faces[:5]),
         "6 records with a place, one refused": b"".join(faces[:5]) + placed(5, 7, 0, 0),

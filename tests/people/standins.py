@@ -114,14 +114,14 @@ def uses_kinds(command):
 
 
 def failing_programs(folder):
-    if not wanted("program"):
+    asked = {command: words for command, words in commands(folder).items()
+             if any(wanted(f"program {name} of {command}: {mode}") for name in NAMES for mode in [*SPOILED, "warns"])}
+    changed = wanted("program that was changed")
+    if not asked and not changed:
         return
     knot, used = house_of(folder)
     met = set()
-    names = [path.name for path in (knot.parent / "programs").iterdir()]
-    for command, words in commands(folder).items():
-        if not any(wanted(f"program {name} of {command}: {mode}") for name in names for mode in [*SPOILED, "warns"]):
-            continue
+    for command, words in asked.items():
         used.unlink(missing_ok=True)
         true = outcome(knot, command, words, folder)
         if true[0] != 0 or true[2]:
@@ -144,7 +144,7 @@ def failing_programs(folder):
                 warned = outcome(knot, command, words, folder, MODE="warns", NAME=name)
                 if warned != true:
                     is_wrong(case, f"{warned[0]} {warned[1][:80]!r} {warned[2]}, and not as without the warning")
-    if wanted("program that was changed"):
+    if changed:
         changed_program(knot, folder)
 
 

@@ -26,13 +26,17 @@ def no_links():
     return mock.patch("os.link", refusing(errno.EPERM))
 
 
+def no_replacing():
+    return mock.patch("os.replace", refusing(errno.EIO))
+
+
 def no_renaming():
     return mock.patch("commands.writing.renamed_without_replacing", lambda *_: False)
 
 
 def without_links(folder):
     """Three ways to a name that is not taken: by a hard link, by a renaming that does not replace, by an empty file that is replaced."""
-    for way, patches in {"links": [], "no links": [no_links], "neither links nor renaming": [no_links, no_renaming]}.items():
+    for way, patches in {"links": [], "no links": [no_links, no_replacing], "neither links nor renaming": [no_links, no_renaming]}.items():
         name = f"writing, {way}"
         if not wanted(name):
             continue
@@ -48,7 +52,7 @@ def without_links(folder):
             for taken in ("old", "link", "new"):
                 if is_written(place / taken):
                     is_wrong(name, f"{taken} was written over")
-        with no_links(), no_renaming(), mock.patch("os.replace", refusing(errno.EIO)):
+        with no_links(), no_renaming(), no_replacing():
             if is_written(place / "failed"):
                 is_wrong(name, "a renaming that failed was not told")
         left = {path.name: path.read_bytes() if not path.is_symlink() else None for path in place.iterdir()}

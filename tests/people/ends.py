@@ -48,7 +48,8 @@ def without_links(folder):
         with contextlib.ExitStack() as patched:
             for patch in patches:
                 patched.enter_context(patch())
-            writing.write_whole(place / "new", b"whole", over=False)
+            if not is_written(place / "new"):
+                is_wrong(name, "new was not written")
             for taken in ("old", "link", "new"):
                 if is_written(place / taken):
                     is_wrong(name, f"{taken} was written over")
@@ -62,7 +63,7 @@ def without_links(folder):
 
 def is_written(path):
     try:
-        writing.write_whole(path, b"other", over=False)
+        writing.write_whole(path, b"whole", over=False)
         return True
     except ends.Trouble:
         return False

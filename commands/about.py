@@ -37,7 +37,7 @@ def overview():
     lines += [f"  {name:<11} {command(name).__doc__.strip().splitlines()[0]}" for name in COMMANDS]
     lines += [
         "",
-        "knot COMMAND --help tells a command's words; -V or --version the version, commit and kit; --check whether an installation is as it was made.",
+        "'knot COMMAND --help' explains a command, -V or --version prints version, commit and kit, --check checks an installation.",
         line.STATUSES[0].upper() + line.STATUSES[1:] + ".",
     ]
     return "\n".join(lines) + "\n"

@@ -104,7 +104,7 @@ def dispatch(words):
     name, *rest = words
     if name in ALONE:
         if rest:
-            raise Usage(f"{name} stands alone, and '{shown(rest[0], 40)}' comes behind it")
+            raise Usage(f"{name} takes no words, and '{shown(rest[0], 40)}' is one")
         getattr(command("about"), ALONE[name])()
     elif name == "help":
         if len(rest) > 1:
@@ -134,7 +134,7 @@ def ended(said, words):
         dispatch(words)
         status = DONE
     except Usage as error:
-        tell(f"{said}: {error}; '{said} --help' tells how it is called")
+        tell(f"{said}: {error}; see '{said} --help'")
         return USAGE
     except Refused as error:
         tell_refusal(said, error)

@@ -57,7 +57,7 @@ def hold_built(name):
         return
     import subprocess
     if subprocess.run([os.path.join(ROOT, "tools/prove"), name], stdin=subprocess.DEVNULL, stdout=subprocess.DEVNULL).returncode != 0:
-        raise Trouble(f"the program {name} is not built: the reason stands above")
+        raise Trouble(f"the program {name} is not built: the reason is above")
 
 
 def program_at(name):

@@ -21,11 +21,11 @@ def norms(folder):
     check("did you mean, a command", ["lsit"], 2, b"", "there is no command 'lsit': did you mean 'list'?")
     check("did you mean, help", ["help", "adit"], 2, b"", "did you mean 'audit'?")
     check("did you mean, an option", ["list", "--strct"], 2, b"", "did you mean '--strict'?")
-    check("did you mean, nothing like it", ["xyz"], 2, b"", "there is no command 'xyz'; 'knot --help' tells")
+    check("did you mean, nothing like it", ["xyz"], 2, b"", "there is no command 'xyz'; see 'knot --help'")
     check("an option with a value that has none", ["list", "--strict=yes"], 2, b"", "--strict has no value")
     check("an option without its value", ["check", "--form"], 2, b"", "--form needs a value: --form 24|32")
     check("an option of another form", ["dds", "--make", "x"], 2, b"", "it takes --make WIDTH HEIGHT FORMAT BLOCK-BYTES OUT, and 1 word is given")
-    check("--version with a word", ["--version", "x"], 2, b"", "--version stands alone, and 'x' comes behind it")
+    check("--version with a word", ["--version", "x"], 2, b"", "--version takes no words, and 'x' is one")
     check("help with two words", ["help", "list", "more"], 2, b"", "help takes one command, and 'more' is one more")
     check("--check of the repository", ["--check"], 3, b"", "knot is not installed here") if not (ROOT / "sums").exists() else None
     check("list --head", ["list", "--head", FOUR], 0, b"record tile answer mode mark red green blue\n" + run([KNOT, "list", FOUR]).stdout)

@@ -62,11 +62,6 @@ def put_json(facts):
     put(json.dumps(facts, indent=1) + "\n")
 
 
-def flagged(words, flag):
-    """The words without a flag, and whether it was among them: for a command that declares none."""
-    return [word for word in words if word != flag], flag in words
-
-
 def command(name):
     __import__(f"commands.{name}")
     return sys.modules[f"commands.{name}"]
@@ -94,7 +89,7 @@ def start(name, words):
         module.run(words)
         return
     found = declared.parsed(words)
-    as_json = bool(found.json)
+    as_json = getattr(found, "json", False)
     module.run(found)
 
 

@@ -49,13 +49,10 @@ class Form:
 
 
 class Asked:
-    """What a command line asks for, by name. What no form names is None."""
+    """What a command line asks for, by name. An operand of another form is None."""
 
     def __init__(self, names):
         self.__dict__ = names
-
-    def __getattr__(self, name):
-        return None
 
 
 class Line:
@@ -71,7 +68,8 @@ class Line:
             raise Usage(f"it takes {' or '.join(form.text for form in chosen or self.forms)}, and {self.counted(operands)}")
         flags = {option.key: option in given for option in self.options if option.value is None}
         values = {option.key: given.get(option) for option in self.options if option.value is not None}
-        return Asked({**flags, **values, **form.named(operands), "chosen": form.text})
+        none = {name: None for other in self.forms for name in other.named([])}
+        return Asked({**none, **flags, **values, **form.named(operands), "chosen": form.text})
 
     @staticmethod
     def counted(operands):

@@ -1,7 +1,8 @@
 """A `knot` whose programs fail: an installation of its own in which a script stands for each program.
 
 Each script hands on what the true program answers, which is asked once and kept, and spoils it as the environment says: MODE for the program
-NAME. So each command is tried with each of its programs ending early, printing nothing, too much or too little, failing, or warning first.
+NAME. So each command is tried with each of its programs ending early, printing nothing, too much or too little, failing behind whole output, or
+warning first.
 """
 import hashlib
 import os
@@ -28,7 +29,7 @@ out, told = open(kept, "rb").read(), open(kept + ".told", "rb").read()
 mode = os.environ.get("MODE") if os.environ.get("NAME") == name else None
 if mode == "warns":
     os.write(2, b"warning: cannot set the locale\\n")
-if mode in ("half", "fails", "killed"):
+if mode in ("half", "killed"):
     out = out[:len(out) // 2]
 elif mode == "nothing":
     out = b""
@@ -81,6 +82,8 @@ def house_of(folder):
     for part in ("programs", "tools", "commands"):
         (house / part).mkdir(parents=True)
     shutil.copytree(ROOT / "commands", house / "commands", dirs_exist_ok=True, ignore=shutil.ignore_patterns("__pycache__"))
+    if (ROOT / "web/page").is_dir():
+        shutil.copytree(ROOT / "web/page", house / "web/page")
     for file in ("knot", "VERSION", "python/knotpasture/words.py"):
         shutil.copy(ROOT / file, house)
     (house / "BUILT").write_text("commit of the test\nkit of the test\n")

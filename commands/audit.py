@@ -3,18 +3,18 @@
 Without a STORE it reads standard input. Lines that begin with '#' have the version, the commit and the kit, and the store's name, SHA-256,
 bytes and records. Then a line names the columns, and a line follows for each twin: number and tile, number and tile of the record that stays, the
 verdict, and 'covered' where the copies theorem speaks of the two. A 'copy' has the same format and the same sixteen bytes as the record that
-stays, and 'knot clean' removes it; an 'alike' has other bytes, and stays. The last line has the counts. A refused store is the line 'store
-refused' and the number.
+stays, and 'knot clean' removes it; an 'alike' has other bytes, and stays. The last line has the counts, damaged and refused records first. A
+refused store is the line 'store refused' and the number.
 """
 from . import house, kinds
 from .line import AS_STORE, JSON, Line
 
 LINE = Line("[STORE]", options=[JSON, AS_STORE], example="knot audit samples/covered.store")
 ENDS = house.Text(
-    "[0-9]+ [0-9]+ [0-9]+ [0-9]+ (?:copy|alike) (?:covered|-)",
-    "damaged D refused X copies C alike A covered V before B",
+    6,
+    "damaged refused copies alike covered before",
     rows=lambda damaged, refused, copies, alike, covered, before: copies + alike,
-    head="record tile stays its-tile verdict theorem\n",
+    head="record tile stays its-tile verdict theorem",
 )
 
 

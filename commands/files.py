@@ -1,9 +1,8 @@
-"""Files and standard streams: reading whole, writing whole or not at all, and messages of one line."""
+"""Reading files whole, standard output, and messages of one line."""
 import errno
 import os
-import stat
 
-from .ends import Trouble, Usage
+from .ends import Trouble
 
 # The name of what was read last, which a refusal speaks of, and the files that this run has written.
 read_last = None
@@ -14,11 +13,6 @@ remarks = []
 
 STANDARD_OUTPUT = ("-", "/dev/stdout", "/dev/fd/1", "/proc/self/fd/1")
 COLOURS = {"good": "32", "doubtful": "33", "bad": "31"}
-
-# What a file system answers that has no hard links, and what one answers that cannot sync a folder.
-NO_LINKS = {errno.EPERM, errno.EOPNOTSUPP, errno.ENOTSUP, errno.ENOSYS, errno.EINVAL, errno.EMLINK, errno.EACCES}
-NO_SYNC = {errno.EINVAL, errno.EOPNOTSUPP, errno.ENOTSUP, errno.EROFS, errno.EBADF}
-CURRENT_FOLDER, NO_REPLACE = -100, 1
 
 
 def reason(error):
@@ -76,6 +70,10 @@ def tell(message):
         pass
 
 
+def is_standard_output(path):
+    return os.fspath(path) in STANDARD_OUTPUT
+
+
 def say(text, out):
     """Prints what a command tells beside the file OUT: to standard output, and to standard error where OUT is standard output."""
     if not is_standard_output(out):
@@ -94,127 +92,3 @@ def painted(text, colour):
     """A verdict in colour, where standard output is a terminal and NO_COLOR is not set."""
     plain = os.environ.get("NO_COLOR") or os.environ.get("TERM") == "dumb" or not os.isatty(1)
     return text if plain else f"\x1b[{COLOURS[colour]}m{text}\x1b[0m"
-
-
-def is_standard_output(path):
-    return os.fspath(path) in STANDARD_OUTPUT
-
-
-def write_whole(path, data, over=True):
-    """Writes a file whole or not at all: beside it first, synced, then in its place. Without `over` a file that is there stays, and is trouble.
-
-    Standard output, a device or a pipe has no beside: it is written as it is."""
-    if is_standard_output(path):
-        put(data)
-        return
-    try:
-        # A link is followed to what is written over, and is itself in the way of what may not be.
-        target = os.path.realpath(path) if over else os.path.abspath(path)
-        if over and is_special(target):
-            write_in_place(target, data)
-        else:
-            write_beside(target, data, over)
-    except (OSError, ValueError) as error:
-        raise Trouble(f"{shown(path)}: {reason(error)}") from None
-    written.append(path)
-    sync_folder(path, os.path.dirname(target))
-
-
-def is_special(target):
-    """Neither a file nor a folder, but there: a device, a pipe."""
-    try:
-        mode = os.stat(target).st_mode
-    except FileNotFoundError:
-        return False
-    return not stat.S_ISREG(mode) and not stat.S_ISDIR(mode)
-
-
-def write_in_place(target, data):
-    file = os.open(target, os.O_WRONLY | os.O_CLOEXEC)
-    try:
-        write_all(file, data)
-    finally:
-        os.close(file)
-
-
-def write_beside(target, data, over):
-    beside = os.path.join(os.path.dirname(target), f".knot-{os.urandom(6).hex()}")
-    try:
-        file = os.open(beside, os.O_WRONLY | os.O_CREAT | os.O_EXCL | os.O_CLOEXEC, 0o666)
-        try:
-            write_all(file, data)
-            os.fsync(file)
-        finally:
-            os.close(file)
-        if over:
-            os.replace(beside, target)
-        else:
-            put_in_new_place(beside, target)
-    finally:
-        try:
-            os.unlink(beside)
-        except FileNotFoundError:
-            pass
-
-
-def put_in_new_place(beside, target):
-    """Gives a whole file a name that is not taken yet: by a hard link; where the file system has none, by a renaming that does not replace;
-    where it has neither, by taking the name with an empty file first, which the whole one then replaces."""
-    try:
-        os.link(beside, target)
-        return
-    except OSError as error:
-        if error.errno not in NO_LINKS:
-            raise
-    if renamed_without_replacing(beside, target):
-        return
-    os.close(os.open(target, os.O_WRONLY | os.O_CREAT | os.O_EXCL | os.O_CLOEXEC, 0o666))
-    try:
-        os.replace(beside, target)
-    except BaseException:
-        os.unlink(target)
-        raise
-
-
-def renamed_without_replacing(beside, target):
-    """Linux's renameat2; False where it, or the file system, cannot do that."""
-    import ctypes
-    call = getattr(ctypes.CDLL(None, use_errno=True), "renameat2", None)
-    if call is None:
-        return False
-    if call(CURRENT_FOLDER, os.fsencode(beside), CURRENT_FOLDER, os.fsencode(target), NO_REPLACE) == 0:
-        return True
-    number = ctypes.get_errno()
-    if number in NO_LINKS:
-        return False
-    raise OSError(number, os.strerror(number), target)
-
-
-def sync_folder(path, folder):
-    """Makes the new name last: a file whose folder is not synced may be gone after a power failure."""
-    try:
-        file = os.open(folder, os.O_RDONLY | os.O_DIRECTORY | os.O_CLOEXEC)
-    except OSError:
-        return
-    try:
-        os.fsync(file)
-    except OSError as error:
-        if error.errno not in NO_SYNC:
-            raise Trouble(f"{shown(path)}: it is written, whole, but its folder could not be synced: {reason(error)}") from None
-    finally:
-        os.close(file)
-
-
-def same_file(path, other):
-    """Whether two names are one file."""
-    try:
-        return os.path.samefile(path, other)
-    except (OSError, ValueError):
-        return False
-
-
-def keep_apart(out, *inputs):
-    """The result never goes over what it is made of."""
-    for given in inputs:
-        if same_file(out, given):
-            raise Usage(f"{shown(out)} is {shown(given)} itself, which it would overwrite: name another file")

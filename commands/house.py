@@ -8,10 +8,10 @@ import os
 import sys
 
 from . import ends, files, line
-from .ends import DONE, REFUSED, ROOT, TROUBLE, USAGE, Faulty, Refused, Signalled, Trouble, Usage, meaning  # noqa: F401
-from .files import is_standard_output, keep_apart, painted, put, read, reason, remark, same_file, say, shown, tell, write_whole  # noqa: F401
+from .ends import DONE, REFUSED, TROUBLE, USAGE, Faulty, Refused, Signalled, Trouble, Usage, meaning  # noqa: F401
+from .files import is_standard_output, painted, put, read, reason, remark, say, shown, tell  # noqa: F401
 from .line import number  # noqa: F401
-from .programs import LISTING, Text, ask, listed, over_store, program, program_at  # noqa: F401
+from .programs import Text, ask, listed, over_store, program, program_at  # noqa: F401
 from .records import BLOCK, PLACED_STORE, RECORD, STORE, no_record, record_answers, record_in, record_refused  # noqa: F401
 
 # The commands, in the order of `knot help`.
@@ -33,17 +33,28 @@ COMMANDS = [
     "pfm",
 ]
 ASKS_HELP = ("-h", "--help")
+# The options of knot itself, which stand alone, and what of about.py they start.
+ALONE = {"-h": "tell_overview", "--help": "tell_overview", "-V": "tell_version", "--version": "tell_version", "--check": "check_installation"}
 
 # Whether a refusal is told as JSON.
 as_json = False
 
 
+# What few commands need comes from these modules when it is asked for: a start compiles what it imports.
+LATER = {"write_whole": "writing", "same_file": "writing", "keep_apart": "writing", "version": "about"}
+
+
 def __getattr__(name):
-    """What changes while a command runs, and the words of the refusals, which are read when they are asked for."""
+    """What is read late: those names, the words of the refusals, and what changes while a command runs."""
     if name == "read_last":
         return files.read_last
     if name == "MEANINGS":
         return ends.meanings()
+    if name == "ROOT":
+        import pathlib
+        return pathlib.Path(ends.ROOT)
+    if name in LATER:
+        return getattr(command(LATER[name]), name)
     raise AttributeError(name)
 
 
@@ -52,68 +63,9 @@ def put_json(facts):
     put(json.dumps(facts, indent=1) + "\n")
 
 
-def flagged(words, flag):
-    """The words without a flag, and whether it was among them: for a command that declares none."""
-    return [word for word in words if word != flag], flag in words
-
-
 def command(name):
-    import importlib
-    return importlib.import_module(f"commands.{name}")
-
-
-def overview():
-    lines = ["usage: knot COMMAND [WORDS...]", ""]
-    lines += [f"  {name:<11} {command(name).__doc__.strip().splitlines()[0]}" for name in COMMANDS]
-    lines += [
-        "",
-        "knot COMMAND --help tells a command's words; -V or --version the version, commit and kit; --check whether an installation is as it was made.",
-        line.STATUSES[0].upper() + line.STATUSES[1:] + ".",
-    ]
-    return "\n".join(lines) + "\n"
-
-
-def asked(words):
-    """What a program prints, in one line; None where it can't be run."""
-    import subprocess
-    try:
-        return subprocess.run(words, stdin=subprocess.DEVNULL, capture_output=True, text=True, check=True).stdout.strip()
-    except (OSError, subprocess.CalledProcessError):
-        return None
-
-
-def text_at(*path):
-    with open(os.path.join(ROOT, *path), encoding="utf-8") as file:
-        return file.read()
-
-
-def version():
-    """Version, commit, the kit's identity, and how far the libraries are proved. Where knot is installed, what it was built with is beside the commands."""
-    number_of = text_at("VERSION").strip()
-    if os.path.isfile(os.path.join(ROOT, "BUILT")):
-        return f"knot {number_of}\n{text_at('BUILT')}"
-    commit = asked(["git", "-C", ROOT, "rev-parse", "--short=12", "HEAD"]) or "not known"
-    changed = asked(["git", "-C", ROOT, "status", "--porcelain", "--untracked-files=no"])
-    kit = asked(["rt", "version"]) or "not known: there is no 'rt' on the path"
-    standing = asked([os.path.join(ROOT, "tools/standing"), os.uname().machine])
-    return f"knot {number_of}\ncommit {commit}{' and changes' if changed else ''}\nkit {kit}\n{standing}\n"
-
-
-def check_installation():
-    """`knot --check`: every file of the installation has the sum that it was made with."""
-    from . import programs
-    if not os.path.isfile(programs.SUMS):
-        raise Trouble("knot is not installed here: a program of the repository is held to its sources each time")
-    changed, wanted = [], programs.sums()
-    for name, summed in wanted.items():
-        try:
-            if programs.sum_of(os.path.join(programs.PREFIX, name)) != summed:
-                changed.append(f"{name} is another")
-        except OSError as error:
-            changed.append(f"{name}: {reason(error)}")
-    if changed:
-        raise Trouble(f"{len(changed)} of {len(wanted)} files of this installation are not as they were made: {'; '.join(changed[:8])}{'; ..' if changed[8:] else ''}")
-    put(f"{len(wanted)} files are as they were made\n")
+    __import__(f"commands.{name}")
+    return sys.modules[f"commands.{name}"]
 
 
 def known(name):
@@ -122,11 +74,15 @@ def known(name):
     return name
 
 
+def tell_help(name):
+    put(command("about").help_of(known(name), command(name)))
+
+
 def start(name, words):
     global as_json
     before = words[:words.index("--")] if "--" in words else words
     if any(word in ASKS_HELP for word in before):
-        put(line.help_of(name, command(name)))
+        tell_help(name)
         return
     module = command(name)
     declared = getattr(module, "LINE", None)
@@ -134,7 +90,7 @@ def start(name, words):
         module.run(words)
         return
     found = declared.parsed(words)
-    as_json = bool(found.json)
+    as_json = getattr(found, "json", False)
     module.run(found)
 
 
@@ -142,17 +98,16 @@ def dispatch(words):
     if not words:
         raise Usage("a command is missing")
     name, *rest = words
-    alone = {"--version": lambda: put(version()), "-V": lambda: put(version()), "--check": check_installation, "-h": lambda: put(overview()), "--help": lambda: put(overview())}
-    if name in alone:
+    if name in ALONE:
         if rest:
-            raise Usage(f"{name} stands alone, and '{shown(rest[0], 40)}' comes behind it")
-        alone[name]()
+            raise Usage(f"{name} takes no words, and '{shown(rest[0], 40)}' is one")
+        getattr(command("about"), ALONE[name])()
     elif name == "help":
         if len(rest) > 1:
             raise Usage(f"help takes one command, and '{shown(rest[1], 40)}' is one more")
-        put(line.help_of(known(rest[0]), command(rest[0])) if rest else overview())
+        tell_help(rest[0]) if rest else command("about").tell_overview()
     elif name.startswith("-"):
-        raise Usage(f"there is no option '{shown(name, 40)}'{line.meant(name, list(alone))}")
+        raise Usage(f"there is no option '{shown(name, 40)}'{line.meant(name, list(ALONE))}")
     else:
         start(known(name), rest)
 
@@ -175,7 +130,7 @@ def ended(said, words):
         dispatch(words)
         status = DONE
     except Usage as error:
-        tell(f"{said}: {error}; '{said} --help' tells how it is called")
+        tell(f"{said}: {error}; see '{said} --help'")
         return USAGE
     except Refused as error:
         tell_refusal(said, error)
@@ -200,18 +155,6 @@ def hold_streams():
                 os.close(held)
 
 
-def heed_signals():
-    """Being asked to end is an exception: it passes through what removes a file that is half written."""
-    import signal
-
-    def end(number_of, _):
-        raise Signalled(number_of)
-
-    for number_of in (signal.SIGTERM, signal.SIGHUP):
-        if signal.getsignal(number_of) == signal.SIG_DFL:
-            signal.signal(number_of, end)
-
-
 def end_by(number_of):
     """Ends as the signal would have."""
     import signal
@@ -223,7 +166,6 @@ def main(words):
     said = " ".join(["knot", *words[:1]]) if words[:1] and words[0] in COMMANDS else "knot"
     try:
         hold_streams()
-        heed_signals()
         return ended(said, words)
     except Trouble as error:
         tell(f"{said}: {error}")

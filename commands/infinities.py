@@ -7,7 +7,7 @@ from . import house, kinds
 from .line import AS_STORE, JSON, Line
 
 LINE = Line("[STORE]", options=[JSON, AS_STORE], example="knot infinities samples/four.store")
-ENDS = house.Text("[0-9]+ [0-9]+ [0-9]+ [0-9]+ (?:red|green|blue)", "records R values V", rows=lambda records, values: records)
+ENDS = house.Text(5, "records values", rows=lambda records, values: records)
 
 
 def facts_of(text):

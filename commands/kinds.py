@@ -5,15 +5,16 @@ Neither form has a header, so that the bytes of one may pass for the other: the 
 A file looks like something else than the store that it is given as when one of its records is refused and
 
 - it begins as a DDS file or a Portable Float Map does, or
-- the other reading has records, and none of them is refused, or
+- the other reading fits better: it has records, and none of them is refused, or at most a quarter of the share that is refused here, or
 - it has more than one record, and more than half of them are refused.
 
-A length that no such store has counts as a refused record. So a store without a refused record always passes, as an empty one does, and a
+A length that no such store has counts as all of it refused. So a store without a refused record always passes, as an empty one does, and a
 single refused record is told as what it is: a faulty record. A store of black tiles reads as records with a place too, nearly all of them in
 one place: as such a store counts only one of which three quarters of the placed records have places of their own.
-"""
-import re
 
+A whole probe never passes for a store of 24-byte records. Read so, its first, fourth, seventh .. record has its face and column where a record's
+spare bytes are: on face 0 and in column 0 an edge of n blocks has n of them, and there are 2 n n.
+"""
 from . import house
 
 # The two forms of a store by the bytes of a record; face, column and row of a record that is not placed.
@@ -22,16 +23,7 @@ NO_PLACE = b"\xff\0\0\0\0"
 # The most bytes of a store of either form: of a longer file one byte more is read, which is enough to refuse it.
 MOST = house.PLACED_STORE
 
-SIGNATURES = {
-    rb"DDS \x7c\0\0\0": "a DDS file",
-    rb"PF\n[0-9]+ [0-9]+\n": "a Portable Float Map",
-}
-CHECKING = house.Text(
-    "[0-9]+ [0-9]+ (?:1|7|12|17)",
-    "records R refused X damaged D",
-    rows=lambda records, refused, damaged: refused + damaged,
-    records=lambda records, refused, damaged: records,
-)
+CHECKING = house.Text(3, "records refused damaged", rows=lambda records, refused, damaged: refused + damaged, records=lambda records, *_: records)
 
 
 class Reading:
@@ -57,9 +49,12 @@ class Reading:
         """Three quarters of the placed records have places of their own, which those of a true store of that form have."""
         return self.form == PLAIN or 4 * len(set(self.places)) >= 3 * len(self.places)
 
-    def fits(self):
-        """There are records, none is refused, and their places are not nearly all one."""
-        return self.records > 0 and not self.has_refused() and self.has_places_apart()
+    def share(self):
+        """How much of it is refused."""
+        return 1 if self.bad_length else self.refused / max(self.records, 1)
+
+    def fits_better(self, own):
+        return self.records > 0 and self.has_places_apart() and 4 * self.share() <= own.share()
 
     def mostly_refused(self):
         return self.records > 1 and 2 * self.refused > self.records
@@ -69,27 +64,34 @@ def store_in_words(form, records):
     return f"a store of {records:,} record{'' if records == 1 else 's'}{' with a place, such as a probe' if form == PLACED else ' of 24 bytes'}"
 
 
+def signature_of(data):
+    """What a file is that begins as one with a header does. The byte of a first record's format is then none: no store begins so unless that
+    record is refused."""
+    if data.startswith(b"DDS \x7c\0\0\0"):
+        return "a DDS file"
+    if data.startswith(b"PF\n") and data[3:5].replace(b" ", b"0").isdigit():
+        return "a Portable Float Map"
+    return None
+
+
 def looks_like(data, form):
     """What a file that is given as a store of `form` looks like instead, in words; None where it may well be that store."""
     own = Reading(data, form)
     if not own.has_refused():
         return None
-    for signature, words in SIGNATURES.items():
-        if re.match(signature, data):
-            return words
+    if signed := signature_of(data):
+        return signed
     other = Reading(data, PLACED if form == PLAIN else PLAIN)
-    if other.fits():
+    if other.fits_better(own):
         return store_in_words(other.form, other.records)
     return f"no store at all: {own.refused:,} of its {own.records:,} records are refused" if own.mostly_refused() else None
 
 
 def likelier_reading(data):
     """The reading of a file that has fewer of its records refused: that of 24-byte records where both have as many."""
-    def share(reading):
-        return 2 if reading.bad_length or not reading.has_places_apart() else reading.refused / max(reading.records, 1)
-
     plain = Reading(data, PLAIN)
-    return min(plain, Reading(data, PLACED), key=share) if plain.has_refused() else plain
+    placed = Reading(data, PLACED) if plain.has_refused() else plain
+    return placed if placed.has_places_apart() and placed.share() < plain.share() else plain
 
 
 def to_change(path, form, as_store):
@@ -113,7 +115,11 @@ def placed_to_change(path, as_store=False):
 def store_to_show(path, as_store=False):
     """The bytes of a store of 24-byte records for a command that only shows: with a remark where it looks like something else."""
     data = house.read(path, MOST)
+    remark_on(data, as_store)
+    return data
+
+
+def remark_on(data, as_store):
     looks = None if as_store else looks_like(data, PLAIN)
     if looks:
         house.remark(f"it looks like {looks}; --as-store silences this")
-    return data

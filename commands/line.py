@@ -26,7 +26,6 @@ class Option:
 
 AS_STORE = Option("--as-store", "take the file as it is given, whatever it looks like")
 JSON = Option("--json", "print JSON, for other programs; a refusal is JSON too")
-HELP = Option("-h, --help", "print this")
 
 
 class Form:
@@ -50,13 +49,10 @@ class Form:
 
 
 class Asked:
-    """What a command line asks for, by name. What no form names is None."""
+    """What a command line asks for, by name. An operand of another form is None."""
 
     def __init__(self, names):
         self.__dict__ = names
-
-    def __getattr__(self, name):
-        return None
 
 
 class Line:
@@ -72,7 +68,8 @@ class Line:
             raise Usage(f"it takes {' or '.join(form.text for form in chosen or self.forms)}, and {self.counted(operands)}")
         flags = {option.key: option in given for option in self.options if option.value is None}
         values = {option.key: given.get(option) for option in self.options if option.value is not None}
-        return Asked({**flags, **values, **form.named(operands), "chosen": form.text})
+        none = {name: None for other in self.forms for name in other.named([])}
+        return Asked({**none, **flags, **values, **form.named(operands), "chosen": form.text})
 
     @staticmethod
     def counted(operands):
@@ -106,30 +103,12 @@ class Line:
         file = "" if name.startswith("--") else f"; a file of that name is ./{shown(name, 40)}"
         return f"there is no option '{shown(name, 40)}'{close}{file}"
 
-    def usage(self, command):
-        inside = {name for form in self.forms for name in form.options}
-        free = "[OPTIONS] " if any(option.name not in inside for option in self.options) else ""
-        return "\n".join(f"{'usage:' if k == 0 else '      '} knot {command} {free}{form.text}" for k, form in enumerate(self.forms))
-
 
 def meant(word, known):
     """What a wrong word may have been meant to be, as the end of a message."""
     import difflib
     close = difflib.get_close_matches(word[:40], known, 1)
     return f": did you mean '{close[0]}'?" if close else ""
-
-
-def help_of(name, module):
-    """What `knot COMMAND --help` prints: usage, what it does, options, statuses, an example."""
-    text, line = module.__doc__.strip(), getattr(module, "LINE", None)
-    if line is None:
-        return f"{text}\n\n{STATUSES}\n"
-    options = [*line.options, HELP]
-    width = max(len(option.told()) for option in options)
-    lines = [line.usage(name), "", text, "", "options:", *(f"  {option.told():<{width}}  {option.help}" for option in options), "", line.statuses]
-    if line.example:
-        lines += ["", "example:", *(f"  $ {example}" for example in line.example.splitlines())]
-    return "\n".join(lines) + "\n"
 
 
 def number(word, what, most=None):

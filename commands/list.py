@@ -36,9 +36,21 @@ def facts_of(text):
     }
 
 
+def listed(asked):
+    """The listing, and a remark where the file looks like something else: a store without a refused record never does."""
+    store = house.read(asked.store, kinds.MOST)
+    try:
+        text = house.listed(store, asked.strict)
+    except house.Refused:
+        kinds.remark_on(store, asked.as_store)
+        raise
+    if not text.endswith(b" bad 0\n"):
+        kinds.remark_on(store, asked.as_store)
+    return text
+
+
 def run(asked):
-    store = kinds.store_to_show(asked.store, asked.as_store)
-    text = house.listed(store, asked.strict)
+    text = listed(asked)
     if asked.json:
         house.put_json({"name": house.read_last, **facts_of(text)})
         return

@@ -1,15 +1,18 @@
 """A `knot` whose programs fail: an installation of its own in which a script stands for each program.
 
 Each script hands on what the true program answers, which is asked once and kept, and spoils it as the environment says: MODE for the program
-NAME. So each command is tried with each of its programs ending early, printing nothing, too much or too little, failing, or warning first.
+NAME. So each command is tried with each of its programs ending early, printing nothing, too much or too little, failing behind whole output, or
+warning first.
 """
 import hashlib
 import os
 import shutil
-import subprocess
 import sys
 
 from harness import ROOT, SAMPLES, count, is_wrong, run, wanted
+
+sys.path.insert(0, str(ROOT))
+from commands.programs import program_at  # noqa: E402
 
 SCRIPT = """#!{python} -ISB
 import hashlib, os, sys
@@ -26,7 +29,7 @@ out, told = open(kept, "rb").read(), open(kept + ".told", "rb").read()
 mode = os.environ.get("MODE") if os.environ.get("NAME") == name else None
 if mode == "warns":
     os.write(2, b"warning: cannot set the locale\\n")
-if mode in ("half", "fails", "killed"):
+if mode in ("half", "killed"):
     out = out[:len(out) // 2]
 elif mode == "nothing":
     out = b""
@@ -42,6 +45,8 @@ if mode == "killed":
     os.kill(os.getpid(), 9)
 sys.exit(7 if mode == "fails" else 0)
 """
+# The programs that the commands run.
+NAMES = {path.parent.parent.name for path in (ROOT / "crates").glob("*/src/main.rt")} - {"replay", "pixel_limits", "store_limits", "float_patterns", "decode_bc7"} | {"checking"}
 # How an answer is spoiled: each way at the first command that runs a program, the first three at every other one.
 SPOILED = ["nothing", "half", "fails", "lost", "more", "killed"]
 
@@ -66,23 +71,26 @@ def commands(folder):
     }
 
 
+def built():
+    """Where each program is, proved and built where it was not."""
+    return {name: program_at(name) for name in sorted(NAMES)}
+
+
 def house_of(folder):
     """An installation whose programs are scripts: its knot, and the file that names the programs that a command has run."""
     house = folder / "lib/knotpasture"
     for part in ("programs", "tools", "commands"):
         (house / part).mkdir(parents=True)
     shutil.copytree(ROOT / "commands", house / "commands", dirs_exist_ok=True, ignore=shutil.ignore_patterns("__pycache__"))
+    if (ROOT / "web/page").is_dir():
+        shutil.copytree(ROOT / "web/page", house / "web/page")
     for file in ("knot", "VERSION", "python/knotpasture/words.py"):
         shutil.copy(ROOT / file, house)
     (house / "BUILT").write_text("commit of the test\nkit of the test\n")
     (house / "tools/run").write_text('#!/bin/sh\nexec "$@"\n')
     (house / "tools/run").chmod(0o755)
     (folder / "kept").mkdir()
-    programs = {path.parent.parent.name: None for path in (ROOT / "crates").glob("*/src/main.rt")} | {"checking": None}
-    for name in programs:
-        subprocess.run([ROOT / "tools/prove", name], stdout=subprocess.DEVNULL, stderr=subprocess.DEVNULL)
-        built = [ROOT / "programs" / name, ROOT / "target/built" / name]
-        programs[name] = next((str(path) for path in built if path.is_file()), None)
+    programs = built()
     script = SCRIPT.format(python=sys.executable, used=str(folder / "used"), kept=str(folder / "kept"), run=str(ROOT / "tools/run"), programs=programs)
     for name in programs:
         (house / "programs" / name).write_text(script)
@@ -109,11 +117,14 @@ def uses_kinds(command):
 
 
 def failing_programs(folder):
-    if not wanted("program"):
+    asked = {command: words for command, words in commands(folder).items()
+             if any(wanted(f"program {name} of {command}: {mode}") for name in NAMES for mode in [*SPOILED, "warns"])}
+    changed = wanted("program that was changed")
+    if not asked and not changed:
         return
     knot, used = house_of(folder)
     met = set()
-    for command, words in commands(folder).items():
+    for command, words in asked.items():
         used.unlink(missing_ok=True)
         true = outcome(knot, command, words, folder)
         if true[0] != 0 or true[2]:
@@ -136,7 +147,8 @@ def failing_programs(folder):
                 warned = outcome(knot, command, words, folder, MODE="warns", NAME=name)
                 if warned != true:
                     is_wrong(case, f"{warned[0]} {warned[1][:80]!r} {warned[2]}, and not as without the warning")
-    changed_program(knot, folder)
+    if changed:
+        changed_program(knot, folder)
 
 
 def changed_program(knot, folder):
@@ -147,6 +159,10 @@ def changed_program(knot, folder):
     status, out, told, _ = outcome(knot, "list", [SAMPLES / "four.store"], folder)
     if (status, out) != (3, b"") or "the program listing is not the one that was installed" not in told[0]:
         is_wrong("program that was changed", f"{status} {out!r} {told}")
+    (knot.parent / "programs/checking").unlink()
+    status, out, told, _ = outcome(knot, "check", [SAMPLES / "four.store"], folder)
+    if (status, out) != (3, b"") or "the program checking is missing from this installation" not in told[0]:
+        is_wrong("program that is missing", f"{status} {out!r} {told}")
     status, out, told, _ = outcome(knot, "--check", [], folder)
-    if (status, out) != (3, b"") or "programs/listing is another" not in told[0]:
+    if (status, out) != (3, b"") or "programs/listing is another" not in told[0] or "programs/checking: no such file" not in told[0]:
         is_wrong("program that was changed, --check", f"{status} {out!r} {told}")

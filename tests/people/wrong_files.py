@@ -47,6 +47,7 @@ def files():
         "a store of black tiles, one refused": b"".join(record(n, n == 1 and 2, BLACK) for n in range(12)),
         "a probe of edge 2": probe(2),
         "a probe of edge 15, black": probe(15, BLACK),
+        "a probe of edge 15, black, one record refused": probe(15, BLACK)[:-32] + placed(9, 7, 0, 0),
         "a probe of edge 16": probe(16),
         "5 records with a place": b"".join(faces[:5]),
         "6 records with a place, one refused": b"".join(faces[:5]) + placed(5, 7, 0, 0),
@@ -115,7 +116,8 @@ def wrong_files(folder):
     if not wanted("wrong file"):
         return
     seen = lines_of(table(folder))
-    page = [line for line in PAGE.read_text().splitlines() if line.startswith("|")]
+    text = PAGE.read_text()
+    page = text[text.find(seen[0]):].split("\n\n")[0].splitlines() if seen[0] in text else []
     for line in sorted(set(seen) ^ set(page)):
         is_wrong("wrong file, docs/TESTING.md", f"{'seen' if line in seen else 'on the page'}: {line}")
     overridden(folder)
@@ -134,7 +136,7 @@ def overridden(folder):
         check(f"wrong file, {command} --as-store", [command, "--as-store", path], 0)
     out.unlink(missing_ok=True)
     check("wrong file, why", ["place", path, out], 1, b"store refused 28\n", f"{path}: refused, 28: it looks like a store of 24 records with a place, such as a probe; --as-store overrides")
-    check("wrong file, place --as-store", ["place", path, out, "--as-store"], 1, b"store refused 7\n", "refused, 7")
+    check("wrong file, place --as-store", ["place", SAMPLES / "small.probe", out, "--as-store"], 1, b"store refused 7\n", "refused, 7")
     check("wrong file, record --as-store", ["record", "append", path, one, out, "--as-store"], 0, b"")
     text = folder / "text"
     text.write_bytes(run([ROOT / "knot", "fields", SAMPLES / "lamp.block", "unsigned"]).stdout)

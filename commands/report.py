@@ -18,6 +18,7 @@ import hashlib
 import html
 import json
 import os
+import pathlib
 import re
 import shlex
 import stat
@@ -26,7 +27,8 @@ import struct
 
 from . import audit, clean, house, infinities
 
-PAGE, SHARED = house.ROOT / "commands/page", house.ROOT / "web/page"
+ROOT = pathlib.Path(__file__).resolve().parent.parent
+PAGE, SHARED = ROOT / "commands/page", ROOT / "web/page"
 STYLES = [SHARED / "shared.css", PAGE / "page.css"]
 SCRIPTS = [SHARED / name for name in ("colours.js", "records.js", "endpoints.js", "draw.js", "cards.js")] + [PAGE / "page.js"]
 # the bytes of a record's 48 values, and of its fields

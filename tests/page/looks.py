@@ -9,7 +9,7 @@ import shlex
 import struct
 
 from browser import Stopped
-from stores import Facts, own_exposure, shows, transformed
+from stores import PRECISION, Facts, own_exposure, shows, transformed
 
 # canvas points of a pixel's side: of a large tile, and in print
 LARGE, PRINTED = 24, 12
@@ -187,10 +187,12 @@ def look_at_stored(view, facts, card, at, root, n):
         check((word == "differs") == (left != right) and (marks > 0) == (left != right), f"{facts.name}: {name} of {card} is marked where it differs: {word}")
     a, b = records[0], records[1]
     told = view.run("return document.querySelectorAll(`${arguments[0]} .difference`)[arguments[1]].textContent", card, at)
-    if a[0] != b[0] and a[1:] == b[1:] and {a[0], b[0]} <= {3, 4, 5}:
+    if a[0] != b[0] and a[1:] == b[1:] and PRECISION[a[0]] == PRECISION[b[0]]:
         check(told.startswith("Other mode, same endpoints"), f"{facts.name}: other mode, same endpoints: {told}")
-    if a[0] == b[0]:
-        check("mode" not in told.split(", same picture")[0] or told.startswith("Same mode"), f"{facts.name}: the mode is the same: {told}")
+    elif a[1:] != b[1:]:
+        check(not told.startswith("Other mode, same endpoints"), f"{facts.name}: the endpoints are other ones: {told}")
+    for which, name in ((0, "mode"), (2, "partition"), (3, "indices")):
+        check(not told.startswith("Same picture, other ") or (name in told) == (a[which] != b[which]), f"{facts.name}: {name} of {card}: {told}")
 
 
 def look_at_endpoints(view, facts, page):

@@ -163,11 +163,9 @@ function alikeShown(part, records, root, alike, after) {
 }
 
 // The root of a class without alike records, and its copies.
-function copiesBeside(part, records, root, copies, after) {
-  const readout = readoutOf();
-  return make("div", { class: "beside" },
-    make("div", { class: "tiles one" }, tileFigure(part, records, root, `${records.pictureTold(root)}: stays`, readout, after), readout),
-    make("div", { class: "copies" }, ...copiesTable(records, copies)));
+function copiesShown(part, records, root, copies, after) {
+  const readout = readoutOf(), figure = tileFigure(part, records, root, `${records.pictureTold(root)}: stays`, readout, after);
+  return [make("div", { class: "beside" }, figure, make("div", { class: "copies" }, ...copiesTable(records, copies))), readout];
 }
 
 // One card for the records that show one picture: those that look alike are drawn beside the first, copies are rows.
@@ -179,7 +177,7 @@ function classCard(part, records, group) {
     make("h3", { tabindex: "-1" }, `Record ${root}, tile ${records.tile(root)}: ${classTold(group)}`),
     make("p", { class: "words" }, ...words.map(([some, name, one, more]) => make("span", { class: `word ${name}` }, count(some.length, one, more)))));
   if (alike.length) part.element.append(...alikeShown(part, records, root, alike, tell), ...(copies.length ? copiesTable(records, copies) : []));
-  else part.element.append(copiesBeside(part, records, root, copies, tell));
+  else part.element.append(...copiesShown(part, records, root, copies, tell));
   part.element.append(exposed, make("div", { class: "folds" },
     ...(alike.length ? [] : [storedFold(records, root)]), valuesFold(records, root), fold("Why is that safe?", () => make("p", {}, coverTold(group)))));
 }

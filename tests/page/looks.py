@@ -132,12 +132,6 @@ def look_at_next(view, facts, page):
 # ---- cards
 
 
-def stored_of(fields):
-    """The endpoints as stored and the lines of fields, of what `knot fields` prints."""
-    ends = [[int(number) for number in re.findall(r" (\d+)", line.split("red", 1)[1])] for line in fields if line.startswith("endpoint")]
-    return ends, dict((match[1], line[len(match[1]) + 1:]) for line in fields for match in [re.match(r"(endpoint \d|indices \d|\w+)", line)])
-
-
 def look_at_cards(view, facts, page):
     """A card for each picture that several records show, those with alike records first; what each says."""
     classes = facts.classes()
@@ -169,11 +163,10 @@ def look_at_stored(view, facts, card, at, root, n):
     shown = {name: (left, right, word, marks) for name, left, right, word, marks in rows}
     records = {}
     for side, record in enumerate((root, n)):
-        ends, lines = stored_of(facts.fields(record))
-        mode, signed = int(lines["mode"]), lines["format"] == "signed"
+        signed, mode, ends, partition, indices = facts.fields(record)
         moved = transformed(signed, mode, ends)
-        wanted = {name: words for name, words in lines.items() if not name.startswith("endpoint") and name != "region1"}
-        wanted.setdefault("partition", "one region")
+        wanted = {"format": "signed" if signed else "unsigned", "mode": str(mode), "partition": "one region" if partition is None else str(partition)}
+        wanted |= {f"indices {row}": " ".join(map(str, some)) for row, some in enumerate(indices)}
         for e in range(4):
             wanted[f"endpoint {e}"] = " ".join(map(str, ends[e])) if e < len(ends) else "none"
             wanted[f"endpoint {e} transformed"] = " ".join(map(str, moved[e])).replace("-", "−") if e < len(ends) else "none"
@@ -182,7 +175,7 @@ def look_at_stored(view, facts, card, at, root, n):
         wanted = {name: words for name, words in wanted.items() if name in shown or words != "none"}
         seen = {name: cells[side] for name, cells in shown.items()}
         check(seen == wanted, f"{facts.name}: what is stored in record {record}: {sorted(set(seen.items()) ^ set(wanted.items()))}")
-        records[side] = (mode, moved, wanted["partition"], [words for name, words in wanted.items() if name.startswith("indices")], signed)
+        records[side] = (mode, moved, partition, indices, signed)
     for name, (left, right, word, marks) in shown.items():
         check((word == "differs") == (left != right) and (marks > 0) == (left != right), f"{facts.name}: {name} of {card} is marked where it differs: {word}")
     a, b = records[0], records[1]

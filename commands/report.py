@@ -226,7 +226,7 @@ def next_steps(facts):
         "Sign, in the lines above or on the first printed sheet.",
         "Run the clean-up. It refuses any store but the one that was signed, and writes the receipt before the cleaned store."
         + command("clean-command", f"knot clean {store} {out} --signed {facts.before} --receipt {receipt}"),
-        "Check the result: the sum must be the second one above." + command("check-command", f"echo '{facts.after}  '{out} | sha256sum -c"),
+        "Check the result: its sum must be the second one above." + command("check-command", f"printf '%s  %s\\n' {facts.after} {out} | sha256sum -c"),
         "Keep the receipt beside the cleaned store. It has the tile number of each removed record and the record that stays for it. With it the clean-up can be undone:"
         + command("restore-command", f"knot restore {out} {receipt} {restored}"),
     ]

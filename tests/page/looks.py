@@ -123,7 +123,7 @@ def look_at_next(view, facts, page):
     commands = [shlex.split(view.run(f"return document.getElementById('{name}-command').textContent")) for name in ("clean", "check", "restore")]
     out, receipt = facts.name + ".cleaned", facts.name + ".receipt"
     check(commands[0] == ["knot", "clean", facts.name, out, "--signed", before, "--receipt", receipt], f"{facts.name}: the clean-up to copy: {commands[0]}")
-    check(commands[1] == ["echo", f"{after}  {out}", "|", "sha256sum", "-c"], f"{facts.name}: the check to copy: {commands[1]}")
+    check(commands[1] == ["printf", "%s  %s\\n", after, out, "|", "sha256sum", "-c"], f"{facts.name}: the check to copy: {commands[1]}")
     check(commands[2] == ["knot", "restore", out, receipt, facts.name + ".restored"], f"{facts.name}: the way back to copy: {commands[2]}")
     view.settle("document.querySelector('[data-copy=clean-command]').click()")
     check(view.run("return getSelection().toString().trim() === document.getElementById('clean-command').textContent"), f"{facts.name}: the button takes the command")

@@ -18,6 +18,7 @@ import hashlib
 import html
 import json
 import os
+import pathlib
 import re
 import shlex
 import stat
@@ -26,7 +27,8 @@ import struct
 
 from . import audit, clean, house, infinities
 
-PAGE, SHARED = house.ROOT / "commands/page", house.ROOT / "web/page"
+ROOT = pathlib.Path(__file__).resolve().parent.parent
+PAGE, SHARED = ROOT / "commands/page", ROOT / "web/page"
 STYLES = [SHARED / "shared.css", PAGE / "page.css"]
 SCRIPTS = [SHARED / name for name in ("colours.js", "records.js", "endpoints.js", "draw.js", "cards.js")] + [PAGE / "page.js"]
 # the bytes of a record's 48 values, and of its fields
@@ -224,7 +226,7 @@ def next_steps(facts):
         "Sign, in the lines above or on the first printed sheet.",
         "Run the clean-up. It refuses any store but the one that was signed, and writes the receipt before the cleaned store."
         + command("clean-command", f"knot clean {store} {out} --signed {facts.before} --receipt {receipt}"),
-        "Check the result: the sum must be the second one above." + command("check-command", f"echo '{facts.after}  '{out} | sha256sum -c"),
+        "Check the result: its sum must be the second one above." + command("check-command", f"printf '%s  %s\\n' {facts.after} {out} | sha256sum -c"),
         "Keep the receipt beside the cleaned store. It has the tile number of each removed record and the record that stays for it. With it the clean-up can be undone:"
         + command("restore-command", f"knot restore {out} {receipt} {restored}"),
     ]

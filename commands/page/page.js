@@ -15,7 +15,7 @@ const slider = at("exposure"), white = at("white");
 function sightTold() {
   if (sight.way === "false") return "Each colour is one stop";
   if (sight.way === "one") return `${stopsTold(sight.stops)}: ${whiteTold(sight.stops)}`;
-  return sight.shift === 0 ? "0 stops: no value is above white" : `${stopsTold(sight.shift)} from its own`;
+  return sight.shift === 0 ? "0 stops: none above white" : `${stopsTold(sight.shift)} from its own`;
 }
 
 function expose() {
@@ -54,7 +54,7 @@ for (const choice of document.querySelectorAll("[name=way]")) choice.addEventLis
 
 const cards = new Map();  // root -> its card
 for (const group of classes) {
-  const card = make("article", { class: "card class", id: `class-${group.root}`, "aria-label": `Record ${group.root}: ${classTold(group)}` });
+  const card = make("article", { class: `card class${group.alike.length ? " wide" : ""}`, id: `class-${group.root}`, "aria-label": `Record ${group.root}: ${classTold(group)}` });
   cards.set(group.root, card);
   at("classes").append(card);
   scene.part(card, (part) => classCard(part, records, group));
@@ -80,7 +80,7 @@ at("filter").addEventListener("submit", (event) => event.preventDefault());
 
 // ---- all records
 
-const CHUNK = 100, SHEET_TILE = 62;  // records in a part of the sheet, and the room of one
+const CHUNK = 100, SHEET_TILE = 62;  // records in a part of the sheet or some more, and the room of one
 const sheet = at("sheet");
 
 function fillSheet() {
@@ -88,8 +88,9 @@ function fillSheet() {
   sheet.replaceChildren();
   const kind = at("sheet-kind").value, numbers = range(records.count).filter((n) => kind === "" || records.kinds[n] === kind);
   const across = Math.max(1, Math.floor(sheet.clientWidth / SHEET_TILE));
-  for (let first = 0; first < numbers.length; first += CHUNK) {
-    const some = numbers.slice(first, first + CHUNK);
+  const chunk = across * Math.ceil(CHUNK / across);
+  for (let first = 0; first < numbers.length; first += chunk) {
+    const some = numbers.slice(first, first + chunk);
     const list = make("ul", { class: "sheet", "aria-label": `Records ${some[0]} to ${some[some.length - 1]}`, style: `min-height: ${Math.ceil(some.length / across) * 4.6}rem` });
     sheet.append(list);
     scene.part(list, (part) => sheetPart(part, records, some, data.exposure));
@@ -157,8 +158,7 @@ function jump(hash) {
 }
 
 function goBack() {
-  const was = trail.pop();
-  if (!was) return;
+  const was = trail.pop() ?? { hash: "", top: 0, focus: null };
   at("back").disabled = trail.length === 0;
   history.replaceState(null, "", was.hash || location.pathname + location.search);
   follow();

@@ -81,7 +81,8 @@ class Browser:
 
     def printed(self):
         """The page as a PDF of A4 sheets; sizes are in inches."""
-        return base64.b64decode(self.command("Page.printToPDF", printBackground=True, preferCSSPageSize=True, paperWidth=8.27, paperHeight=11.69)["data"])
+        how = {"printBackground": True, "preferCSSPageSize": True, "generateTaggedPDF": False, "paperWidth": 8.27, "paperHeight": 11.69}
+        return base64.b64decode(self.command("Page.printToPDF", **how)["data"])
 
 
 @contextlib.contextmanager

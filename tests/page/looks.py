@@ -9,7 +9,7 @@ import shlex
 import struct
 
 from browser import Stopped
-from stores import Facts, own_exposure, shows, transformed
+from stores import PRECISION, Facts, own_exposure, shows, transformed
 
 # canvas points of a pixel's side: of a large tile, and in print
 LARGE, PRINTED = 24, 12
@@ -123,19 +123,13 @@ def look_at_next(view, facts, page):
     commands = [shlex.split(view.run(f"return document.getElementById('{name}-command').textContent")) for name in ("clean", "check", "restore")]
     out, receipt = facts.name + ".cleaned", facts.name + ".receipt"
     check(commands[0] == ["knot", "clean", facts.name, out, "--signed", before, "--receipt", receipt], f"{facts.name}: the clean-up to copy: {commands[0]}")
-    check(commands[1] == ["echo", f"{after}  {out}", "|", "sha256sum", "-c"], f"{facts.name}: the check to copy: {commands[1]}")
+    check(commands[1] == ["printf", "%s  %s\\n", after, out, "|", "sha256sum", "-c"], f"{facts.name}: the check to copy: {commands[1]}")
     check(commands[2] == ["knot", "restore", out, receipt, facts.name + ".restored"], f"{facts.name}: the way back to copy: {commands[2]}")
     view.settle("document.querySelector('[data-copy=clean-command]').click()")
     check(view.run("return getSelection().toString().trim() === document.getElementById('clean-command').textContent"), f"{facts.name}: the button takes the command")
 
 
 # ---- cards
-
-
-def stored_of(fields):
-    """The endpoints as stored and the lines of fields, of what `knot fields` prints."""
-    ends = [[int(number) for number in re.findall(r" (\d+)", line.split("red", 1)[1])] for line in fields if line.startswith("endpoint")]
-    return ends, dict((match[1], line[len(match[1]) + 1:]) for line in fields for match in [re.match(r"(endpoint \d|indices \d|\w+)", line)])
 
 
 def look_at_cards(view, facts, page):
@@ -155,7 +149,9 @@ def look_at_cards(view, facts, page):
         check(not alike or plural(len(alike), "record looks like it and stays", "records look like it and stay") in told, f"{facts.name}: the alike ones of {card}")
         view.settle("for (const more of document.querySelectorAll(`${words[0]} .more`)) more.click()", card)
         rows = view.run("return [...document.querySelectorAll(`${arguments[0]} tr[data-copy]`)].map((row) => [...row.cells].map((cell) => cell.textContent))", card)
-        check(rows == [[f"record {n}", tile(n), f"record {stays[n]}", tile(stays[n])] for n in copies], f"{facts.name}: the rows of {card}: {rows[:3]}")
+        others = any(stays[n] != root for n in copies)
+        wanted = [[f"record {n}", tile(n)] + ([f"record {stays[n]}", tile(stays[n])] if others else []) for n in copies]
+        check(rows == wanted, f"{facts.name}: the rows of {card}: {rows[:3]} and not {wanted[:3]}")
         drawn = view.run("return [...document.querySelectorAll(`${arguments[0]} canvas.tile`)].map((one) => Number(one.dataset.record))", card)
         check(drawn == ([n for one in alike[:8] for n in (root, one)] or [root]), f"{facts.name}: the tiles of {card}: {drawn}")
         for at, n in enumerate(alike[:2]):
@@ -169,11 +165,10 @@ def look_at_stored(view, facts, card, at, root, n):
     shown = {name: (left, right, word, marks) for name, left, right, word, marks in rows}
     records = {}
     for side, record in enumerate((root, n)):
-        ends, lines = stored_of(facts.fields(record))
-        mode, signed = int(lines["mode"]), lines["format"] == "signed"
+        signed, mode, ends, partition, indices = facts.fields(record)
         moved = transformed(signed, mode, ends)
-        wanted = {name: words for name, words in lines.items() if not name.startswith("endpoint") and name != "region1"}
-        wanted.setdefault("partition", "one region")
+        wanted = {"format": "signed" if signed else "unsigned", "mode": str(mode), "partition": "one region" if partition is None else str(partition)}
+        wanted |= {f"indices {row}": " ".join(map(str, some)) for row, some in enumerate(indices)}
         for e in range(4):
             wanted[f"endpoint {e}"] = " ".join(map(str, ends[e])) if e < len(ends) else "none"
             wanted[f"endpoint {e} transformed"] = " ".join(map(str, moved[e])).replace("-", "−") if e < len(ends) else "none"
@@ -182,15 +177,17 @@ def look_at_stored(view, facts, card, at, root, n):
         wanted = {name: words for name, words in wanted.items() if name in shown or words != "none"}
         seen = {name: cells[side] for name, cells in shown.items()}
         check(seen == wanted, f"{facts.name}: what is stored in record {record}: {sorted(set(seen.items()) ^ set(wanted.items()))}")
-        records[side] = (mode, moved, wanted["partition"], [words for name, words in wanted.items() if name.startswith("indices")], signed)
+        records[side] = (mode, moved, partition, indices, signed)
     for name, (left, right, word, marks) in shown.items():
         check((word == "differs") == (left != right) and (marks > 0) == (left != right), f"{facts.name}: {name} of {card} is marked where it differs: {word}")
     a, b = records[0], records[1]
     told = view.run("return document.querySelectorAll(`${arguments[0]} .difference`)[arguments[1]].textContent", card, at)
-    if a[0] != b[0] and a[1:] == b[1:] and {a[0], b[0]} <= {3, 4, 5}:
+    if a[0] != b[0] and a[1:] == b[1:] and PRECISION[a[0]] == PRECISION[b[0]]:
         check(told.startswith("Other mode, same endpoints"), f"{facts.name}: other mode, same endpoints: {told}")
-    if a[0] == b[0]:
-        check("mode" not in told.split(", same picture")[0] or told.startswith("Same mode"), f"{facts.name}: the mode is the same: {told}")
+    elif a[1:] != b[1:]:
+        check(not told.startswith("Other mode, same endpoints"), f"{facts.name}: the endpoints are other ones: {told}")
+    for which, name in ((0, "mode"), (2, "partition"), (3, "indices")):
+        check(not told.startswith("Same picture, other ") or (name in told) == (a[which] != b[which]), f"{facts.name}: {name} of {card}: {told}")
 
 
 def look_at_endpoints(view, facts, page):

@@ -110,9 +110,17 @@ class Facts:
     def count(self, kind):
         return self.kinds.count(kind)
 
-    @functools.cache
+    @functools.cached_property
+    def extracted(self):
+        out = ran("extract_fields", b"".join(records_of(self.store)))
+        return [out[at + 1:at + 45] for at in range(0, len(out), 45)]
+
     def fields(self, n):
-        return knot("fields", self.path, str(n)).stdout.decode().splitlines()
+        """What is stored in a record: signed or not, mode, endpoints, partition, indices row by row."""
+        form, mode, *numbers = struct.unpack("<BB12HBB16B", self.extracted[n])
+        regions = 2 if mode <= 10 else 1
+        ends = [numbers[3 * e:3 * e + 3] for e in range(2 * regions)]
+        return form == 1, mode, ends, numbers[12] if regions == 2 else None, [numbers[14 + 4 * row:18 + 4 * row] for row in range(4)]
 
     def pixel(self, n, k):
         return self.values[n][3 * k:3 * k + 3]

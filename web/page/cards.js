@@ -117,11 +117,12 @@ function rowsShown(head, rows, first) {
   return [box, more];
 }
 
-function copiesTable(records, copies) {
-  const cell = (...children) => make("td", {}, ...children);
-  const rows = copies.map(({ record, stays }) => () => make("tr", { "data-copy": record },
-    cell(recordLink(record)), cell(String(records.tile(record))), cell(recordLink(stays)), cell(String(records.tile(stays)))));
-  return rowsShown(["removed", "its tile", "stays for it", "its tile"], rows, ROWS);
+// The copies of a class, a row each. Where each of them is a copy of the root, the record that stays goes without saying.
+function copiesTable(records, { root, copies }) {
+  const cell = (...children) => make("td", {}, ...children), ofRoot = copies.every((twin) => twin.stays === root);
+  const staying = (n) => ofRoot ? [] : [cell(recordLink(n)), cell(String(records.tile(n)))];
+  const rows = copies.map(({ record, stays }) => () => make("tr", { "data-copy": record }, cell(recordLink(record)), cell(String(records.tile(record))), ...staying(stays)));
+  return rowsShown(["removed", "its tile", ...(ofRoot ? [] : ["stays for it", "its tile"])], rows, ROWS);
 }
 
 // Why the theorem on copies is named or not, for those who ask.
@@ -163,11 +164,9 @@ function alikeShown(part, records, root, alike, after) {
 }
 
 // The root of a class without alike records, and its copies.
-function copiesBeside(part, records, root, copies, after) {
-  const readout = readoutOf();
-  return make("div", { class: "beside" },
-    make("div", { class: "tiles one" }, tileFigure(part, records, root, `${records.pictureTold(root)}: stays`, readout, after), readout),
-    make("div", { class: "copies" }, ...copiesTable(records, copies)));
+function copiesShown(part, records, group, after) {
+  const { root } = group, readout = readoutOf(), figure = tileFigure(part, records, root, `${records.pictureTold(root)}: stays`, readout, after);
+  return [make("div", { class: "beside" }, figure, make("div", { class: "copies" }, ...copiesTable(records, group))), readout];
 }
 
 // One card for the records that show one picture: those that look alike are drawn beside the first, copies are rows.
@@ -178,8 +177,8 @@ function classCard(part, records, group) {
   part.element.append(
     make("h3", { tabindex: "-1" }, `Record ${root}, tile ${records.tile(root)}: ${classTold(group)}`),
     make("p", { class: "words" }, ...words.map(([some, name, one, more]) => make("span", { class: `word ${name}` }, count(some.length, one, more)))));
-  if (alike.length) part.element.append(...alikeShown(part, records, root, alike, tell), ...(copies.length ? copiesTable(records, copies) : []));
-  else part.element.append(copiesBeside(part, records, root, copies, tell));
+  if (alike.length) part.element.append(...alikeShown(part, records, root, alike, tell), ...(copies.length ? copiesTable(records, group) : []));
+  else part.element.append(...copiesShown(part, records, group, tell));
   part.element.append(exposed, make("div", { class: "folds" },
     ...(alike.length ? [] : [storedFold(records, root)]), valuesFold(records, root), fold("Why is that safe?", () => make("p", {}, coverTold(group)))));
 }
@@ -201,7 +200,7 @@ function recordCard(part, records, n, reason) {
 
 // ---- a sheet of small tiles
 
-// Records first to end, a small tile each. `own` is the exposure that all of them are opened at.
+// Some records, a small tile each. `own` is the exposure that all of them are opened at.
 function sheetPart(part, records, numbers, own) {
   for (const n of numbers) {
     const [kind, sign, says] = records.kind(n), shown = records.hasPicture(n);

@@ -23,9 +23,6 @@ pub struct Restored {
 }
 
 impl Restored {
-    // The receipt's length is not a multiple of 8, or an entry does not fit the store.
-    pub const BAD_RECEIPT: u8 = 25;
-
     fn refused(answer: u8) -> Restored
         ensures { λ r. ⌜ r ≡ record { answer = answer; records = 0 } ⌝ }
     {
@@ -82,7 +79,7 @@ fn restore_refusal(cleaned: &[u8], receipt: &[u8], room: usize) -> u8
         return Answer::UNEVEN_STORE;
     }
     if !receipt_fits(receipt, total) {
-        return Restored::BAD_RECEIPT;
+        return Answer::BAD_RECEIPT;
     }
     if room < total * Record::SIZE {
         return Answer::SHORT_OUTPUT;

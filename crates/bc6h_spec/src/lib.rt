@@ -89,8 +89,10 @@ impl Answer {
 
     pub const NO_PIXEL: u8 = 24;
 
+    pub const BAD_RECEIPT: u8 = 25;
+
     // The constants are the numbers of specs/Answers.
-    pub fn all() -> [u8; 25]
+    pub fn all() -> [u8; 26]
         ensures { λ r. ⌜ r ≡ answers ⌝ }
     {
         [
@@ -119,6 +121,7 @@ impl Answer {
             Answer::TAKEN_PLACE,
             Answer::EMPTY_PLACE,
             Answer::NO_PIXEL,
+            Answer::BAD_RECEIPT,
         ]
     }
 }

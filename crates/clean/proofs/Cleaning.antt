@@ -5,7 +5,8 @@ use mathlib.Core.List.{List, _++_}
 use Prim.Native.Nat.{ℕ, zero, suc, _+_, _-_, _*_, _/_, _≤_, _<_}
 use native.Mathlib.Omega.{arith}
 use lib.ListN.{length, take, drop}
-use lib.Seq.{take-all, take-at, drop-at, drop-drop, paste, length-paste}
+use lib.Seq.{take-all, take-at, drop-at, paste, length-paste}
+use Rattle.laws.proofs.Pasting.{pasted}
 use Rattle.bc6h_spec.specs.Answers.{done}
 use Rattle.records.specs.Store.{recordSize, recordsIn}
 use Rattle.twins_spec.proofs.Listing as listing
@@ -47,19 +48,13 @@ module _ {store lent out : List ℕ} {n kept : ℕ} (s : SoFar store lent out n 
     front : length (left (goes store) store n) ≡ kept * recordSize
     front = left-length (goes store) store n (s .inside) ∙ ap (λ (k : ℕ). k * recordSize) (sym (s .counted))
 
-    pasted : paste out (kept * recordSize) (recordOf store n) recordSize
+    one-more : paste out (kept * recordSize) (recordOf store n) recordSize
         ≡ (left (goes store) store n ++ recordOf store n) ++ drop ((kept + 1) * recordSize) lent
-    pasted =
-        let l = left (goes store) store n in
-        let at = kept * recordSize in
-        let next : at + recordSize ≡ (kept + 1) * recordSize = omega arith in
-        let a : take at out ≡ l = ap (take at) (s .written) ∙ take-at l (drop at lent) at front in
-        let b : take recordSize (recordOf store n) ≡ recordOf store n =
-        take-all recordSize (recordOf store n) (omega (arith, record-length store n h)) in
-        let d : drop (at + recordSize) out ≡ drop ((kept + 1) * recordSize) lent =
-        sym (drop-drop recordSize at out) ∙ ap (drop recordSize) (ap (drop at) (s .written) ∙ drop-at l (drop at lent) at front)
-        ∙ drop-drop recordSize at lent ∙ ap (λ (k : ℕ). drop k lent) next in
-        rw (a, b, d)
+    one-more =
+        let next : kept * recordSize + recordSize ≡ (kept + 1) * recordSize = omega arith in
+        pasted (left (goes store) store n) (recordOf store n) lent out (kept * recordSize) recordSize front (s .written)
+        ∙ ap₂ (λ (x : List ℕ) (k : ℕ). (left (goes store) store n ++ x) ++ drop k lent)
+        (take-all recordSize (recordOf store n) (omega (arith, record-length store n h))) next
 
     pub so-far-more : {after : List ℕ} → goes store n ≡ false → after ≡ paste out (kept * recordSize) (recordOf store n) recordSize
         → SoFar store lent after (n + 1) (kept + 1)
@@ -68,7 +63,7 @@ module _ {store lent out : List ℕ} {n kept : ℕ} (s : SoFar store lent out n 
           inside = omega arith;
           counted = staying-more (goes store) n kept (s .counted) f;
           few = omega arith;
-          written = e ∙ pasted ∙ ap (λ (l : List ℕ). l ++ drop ((kept + 1) * recordSize) lent) (sym (left-more (goes store) store n f));
+          written = e ∙ one-more ∙ ap (λ (l : List ℕ). l ++ drop ((kept + 1) * recordSize) lent) (sym (left-more (goes store) store n f));
           same-length =
               ap length e
               ∙ length-paste out (kept * recordSize) (recordOf store n) recordSize (omega (arith, s .same-length)) (omega (arith, record-length store n h))

@@ -8,8 +8,8 @@ use native.Mathlib.Nat.{not-suc-le-zero, le-of-suc-le-suc, eq-or-lt-of-le}
 use native.Mathlib.Numerals.{add-one}
 use native.Mathlib.Omega.{arith}
 use lib.Dec.{eqb, ltb}
-use lib.ListN.{length, getD, take, drop, set, length-append, length-take, length-drop}
-use lib.Seq.{take-all, drop-at, take-append-le, drop-append-le, take-add, take-suc, getD-take, getD-drop, paste, paste-suc}
+use lib.ListN.{length, getD, take, drop, length-append, length-take, length-drop}
+use lib.Seq.{take-all, drop-at, take-append-le, drop-append-le, take-add, take-take, take-suc, getD-take, getD-drop, paste}
 use borrow.Author.Tests.{ltb-true, ltb-false}
 use Rattle.laws.specs.Pick.{pick}
 use Rattle.laws.specs.Made.{countOf}
@@ -28,14 +28,12 @@ pub record-byte : (store : List ℕ) (n k : ℕ) → k < recordSize → getD (re
 unfolding recordOf
 record-byte store n k h = getD-take recordSize (drop (n * recordSize) store) k 0 h ∙ getD-drop (n * recordSize) store k 0
 
--- a turn of the loop that copies it
-pub copy-more : (store : List ℕ) (n : ℕ) (lent out : List ℕ) (to k byte : ℕ) → n < recordsIn store → out ≡ paste lent to (recordOf store n) k
-    → byte ≡ getD store (n * recordSize + k) 0 → k < recordSize → to + k < length lent
-    → set out (to + k) byte ≡ paste lent to (recordOf store n) (k + 1)
-copy-more store n lent out to k byte h e b lk room =
-    let l : k < length (recordOf store n) = omega (arith, record-length store n h) in
-    ap₂ (λ (t : List ℕ) (x : ℕ). set t (to + k) x) e (b ∙ sym (record-byte store n k lk))
-    ∙ paste-suc lent to (recordOf store n) k 0 room l ∙ ap (paste lent to (recordOf store n)) (sym (add-one k))
+-- copied to lent bytes, as a part of the store
+pub record-pasted : (store : List ℕ) (n : ℕ) (lent : List ℕ) (to : ℕ)
+    → paste lent to (drop (n * recordSize) store) recordSize ≡ paste lent to (recordOf store n) recordSize
+unfolding recordOf
+record-pasted store n lent to =
+    ap (λ (x : List ℕ). take to lent ++ x ++ drop (to + recordSize) lent) (sym (take-take recordSize recordSize (drop (n * recordSize) store) (omega arith)))
 
 -- in a list that goes on, and at the seam of two
 pub record-front : (a b : List ℕ) (k : ℕ) → k * recordSize + recordSize ≤ length a → recordOf (a ++ b) k ≡ recordOf a k

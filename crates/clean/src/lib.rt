@@ -12,6 +12,7 @@ ghost use Rattle.clean.specs.Clean.{repeats, firstOf, recordOf, refusal,
 ghost use Rattle.clean.specs.Links.{bucketCount, mixedUpto, bucketOf, Linked, Met};
 use bc6h_spec::Answer;
 use bc6h_spec::Block;
+use copying::copy_part;
 use records::Record;
 use records::RecordReading;
 use records::record_at;
@@ -168,11 +169,13 @@ pub fn copy_record(store: &[u8], n: usize, out: &mut [u8], place: usize)
     requires { ⌜ place * recordSize + recordSize ≤ length (now out) ⌝ }
     ensures { λ _. ⌜ now (out .exit) ≡ paste (now (out .entry)) (place * recordSize) (recordOf (now (store .entry)) n) recordSize ⌝ }
 {
-    let from = n * Record::SIZE;
-    let to = place * Record::SIZE;
-    for k in 0..Record::SIZE {
-        out[to + k] = store[from + k];
-    }
+    copy_part(
+        store,
+        n * Record::SIZE,
+        Record::SIZE,
+        out,
+        place * Record::SIZE,
+    );
 }
 
 // Writes the records of a store that stay, in order and byte for byte, and counts those and the ones that are removed.

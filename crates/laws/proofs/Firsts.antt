@@ -1,5 +1,5 @@
 -- Laws of `firstBelow`: a search that passes by, finds or comes to the end, and what its number means. Assumes nothing.
-use mathlib.Core.Path.{_≡_, refl, sym, _∙_, ap, subst}
+use mathlib.Core.Path.{_≡_, refl, sym, _∙_, ap, ap₂, subst}
 use mathlib.Core.Bool.{Bool, true, false}
 use mathlib.Core.Logic.{⊎-elim}
 use Prim.Native.Nat.{ℕ, zero, suc, _+_, _≤_, _<_}
@@ -64,3 +64,10 @@ module _ (test : ℕ → Bool) where
       cases (ltb (firstBelow test n) n) (λ l. let b : firstBelow test n < n = ltb-true _ _ l in rw l (omega arith)) (λ l. rw (l, p) (omega arith)))
       (λ l. let i : firstBelow test n ≤ k = first-least n k l t in rw (lt-ltb (firstBelow test n) n (omega arith)) i)
       (eq-or-lt-of-le (le-of-suc-le-suc h))
+
+-- only the numbers below n count
+pub first-same : (f g : ℕ → Bool) (n : ℕ) → ((k : ℕ) → k < n → f k ≡ g k) → firstBelow f n ≡ firstBelow g n
+unfolding firstBelow
+first-same f g zero e = refl
+first-same f g (suc n) e =
+    ap₂ (λ (k : ℕ) (t : Bool). pick (ltb k n) k (pick t n (suc n))) (first-same f g n (λ k h. e k (omega arith))) (e n (omega arith))

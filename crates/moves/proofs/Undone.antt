@@ -7,13 +7,13 @@ use native.Mathlib.Omega.{arith}
 use lib.Dec.{eqb, ltb, lit<, lit≤}
 use lib.ListN.{length, getD, take, drop, length-take, length-drop}
 use lib.Seq.{ext-getD, getD-take, getD-drop}
-use borrow.Author.Tests.{lt-ltb, le-ltb, eq-eqb, ltb-true, ltb-false, eqb-true, eqb-false}
+use borrow.Author.Tests.{ltb-true, ltb-false, eqb-true, eqb-false}
 use Rattle.laws.specs.Pick.{pick}
 use Rattle.laws.proofs.Tests.{cases, both-true}
 use Rattle.laws.proofs.Rows.{getD-made}
 use Rattle.bc6h_spec.specs.Answers.{done, placedRecord}
-use Rattle.records.specs.Store.{recordsIn, byteOf, formatOf, spareZero, tileOf, blockOf, recordRefusal, Unrefused}
-use Rattle.records.proofs.Refusals.{known}
+use Rattle.records.specs.Store.{recordsIn, byteOf, formatOf, tileOf, blockOf, Unrefused}
+use Rattle.records.proofs.Refusals.{known, spare-is}
 use Rattle.records.proofs.Refusals as checks
 use Rattle.places.specs.declared.Place.{Place}
 use Rattle.places.specs.Places.{placeLimit, placesIn, byteAt, tileIn, formatIn, placeIn, blockIn, IsUnplaced, placed, unplaced, placeRefusal, placeRecordRefusal}
@@ -45,23 +45,6 @@ placed-count old = let e : length (placedStore old) ≡ recordsIn old * 32 = pla
 
 pub old-count : (new : List ℕ) → recordsIn (oldStore new) ≡ placesIn new
 old-count new = let e : length (oldStore new) ≡ placesIn new * 24 = old-length new in omega arith
-
--- ---- what a record that is not refused has at its spare bytes
-
-spares : (store : List ℕ) (n : ℕ) → Unrefused store n → spareZero store n ≡ true
-unfolding recordRefusal
-spares store n z =
-    let k = known store n z in
-    cases (spareZero store n) (λ t. t)
-    (λ f. absurd (omega (arith, rw (le-ltb _ _ (k .fits), eq-eqb _ _ (k .whole), lt-ltb _ _ (k .below), le-ltb _ _ (k .small), f) at z)))
-
-pub spare-is : (store : List ℕ) (n k : ℕ) → Unrefused store n → 5 ≤ k → k < 8 → byteOf store n k ≡ 0
-spare-is store n k z l h =
-    let a = both-true (eqb (byteOf store n 5) 0) _ (spares store n z) in
-    let b = both-true (eqb (byteOf store n 6) 0) (eqb (byteOf store n 7) 0) (a .1) in
-    cases (eqb k 5) (λ t. let e : k ≡ 5 = eqb-true _ _ t in rw e (eqb-true _ _ (a .0)))
-    (λ f. cases (eqb k 6) (λ t. let e : k ≡ 6 = eqb-true _ _ t in rw e (eqb-true _ _ (b .0)))
-    (λ g. let e : k ≡ 7 = omega (arith, eqb-false k 5 f, eqb-false k 6 g) in rw e (eqb-true _ _ (b .1))))
 
 -- ---- old, new, old
 

@@ -1,15 +1,11 @@
 -- "for a store that passes the answer is the same for every order of its records". Assumes nothing.
 use mathlib.Core.Path.{_≡_, refl, sym, _∙_, ap, ap₂, subst}
 use mathlib.Core.List.{List}
-use Prim.Native.Nat.{ℕ, zero, suc, _+_, _*_, _/_, _%_, _≤_, _<_}
+use Prim.Native.Nat.{ℕ, zero, suc, _+_, _*_, _/_, _%_, _<_}
 use native.Mathlib.Omega.{arith}
 use lib.Dec.{lit<, eqb→eq}
 use lib.ListN.{length, getD, take, drop, length-take, length-drop}
 use lib.Seq.{ext-getD, getD-take, getD-drop}
-use Rattle.laws.specs.First.{firstBelow}
-use borrow.Author.Tests.{eqb-true}
-use Rattle.laws.proofs.Search.{Found, is-true}
-use Rattle.laws.proofs.Firsts.{first-passes, first-least}
 use Rattle.bc6h_spec.specs.Answers.{done}
 use Rattle.bc6h_spec.specs.Picture.{isSigned}
 use Rattle.bc6h_spec.specs.Block.{pixelsOf}
@@ -19,20 +15,20 @@ use Rattle.places.specs.Faults.{noFault}
 use Rattle.places.specs.Places.{faceCount, placesIn, byteAt, pairAt, formatIn, placeIn, blockIn, zeroByte, restZero, placeRefusal, placeRecordRefusal}
 use Rattle.probe.specs.declared.ProbePixel.{ProbePixel}
 use Rattle.probe.specs.Probe.{placeOf, Filled, IsProbe, probeFault, InRange, questionRefusal, recordFor, shownIn, tripleOf, tripleAt, tripleFor, probedAt, tripleIn, Asked}
-use Rattle.probe.specs.Order.{recordBytes, Reordered}
-use Rattle.laws.proofs.Pigeons.{Into, hits, onto}
+use Rattle.laws.specs.Order.{recordIn, Reordered}
+use Rattle.laws.proofs.Orders.{come-from}
 use Rattle.probe.proofs.Spots.{place-same}
 use Rattle.probe.proofs.Checking.{inside}
 use Rattle.probe.proofs.Telling.{passed-when}
 use Rattle.probe.proofs.Probes.{for-inside, for-here, place-filled, place-once, passed-probe, probe-passes}
 
-bytes-at : (store : List ℕ) (n k : ℕ) → k < 32 → getD (recordBytes store n) k 0 ≡ byteAt store n k
-unfolding recordBytes
+bytes-at : (store : List ℕ) (n k : ℕ) → k < 32 → getD (recordIn 32 store n) k 0 ≡ byteAt store n k
+unfolding recordIn
 bytes-at store n k h = getD-take 32 (drop (n * 32) store) k 0 h ∙ getD-drop (n * 32) store k 0
 
 -- ---- two records with the same bytes
 
-module _ (s t : List ℕ) (m n : ℕ) (e : recordBytes t n ≡ recordBytes s m) where
+module _ (s t : List ℕ) (m n : ℕ) (e : recordIn 32 t n ≡ recordIn 32 s m) where
   byte-same : (k : ℕ) → k < 32 → byteAt t n k ≡ byteAt s m k
   byte-same k h = sym (bytes-at t n k h) ∙ ap (λ (l : List ℕ). getD l k 0) e ∙ bytes-at s m k h
 
@@ -70,17 +66,7 @@ module _ (s t : List ℕ) (m n : ℕ) (e : recordBytes t n ≡ recordBytes s m) 
 
 -- ---- a store in another order
 
-module _ {s t : List ℕ} (o : Reordered s t) where
-  counts : placesIn t ≡ placesIn s
-  counts = ap (λ (x : ℕ). x / 32) (o .same-size)
-
-  into : Into (placesIn t) (placesIn t) (o .from)
-  into = record { inside = λ k h. let c : placesIn t ≡ placesIn s = counts in let l : o .from k < placesIn s = o .inside k h in omega arith; apart = o .apart }
-
-  -- every record of the first store is in the second
-  pub come-from : (m : ℕ) → m < placesIn s → Found (hits (o .from) m) (placesIn t)
-  come-from m h = onto (o .from) (placesIn t) into m (let c : placesIn t ≡ placesIn s = counts in omega arith)
-
+module _ {s t : List ℕ} (o : Reordered 32 s t) where
   module _ (n : ℕ) (h : n < placesIn t) where
     place-from : placeIn t n ≡ placeIn s (o .from n)
     place-from = place-is s t (o .from n) n (o .same-bytes n h)
@@ -99,7 +85,7 @@ module _ {s t : List ℕ} (o : Reordered s t) where
       row-inside = λ n h. subst (λ (q : Place). q .row < edge) (sym (place-from n h)) (p .row-inside (o .from n) (o .inside n h));
       filled-once = λ face column row f c r.
           let a = place-filled p face column row f c r in
-          let b = come-from (a .at) (a .inside) in
+          let b = come-from o (a .at) (a .inside) in
           let here : placeIn t (b .place) ≡ placeOf face column row = place-from (b .place) (b .inside) ∙ ap (placeIn s) (eqb→eq _ _ (b .there)) ∙ a .here in
           record {
             filled = record { at = b .place; inside = b .inside; here = here };
@@ -130,18 +116,18 @@ module _ {s t : List ℕ} (o : Reordered s t) where
           let from : o .from (recordFor t (placeOf face (x / 4) (y / 4))) ≡ recordFor s (placeOf face (x / 4) (y / 4)) =
           place-once p _ _ (o .inside _ hn) hm
           (sym (place-from _ hn) ∙ for-here t (placeOf face (x / 4) (y / 4)) other ∙ sym (for-here s (placeOf face (x / 4) (y / 4)) there)) in
-          let bytes : recordBytes t (recordFor t (placeOf face (x / 4) (y / 4))) ≡ recordBytes s (recordFor s (placeOf face (x / 4) (y / 4))) =
-          o .same-bytes _ hn ∙ ap (recordBytes s) from in
+          let bytes : recordIn 32 t (recordFor t (placeOf face (x / 4) (y / 4))) ≡ recordIn 32 s (recordFor s (placeOf face (x / 4) (y / 4))) =
+          o .same-bytes _ hn ∙ ap (recordIn 32 s) from in
           ap₂ (λ (f : ℕ) (b : List ℕ). tripleOf (pixelsOf (isSigned f) b) (4 * (y % 4) + x % 4)) (format-same s t _ _ bytes) (block-same s t _ _ bytes hm hn)
 
 -- ---- the theorem
 
 -- a store that passes passes in every order ..
-pub passes-ordered : {s t : List ℕ} → Reordered s t → (edge : ℕ) → probeFault s edge .answer ≡ done → probeFault t edge .answer ≡ done
+pub passes-ordered : {s t : List ℕ} → Reordered 32 s t → (edge : ℕ) → probeFault s edge .answer ≡ done → probeFault t edge .answer ≡ done
 passes-ordered {s} {t} o edge z = ap (λ (x : Fault). x .answer) (probe-passes t edge (probe-ordered o (passed-probe s edge z)))
 
 -- .. and every question has the same answer
-pub any-order : {s t : List ℕ} → Reordered s t → {edge face x y : ℕ} {r q : ProbePixel} → probeFault s edge .answer ≡ done
+pub any-order : {s t : List ℕ} → Reordered 32 s t → {edge face x y : ℕ} {r q : ProbePixel} → probeFault s edge .answer ≡ done
     → Asked s edge face x y r → Asked t edge face x y q → r ≡ q
 any-order {s} {t} o {edge} {face} {x} {y} {r} {q} z a b =
     let p = passed-probe s edge z in
@@ -157,42 +143,8 @@ any-order {s} {t} o {edge} {face} {x} {y} {r} {q} z a b =
     go (suc k) w = rw w
 
 -- so where the one is done the other is, with the same triple
-pub done-ordered : {s t : List ℕ} → Reordered s t → {edge face x y : ℕ} {r q : ProbePixel} → Asked s edge face x y r → Asked t edge face x y q
+pub done-ordered : {s t : List ℕ} → Reordered 32 s t → {edge face x y : ℕ} {r q : ProbePixel} → Asked s edge face x y r → Asked t edge face x y q
     → r .answer ≡ done → (q .answer ≡ done) × (tripleIn r ≡ tripleIn q)
 done-ordered o {edge} {face} {x} {y} {r} {q} a b z =
     let e : r ≡ q = any-order o (passed-when a z) a b in
     (ap (λ (p : ProbePixel). p .answer) (sym e) ∙ z, ap tripleIn e)
-
--- ---- an order is one both ways, and orders go on from one another
-
--- the second store's records in the first one's order
-pub ordered-back : {s t : List ℕ} → Reordered s t → Reordered t s
-ordered-back {s} {t} o = record {
-  same-size = sym (o .same-size);
-  from = λ m. firstBelow (hits (o .from) m) (placesIn t);
-  inside = λ m h. first-inside m h;
-  apart = λ m n hm hn e. sym (first-hits m hm) ∙ ap (o .from) e ∙ first-hits n hn;
-  same-bytes = λ m h. sym (o .same-bytes _ (first-inside m h) ∙ ap (recordBytes s) (first-hits m h));
-}
-  where
-    first-inside : (m : ℕ) → m < placesIn s → firstBelow (hits (o .from) m) (placesIn t) < placesIn t
-    first-inside m h =
-        let f = come-from o m h in
-        let i : f .place < placesIn t = f .inside in
-        let l : firstBelow (hits (o .from) m) (placesIn t) ≤ f .place = first-least (hits (o .from) m) (placesIn t) (f .place) i (is-true _ (f .there)) in
-        omega arith
-
-    first-hits : (m : ℕ) → m < placesIn s → o .from (firstBelow (hits (o .from) m) (placesIn t)) ≡ m
-    first-hits m h = eqb-true _ _ (first-passes (hits (o .from) m) (placesIn t) (first-inside m h))
-
-pub ordered-same : (s : List ℕ) → Reordered s s
-ordered-same s = record { same-size = refl; from = λ n. n; inside = λ n h. h; apart = λ m n hm hn e. e; same-bytes = λ n h. refl }
-
-pub ordered-on : {s t u : List ℕ} → Reordered s t → Reordered t u → Reordered s u
-ordered-on o p = record {
-  same-size = p .same-size ∙ o .same-size;
-  from = λ n. o .from (p .from n);
-  inside = λ n h. o .inside (p .from n) (p .inside n h);
-  apart = λ m n hm hn e. p .apart m n hm hn (o .apart (p .from m) (p .from n) (p .inside m hm) (p .inside n hn) e);
-  same-bytes = λ n h. p .same-bytes n h ∙ o .same-bytes (p .from n) (p .inside n h);
-}

@@ -1,4 +1,3 @@
-pub mod Pasting
 pub mod Walking
 pub mod Entries
 pub mod Telling

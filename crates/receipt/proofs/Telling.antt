@@ -6,6 +6,7 @@ use Prim.Native.Nat.{ℕ, zero, suc, _+_, _-_, _*_, _/_, _%_, _≤_, _<_}
 use native.Mathlib.Omega.{arith}
 use lib.ListN.{length, take, drop, set, replicate, length-set, length-replicate}
 use lib.Seq.{take-at, paste, length-paste}
+use Rattle.laws.proofs.Pasting.{pasted}
 use Rattle.bc6h_spec.specs.Answers.{done}
 use Rattle.records.specs.Store.{recordSize, storeLimit, recordsIn}
 use Rattle.twins_spec.specs.Twins.{mostRecords, listRefusal}
@@ -16,7 +17,6 @@ use Rattle.clean.proofs.Leaving.{staying-adds}
 use Rattle.clean.proofs.Cleaning.{SoFar, so-far-none, so-far-gone, so-far-more, cleaned-done}
 use Rattle.clean.proofs.Cleaning as cleaning
 use Rattle.receipt.specs.Receipt.{entrySize, entryOf, receiptUpto, receiptOf, receiptRefusal, ReceiptInto, AsCleanStore, Firsts}
-use Rattle.receipt.proofs.Pasting.{pasted}
 use Rattle.receipt.proofs.Walking.{firsts-none, firsts-more, first-goes, first-stays}
 use Rattle.receipt.proofs.Entries.{entry-length, entry-whole, receipt-none, receipt-length, receipt-gone, receipt-stays}
 

@@ -3,7 +3,7 @@
 
 ghost use mathlib.Core.Path.{_≡_};
 ghost use Prim.Native.Nat.{_+_, _*_, _≤_, _<_};
-ghost use lib.ListN.{length, drop};
+ghost use lib.ListN.{length};
 ghost use lib.Seq.{paste};
 ghost use Rattle.clean.specs.Clean.{firstOf};
 ghost use Rattle.receipt.specs.Receipt.{entriesIn, entrySize, entryOf, entryAt, receiptRefusal, ReceiptInto, Walk, Tells};
@@ -13,6 +13,7 @@ use clean::copy_record;
 use clean::link_records;
 use clean::place;
 use clean::repeated_along;
+use copying::copy_part;
 use records::Record;
 use twins_marks::list_refusal;
 use twins_spec::TwinList;
@@ -49,17 +50,6 @@ pub fn entry_at(receipt: &[u8], e: usize) -> Entry
     let number = wide(receipt[at]) + wide(receipt[at + 1]) * 0x100;
     let stays = wide(receipt[at + 2]) + wide(receipt[at + 3]) * 0x100;
     Entry { number, stays }
-}
-
-// Copies `size` bytes of `from`, beginning at `at`, into `out` at `to`.
-pub fn copy_part(from: &[u8], at: usize, size: usize, out: &mut [u8], to: usize)
-    requires { ⌜ at + size ≤ length (now from) ⌝ }
-    requires { ⌜ to + size ≤ length (now out) ⌝ }
-    ensures { λ _. ⌜ now (out .exit) ≡ paste (now (out .entry)) to (drop at (now (from .entry))) size ⌝ }
-{
-    for k in 0..size {
-        out[to + k] = from[at + k];
-    }
 }
 
 // The number of the refusal, or done; `room` and `paper` are the bytes lent for the cleaned store and for the receipt.

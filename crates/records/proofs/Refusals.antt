@@ -6,8 +6,8 @@ use Prim.Native.Nat.{ℕ, _+_, _*_, _/_, _%_, _≤_, _<_}
 use native.Mathlib.Omega.{arith}
 use lib.Dec.{eqb, ltb}
 use lib.ListN.{length, getD, length-take, length-drop}
-use borrow.Author.Tests.{lt-ltb, le-ltb, eq-eqb, ne-eqb, ltb-true, ltb-false, eqb-true}
-use Rattle.laws.proofs.Tests.{cases}
+use borrow.Author.Tests.{lt-ltb, le-ltb, eq-eqb, ne-eqb, ltb-true, ltb-false, eqb-true, eqb-false}
+use Rattle.laws.proofs.Tests.{cases, both-true}
 use Rattle.bc6h_spec.specs.Answers.{done, badFormat, longStore, unevenStore, spareByte, noRecord}
 use Rattle.bc6h_spec.specs.Bits.{IsBlock, blockSize}
 use Rattle.records.specs.Store.{recordSize, storeLimit, recordsIn, byteOf, formatOf, spareZero, blockOf, recordRefusal, Unrefused}
@@ -71,3 +71,19 @@ known store n z =
 pub block-length : {store : List ℕ} {n : ℕ} → Known store n → length (blockOf store n) ≡ blockSize
 unfolding blockOf
 block-length k = simp (length-take, length-drop) (omega arith)
+
+-- the three spare bytes of a record that is not refused are zero
+spares : (store : List ℕ) (n : ℕ) → Unrefused store n → spareZero store n ≡ true
+unfolding recordRefusal
+spares store n z =
+    let k = known store n z in
+    cases (spareZero store n) (λ t. t)
+    (λ f. absurd (omega (arith, rw (le-ltb _ _ (k .fits), eq-eqb _ _ (k .whole), lt-ltb _ _ (k .below), le-ltb _ _ (k .small), f) at z)))
+
+pub spare-is : (store : List ℕ) (n k : ℕ) → Unrefused store n → 5 ≤ k → k < 8 → byteOf store n k ≡ 0
+spare-is store n k z l h =
+    let a = both-true (eqb (byteOf store n 5) 0) _ (spares store n z) in
+    let b = both-true (eqb (byteOf store n 6) 0) (eqb (byteOf store n 7) 0) (a .1) in
+    cases (eqb k 5) (λ t. let e : k ≡ 5 = eqb-true _ _ t in rw e (eqb-true _ _ (a .0)))
+    (λ f. cases (eqb k 6) (λ t. let e : k ≡ 6 = eqb-true _ _ t in rw e (eqb-true _ _ (b .0)))
+    (λ g. let e : k ≡ 7 = omega (arith, eqb-false k 5 f, eqb-false k 6 g) in rw e (eqb-true _ _ (b .1))))

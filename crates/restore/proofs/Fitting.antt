@@ -13,12 +13,12 @@ use Rattle.laws.specs.Every.{below}
 use Rattle.laws.proofs.Tests.{cases, both-true, below-at}
 use Rattle.laws.proofs.Search.{holds, is-true}
 use Rattle.laws.proofs.Below.{below-all, below-fails, below-upto}
-use Rattle.bc6h_spec.specs.Answers.{done, shortOutput, longStore, unevenStore}
+use Rattle.bc6h_spec.specs.Answers.{done, shortOutput, longStore, unevenStore, badReceipt}
 use Rattle.records.specs.Store.{recordSize, storeLimit}
 use Rattle.twins_spec.specs.Twins.{mostRecords}
 use Rattle.receipt.specs.declared.Entry.{Entry}
 use Rattle.receipt.specs.Receipt.{entrySize, entriesIn, numberAt, staysAt, entryAt}
-use Rattle.restore.specs.Restore.{totalOf, badReceipt, leastAt, entryFits, receiptFits, restoreRefusal}
+use Rattle.restore.specs.Restore.{totalOf, leastAt, entryFits, receiptFits, restoreRefusal}
 
 -- ---- an entry
 

@@ -23,7 +23,7 @@ use Rattle.clean.specs.Clean.{recordOf, staying}
 use Rattle.clean.proofs.Leaving.{record-length, staying-none, staying-gone, staying-more}
 use Rattle.receipt.specs.declared.Entry.{Entry}
 use Rattle.receipt.specs.Receipt.{entrySize, entriesIn, numberAt, staysAt, entryAt, tileBytes}
-use Rattle.receipt.proofs.Pasting.{pasted}
+use Rattle.laws.proofs.Pasting.{pasted}
 use Rattle.restore.specs.declared.Restored.{Restored}
 use Rattle.restore.specs.Restore.{totalOf, isFor, entryFor, isTold, putBack, restoredUpto, restoredOf, restoredAt, RestoredInto, restoreRefusal, withTile, putInto}
 use Rattle.restore.proofs.Fitting.{FitReceipt, climbs-to, Restorable}

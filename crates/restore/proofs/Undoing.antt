@@ -13,13 +13,13 @@ use borrow.Author.Tests.{ltb-true, ltb-false}
 use Rattle.laws.proofs.Tests.{cases}
 use Rattle.laws.proofs.Sameness.{true-false, not-so}
 use Rattle.records.specs.Store.{recordSize, recordsIn, byteOf, blockOf}
+use Rattle.records.proofs.Refusals.{spare-is}
 use Rattle.clean.specs.Clean.{Repeats, firstOf, goes, recordOf, staying, going, cleanedOf}
 use Rattle.clean.proofs.Repeating.{goes-first, first-repeated}
 use Rattle.clean.proofs.Leaving.{record-length, record-byte, staying-adds, staying-same, left-at}
 use Rattle.clean.proofs.Moving.{Sized, cleaned-records}
 use Rattle.receipt.specs.Receipt.{entrySize, entriesIn, numberAt, staysAt, tileBytes, receiptOf}
 use Rattle.receipt.proofs.Entries.{Gone, gone-of, going-less, number-told, stays-told, tile-told, entries-count, receipt-length}
-use Rattle.moves.proofs.Undone.{spare-is}
 use Rattle.restore.specs.Restore.{totalOf, leastAt, receiptFits, entryFor, isTold, putBack, restoredUpto, restoredOf}
 use Rattle.restore.proofs.Fitting.{Fits, each-fits}
 use Rattle.restore.proofs.Restoring.{told-means, told-so}

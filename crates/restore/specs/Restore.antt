@@ -9,7 +9,7 @@ use lib.Seq.{paste}
 use Rattle.laws.specs.Pick.{pick, both}
 use Rattle.laws.specs.Every.{below}
 use Rattle.laws.specs.First.{firstBelow}
-use Rattle.bc6h_spec.specs.Answers.{done, shortOutput, longStore, unevenStore}
+use Rattle.bc6h_spec.specs.Answers.{done, shortOutput, longStore, unevenStore, badReceipt}
 use Rattle.records.specs.Store.{recordSize, storeLimit, recordsIn}
 use Rattle.twins_spec.specs.Twins.{mostRecords}
 use Rattle.clean.specs.Clean.{recordOf, staying}
@@ -21,10 +21,6 @@ abbrev pub totalOf : List ℕ → List ℕ → ℕ
 totalOf cleaned receipt = recordsIn cleaned + entriesIn receipt
 
 -- ---- which receipts fit
-
--- 25: the receipt's length is not a multiple of 8, or an entry does not fit
-abbrev pub badReceipt : ℕ
-badReceipt = 25
 
 -- the least number that entry e may have: one above that of the entry before
 abbrev pub leastAt : List ℕ → ℕ → ℕ

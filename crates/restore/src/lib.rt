@@ -1,17 +1,17 @@
 // Undoes a clean-up: the store as it was, from the cleaned store and the receipt.
 
 ghost use mathlib.Core.Path.{_≡_};
-ghost use Prim.Native.Nat.{_+_, _*_, _≤_, _<_};
+ghost use Prim.Native.Nat.{_<_};
 ghost use lib.Dec.{eqb, ltb};
-ghost use lib.ListN.{length, drop};
-ghost use lib.Seq.{paste};
+ghost use lib.ListN.{length};
 ghost use Rattle.laws.specs.Pick.{both};
 ghost use Rattle.receipt.specs.Receipt.{entriesIn, numberAt};
 ghost use Rattle.restore.specs.Restore.{leastAt, entryFits, receiptFits, restoreRefusal, putInto, PutBack, RestoredInto};
 use bc6h_spec::Answer;
 use clean::copy_record;
+use copying::copy_part;
+use copying::copy_within;
 use receipt::Entry;
-use receipt::copy_part;
 use receipt::entry_at;
 use records::Record;
 use twins_spec::TwinList;
@@ -23,9 +23,6 @@ pub struct Restored {
 }
 
 impl Restored {
-    // The receipt's length is not a multiple of 8, or an entry does not fit the store.
-    pub const BAD_RECEIPT: u8 = 25;
-
     fn refused(answer: u8) -> Restored
         ensures { λ r. ⌜ r ≡ record { answer = answer; records = 0 } ⌝ }
     {
@@ -82,7 +79,7 @@ fn restore_refusal(cleaned: &[u8], receipt: &[u8], room: usize) -> u8
         return Answer::UNEVEN_STORE;
     }
     if !receipt_fits(receipt, total) {
-        return Restored::BAD_RECEIPT;
+        return Answer::BAD_RECEIPT;
     }
     if room < total * Record::SIZE {
         return Answer::SHORT_OUTPUT;
@@ -91,16 +88,6 @@ fn restore_refusal(cleaned: &[u8], receipt: &[u8], room: usize) -> u8
 }
 
 // ---- the bytes
-
-// Copies `size` bytes of `out` that begin at `from` and end before `to`, to `to`.
-fn copy_within(out: &mut [u8], from: usize, size: usize, to: usize)
-    requires { ⌜ (from + size ≤ to) × (to + size ≤ length (now out)) ⌝ }
-    ensures { λ _. ⌜ now (out .exit) ≡ paste (now (out .entry)) to (drop from (now (out .entry))) size ⌝ }
-{
-    for k in 0..size {
-        out[to + k] = out[from + k];
-    }
-}
 
 // Writes record n by entry e: the entry's tile, and what follows the tile in the record that stays.
 fn put_back(receipt: &[u8], e: usize, out: &mut [u8], n: usize)

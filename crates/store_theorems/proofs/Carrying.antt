@@ -1,12 +1,9 @@
 -- A record that stands in two stores: what it shows and which records it repeats or looks like is the same in both. Assumes nothing.
 use mathlib.Core.Path.{_≡_, refl, sym, ap, ap₂, subst}
-use mathlib.Core.Bool.{Bool, false}
+use mathlib.Core.Bool.{false}
 use mathlib.Core.List.{List}
-use Prim.Native.Nat.{ℕ, zero, suc, _<_}
+use Prim.Native.Nat.{ℕ, _<_}
 use native.Mathlib.Omega.{arith}
-use lib.Dec.{ltb}
-use Rattle.laws.specs.Pick.{pick}
-use Rattle.laws.specs.First.{firstBelow}
 use Rattle.laws.proofs.Tests.{cases}
 use Rattle.bc6h_spec.specs.Fields.{modeOf}
 use Rattle.bc6h_spec.specs.Picture.{isSigned}
@@ -18,13 +15,6 @@ use Rattle.clean.specs.Clean.{repeats, goes, staying, cleanedOf}
 use Rattle.clean.proofs.Repeating.{each-has-one}
 use Rattle.clean.proofs.Leaving.{staying-less, place-of, left-at}
 use Rattle.clean.proofs.Moving.{Sized, Moved, format-moved, block-moved, refusal-moved, cleaned-records}
-
--- the first that passes is the same where the tests agree below n
-pub first-same : (f g : ℕ → Bool) (n : ℕ) → ((k : ℕ) → k < n → f k ≡ g k) → firstBelow f n ≡ firstBelow g n
-unfolding firstBelow
-first-same f g zero e = refl
-first-same f g (suc n) e =
-    ap₂ (λ (k : ℕ) (t : Bool). pick (ltb k n) k (pick t n (suc n))) (first-same f g n (λ k h. e k (omega arith))) (e n (omega arith))
 
 -- ---- record k of the one store is record n of the other
 

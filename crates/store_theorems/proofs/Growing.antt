@@ -6,6 +6,7 @@ use native.Mathlib.Omega.{arith}
 use lib.Dec.{ltb}
 use lib.ListN.{length, length-append}
 use Rattle.records.specs.Store.{recordsIn}
+use Rattle.laws.proofs.Firsts.{first-same}
 use Rattle.bc6h_spec.specs.Answers.{done}
 use Rattle.twins_spec.specs.declared.TwinList.{TwinList}
 use Rattle.twins_spec.specs.Twins.{alike, firstTwin, markAt, Listed}
@@ -14,7 +15,7 @@ use Rattle.clean.specs.Clean.{repeats, firstOf, goes}
 use Rattle.clean.proofs.Leaving.{record-front}
 use Rattle.clean.proofs.Moving.{Sized, Moved, refusal-moved}
 use Rattle.store_theorems.specs.Growing.{Appended, MarksGrow}
-use Rattle.store_theorems.proofs.Carrying.{first-same, repeats-same, alike-same}
+use Rattle.store_theorems.proofs.Carrying.{repeats-same, alike-same}
 
 module _ (store more : List ℕ) (sized : Sized store) (longer : Sized (store ++ more)) where
   pub there : (n : ℕ) → n < recordsIn store → Moved (store ++ more) store n n

@@ -1,12 +1,13 @@
 -- The theorems of specs/Orders. Assumes nothing.
-use mathlib.Core.Path.{_≡_, refl, sym, _∙_, ap, subst}
+use mathlib.Core.Path.{_≡_, refl, sym, _∙_, subst}
 use mathlib.Core.List.{List}
 use Prim.Native.Nat.{ℕ, _/_, _<_}
 use native.Mathlib.Omega.{arith}
-use lib.Dec.{ltb, eqb→eq}
+use lib.Dec.{ltb}
 use borrow.Author.Tests.{eqb-true, eqb-false, ltb-true, ltb-false}
+use Rattle.laws.specs.Order.{recordIn, Reordered}
 use Rattle.laws.proofs.Tests.{cases}
-use Rattle.laws.proofs.Pigeons.{Into, onto}
+use Rattle.laws.proofs.Orders.{ordered-back}
 use Rattle.bc6h_spec.specs.Answers.{done}
 use Rattle.records.specs.Store.{recordSize, recordsIn, Unrefused}
 use Rattle.twins_spec.specs.declared.TwinList.{TwinList}
@@ -14,11 +15,11 @@ use Rattle.twins_spec.specs.Shown.{isRecord}
 use Rattle.twins_spec.specs.Twins.{keptMark, Alike, firstTwin, markAt, Listed}
 use Rattle.twins_spec.proofs.Marking.{mark-bad, mark-kept, first-alike, first-stays}
 use Rattle.twins_spec.proofs.Listing as listing
-use Rattle.clean.specs.Clean.{cleanedOf}
+use Rattle.clean.specs.Clean.{recordOf, cleanedOf}
 use Rattle.clean.proofs.Cleaning as cleaning
 use Rattle.clean.proofs.Moving.{Sized, Moved, format-moved, block-moved, refusal-moved}
-use Rattle.store_theorems.specs.Orders.{AlikeIsEquivalence, Reordered, KeptPicture, SameKept, LeftTile, SameLeft}
-use Rattle.store_theorems.proofs.Carrying.{turned, picture-moved, mode-moved, origin, stands}
+use Rattle.store_theorems.specs.Orders.{AlikeIsEquivalence, KeptPicture, SameKept, LeftTile, SameLeft}
+use Rattle.store_theorems.proofs.Carrying.{picture-moved, mode-moved, origin, stands}
 use Rattle.store_theorems.proofs.Pictures.{sized-when}
 use Rattle.store_theorems.proofs.Growing.{sized-list}
 
@@ -73,29 +74,17 @@ record FoundIn (store other : List ℕ) (n : ℕ) : Type 0 where
 abbrev AllIn : List ℕ → List ℕ → Type 0
 AllIn store other = (n : ℕ) → n < recordsIn store → FoundIn store other n
 
-module _ {store other : List ℕ} (o : Reordered store other) where
-  counts : recordsIn other ≡ recordsIn store
-  counts = ap (λ (x : ℕ). x / recordSize) (o .same-size)
-
+module _ {store other : List ℕ} (o : Reordered recordSize store other) where
   back : AllIn other store
+  unfolding recordIn recordOf
   back n h =
       record {
         place = o .from n;
         moved = record { here = o .inside n h; there = h; same-record = sym (o .same-bytes n h) };
       }
 
-  into : Into (recordsIn other) (recordsIn other) (o .from)
-  into = record { inside = λ k h. omega (arith, counts, o .inside k h); apart = o .apart }
-
-  forth : AllIn store other
-  unfolding back
-  forth n h =
-      let f = onto (o .from) (recordsIn other) into n (omega (arith, counts)) in
-      let e : o .from (f .place) ≡ n = eqb→eq _ _ (f .there) in
-      record {
-        place = f .place;
-        moved = turned (subst (λ (x : ℕ). Moved store other x (f .place)) e (back (f .place) (f .inside) .moved));
-      }
+forth : {store other : List ℕ} → Reordered recordSize store other → AllIn store other
+forth o = back (ordered-back o)
 
 -- ---- the pictures that are kept
 

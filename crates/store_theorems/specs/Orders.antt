@@ -2,14 +2,15 @@
 use mathlib.Core.Path.{_≡_}
 use mathlib.Core.List.{List}
 use Prim.Native.Nat.{ℕ, _<_}
-use lib.ListN.{length, getD}
+use lib.ListN.{getD}
+use Rattle.laws.specs.Order.{Reordered}
 use Rattle.bc6h_spec.specs.Answers.{done}
-use Rattle.records.specs.Store.{recordsIn, formatOf, blockOf, Unrefused}
+use Rattle.records.specs.Store.{recordSize, recordsIn, formatOf, blockOf, Unrefused}
 use Rattle.twins_spec.specs.declared.TwinList.{TwinList}
 use Rattle.twins_spec.specs.Shown.{pictureAt, Reserved}
 use Rattle.twins_spec.specs.Twins.{keptMark, Alike, Listed}
 use Rattle.clean.specs.declared.Cleaned.{Cleaned}
-use Rattle.clean.specs.Clean.{recordOf, CleanedInto}
+use Rattle.clean.specs.Clean.{CleanedInto}
 use Rattle.clean.specs.Theorems.{cleanedBytes}
 
 -- ---- looking alike
@@ -31,15 +32,6 @@ AlikeIsEquivalence = (store : List ℕ) → Equivalence store
 
 -- ---- another order
 
--- The second store has the records of the first in some order: its record n is record `from n` of the first, byte for byte, and no record
--- of the first is taken twice.
-pub record Reordered (store other : List ℕ) : Type 0 where
-  pub same-size : length other ≡ length store
-  pub from : ℕ → ℕ
-  pub inside : (n : ℕ) → n < recordsIn other → from n < recordsIn store
-  pub apart : (m n : ℕ) → m < recordsIn other → n < recordsIn other → from m ≡ from n → m ≡ n
-  pub same-bytes : (n : ℕ) → n < recordsIn other → recordOf other n ≡ recordOf store (from n)
-
 -- A record that the marks keep holds a picture of the format, with the values.
 pub record KeptPicture (store marks : List ℕ) (format : ℕ) (values : List ℕ) : Type 0 where
   pub place : ℕ
@@ -49,9 +41,9 @@ pub record KeptPicture (store marks : List ℕ) (format : ℕ) (values : List �
   pub of-format : formatOf store place ≡ format
   pub shows : pictureAt store place ≡ values
 
--- Whatever the twin list leaves of the two stores, both keep the same pictures.
+-- Two stores have the same records in some order: whatever the twin list leaves of them, both keep the same pictures.
 abbrev pub SameKept : Type 0
-SameKept = (store other : List ℕ) → Reordered store other
+SameKept = (store other : List ℕ) → Reordered recordSize store other
     → (room marks : List ℕ) (list : TwinList) → Listed store room list marks → list .answer ≡ done
     → (space others : List ℕ) (next : TwinList) → Listed other space next others → next .answer ≡ done
     → (format : ℕ) (values : List ℕ)
@@ -66,7 +58,7 @@ pub record LeftTile (bytes : List ℕ) (format : ℕ) (block : List ℕ) : Type 
 
 -- And both cleaned stores hold the same blocks, each in its format.
 abbrev pub SameLeft : Type 0
-SameLeft = (store other : List ℕ) → Reordered store other
+SameLeft = (store other : List ℕ) → Reordered recordSize store other
     → (lent after : List ℕ) (r : Cleaned) → CleanedInto store lent r after → r .answer ≡ done
     → (room later : List ℕ) (s : Cleaned) → CleanedInto other room s later → s .answer ≡ done
     → (format : ℕ) (block : List ℕ)

@@ -3,10 +3,10 @@ use Prim.Native.Nat.{_≤_, _-_}
 use native.Mathlib.Omega.{arith}
 use lib.ListN.{length, drop, length-set}
 use lib.Seq.{paste, paste-zero}
-use Rattle.receipt.proofs.Pasting.{part-more}
+use Rattle.laws.proofs.Pasting.{part-more}
 use borrow.Author.Needs.{needs}
-use Rattle.receipt.proofs.copy_part.Statement.{statement}
-use Rattle.receipt.proofs.copy_part.Tie as tie
+use Rattle.copying.proofs.copy_part.Statement.{statement}
+use Rattle.copying.proofs.copy_part.Tie as tie
 
 abbrev Inv-loop : tie.InvT-loop
 Inv-loop from at size out₀ to k₀ out k = (k ≤ size) × (out ≡ paste out₀ to (drop at from) k) × (length out ≡ length out₀)

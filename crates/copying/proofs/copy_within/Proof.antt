@@ -3,10 +3,10 @@ use Prim.Native.Nat.{_≤_, _-_}
 use native.Mathlib.Omega.{arith}
 use lib.ListN.{length, drop, length-set}
 use lib.Seq.{paste, paste-zero}
-use Rattle.receipt.proofs.Pasting.{within-more}
+use Rattle.laws.proofs.Pasting.{within-more}
 use borrow.Author.Needs.{needs}
-use Rattle.restore.proofs.copy_within.Statement.{statement}
-use Rattle.restore.proofs.copy_within.Tie as tie
+use Rattle.copying.proofs.copy_within.Statement.{statement}
+use Rattle.copying.proofs.copy_within.Tie as tie
 
 abbrev Inv-loop : tie.InvT-loop
 Inv-loop out₀ from size to k₀ out k = (k ≤ size) × (out ≡ paste out₀ to (drop from out₀) k) × (length out ≡ length out₀)

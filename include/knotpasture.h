@@ -5,6 +5,10 @@
  * Link with libknotpasture.a or libknotpasture.so: `pkg-config --cflags --libs knotpasture` where tools/install put them, or a release is
  * unpacked; in the repository `tools/libraries` writes both.
  *
+ * For x86-64 there are two more shared libraries, below lib/glibc-hwcaps: for processors with AVX2 and with AVX-512. glibc's loader takes the
+ * best one by itself. The proof of these ends at the kit's module, from which the kit's clang compiled them; they are compared by running. For
+ * the baseline alone, which the kit compiled, link libknotpasture.a or start the program with GLIBC_TUNABLES=glibc.cpu.hwcaps=-AVX2.
+ *
  * No function keeps a pointer, allocates memory, has state of its own or fails: each answers for every input. A pointer is
  * followed by its length, in elements; it may be null where the length is 0. Lent input and lent output must not overlap.
  * The calls may run on any number of threads at once. "Stack" is what a call needs at most below its caller's frame, its return
@@ -373,8 +377,8 @@ enum { KNOT_EDGE_LIMIT = 16 /* blocks on an edge, at most */ };
 /* The three half-float patterns of a pixel of a probe.
  *
  * Answers the number in the low byte; where that is 0, red in bits 16 to 31, green in bits 32 to 47, blue in bits 48 to 63. A
- * refusal is the number alone. Refusals: those of knot_probe_check, then 24. The store is checked at each call: for many pixels
- * knot_probe_face is the call.
+ * refusal is the number alone. Refusals: those of knot_probe_check, then 24. The store is checked at each call: paint a face by
+ * knot_probe_face and not pixel by pixel, which takes some 700 times as long.
  *
  * Stack: 3,500 bytes.
  */

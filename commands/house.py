@@ -20,6 +20,7 @@ COMMANDS = [
     "list",
     "audit",
     "report",
+    "open",
     "clean",
     "infinities",
     "fields",

@@ -19,6 +19,8 @@ class Inspector {
     Object.assign(this, { knot, screen, last: null });
     this.inside = make("div", {}, make("p", {}, "Point at a pixel, or tap it, for its values and its block. A click keeps the pixel; arrow keys move it."));
     this.aloud = make("p", { class: "unseen", "aria-live": "polite" });
+    // one line of it, for narrow screens, where the rest is far below the picture
+    this.brief = make("p", { class: "brief", "aria-hidden": "true" });
     this.box = make("section", { class: "card inspector", "aria-label": "The pixel that is pointed at" }, make("h2", {}, "Pixel"), this.inside, this.aloud);
   }
 
@@ -28,7 +30,8 @@ class Inspector {
     this.last = pixel;
     const numbers = pixel.format === BC7_FORMAT ? [...pixel.values].map(String) : [...pixel.values].map((pattern) => told(FLOATS[pattern]));
     this.inside.replaceChildren(this.head(pixel), this.values(pixel, numbers), ...this.block(pixel));
-    if (aloud) this.aloud.textContent = `${pixel.title}: ${[...CHANNELS, "alpha"].slice(0, numbers.length).map((name, c) => `${name} ${numbers[c]}`).join(", ")}`;
+    this.brief.textContent = `${pixel.title}: ${[...CHANNELS, "alpha"].slice(0, numbers.length).map((name, c) => `${name} ${numbers[c]}`).join(", ")}`;
+    if (aloud) this.aloud.textContent = this.brief.textContent;
   }
 
   head({ title, where, values, format }) {

@@ -109,7 +109,7 @@ async function showPicture(view, { blocks, across, down, width, height, format, 
   const rows = [["kind", kind], ["size", `${width.toLocaleString("en")} × ${height.toLocaleString("en")} pixels`], ["format", FORMATS[format]], ["blocks", `${(across * down).toLocaleString("en")}: ${across} × ${down}`],
     ...(isBc7 ? [] : [["minus infinity", infinite ? count(infinite, "value") : "none"]]), ["decoded in", `${took.toFixed(took < 10 ? 1 : 0)} ms`], view.sumRow()];
   view.fill(make("div", { class: "work" },
-    make("div", { class: "shown" }, stageTools(stage, ...(isBc7 ? [] : [pfm]), pushed("Save PNG", () => savePng(stage, `${stem(file.name)}.png`))), box, ...(isBc7 ? [] : [legend()])),
+    make("div", { class: "shown" }, stageTools(stage, ...(isBc7 ? [] : [pfm]), pushed("Save PNG", () => savePng(stage, `${stem(file.name)}.png`))), box, inspector.brief, ...(isBc7 ? [] : [legend()])),
     make("aside", { class: "side", "aria-label": "Facts" }, inspector.box, make("section", { class: "card" }, make("h2", {}, "File"), factList(rows)), modesCard(modes, isBc7))));
   view.stage = stage;
   view.onRedraw(() => { stage.draw(); inspector.redraw(); });

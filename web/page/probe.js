@@ -193,7 +193,7 @@ function showProbe(view, edge, records) {
   const signed = records.filter((one) => one.format).length;
   const rows = [["kind", "a probe: every place of its six faces has exactly one record"], ["edge", `${count(edge, "block")}: faces of ${side} × ${side} pixels`], ["records", `${[records.length - signed, signed].map((number) => number.toLocaleString("en")).join(" unsigned, ")} signed`],
     ["faces", FACES_TOLD.map(([sign, word], f) => `${f} ${sign} ${word}`).join(", ")], view.sumRow()];
-  view.fill(make("div", { class: "work" }, make("div", { class: "shown" }, looks, lookBox, stageTools(stage), crossBox, legend()),
+  view.fill(make("div", { class: "work" }, make("div", { class: "shown" }, looks, lookBox, inspector.brief, stageTools(stage), crossBox, legend()),
     make("aside", { class: "side", "aria-label": "Facts" }, inspector.box, make("section", { class: "card" }, make("h2", {}, "Probe"), factList(rows)))));
   Object.assign(view, { stage, panorama });
   panorama.tell(...panorama.pixelAt(0.5, 0.5));

@@ -56,7 +56,6 @@ const readoutOf = () => make("p", { class: "readout", "aria-live": "polite" }, "
 
 // What is stored in a record, row by row: the name, and the words of record n.
 const STORED = [
-  ["tile", (records, n) => [records.tile(n)]],
   ["format", (records, n) => [records.isSigned(n) ? "signed" : "unsigned"]],
   ["mode", (records, n) => [modeOf(records.fieldsOf(n))]],
   ["partition", (records, n) => [regionsOf(records.fieldsOf(n)) === 2 ? records.fieldsOf(n)[26] : "one region"]],
@@ -106,7 +105,7 @@ const valuesFold = (records, n) => fold(`All 48 values of record ${n} in numbers
 
 // ---- the records that show one picture
 
-const recordLink = (records, n) => make("a", { href: `#record-${n}` }, `record ${n}`);
+const recordLink = (n) => make("a", { href: `#record-${n}` }, `record ${n}`);
 
 // The first rows of a table, and a button for the others.
 function rowsShown(head, rows, first) {
@@ -118,11 +117,12 @@ function rowsShown(head, rows, first) {
   return [box, more];
 }
 
-function copiesTable(records, copies) {
-  const cell = (...children) => make("td", {}, ...children);
-  const rows = copies.map(({ record, stays }) => () => make("tr", { "data-copy": record },
-    cell(recordLink(records, record)), cell(String(records.tile(record))), cell(recordLink(records, stays)), cell(String(records.tile(stays)))));
-  return rowsShown(["removed", "its tile", "stays for it", "its tile"], rows, ROWS);
+// The copies of a class, a row each. Where each of them is a copy of the root, the record that stays goes without saying.
+function copiesTable(records, { root, copies }) {
+  const cell = (...children) => make("td", {}, ...children), ofRoot = copies.every((twin) => twin.stays === root);
+  const staying = (n) => ofRoot ? [] : [cell(recordLink(n)), cell(String(records.tile(n)))];
+  const rows = copies.map(({ record, stays }) => () => make("tr", { "data-copy": record }, cell(recordLink(record)), cell(String(records.tile(record))), ...staying(stays)));
+  return rowsShown(["removed", "its tile", ...(ofRoot ? [] : ["stays for it", "its tile"])], rows, ROWS);
 }
 
 // Why the theorem on copies is named or not, for those who ask.
@@ -134,43 +134,53 @@ function coverTold({ alike, copies }) {
   return bytes + other + theorem;
 }
 
-function alikeBeside(part, records, root, twin, readout) {
+function alikeBeside(part, records, root, twin, after) {
+  const readout = readoutOf();
   return make("div", { class: "beside" },
     make("div", { class: "tiles" },
-      tileFigure(part, records, root, `${records.pictureTold(root)}: stays`, readout),
-      tileFigure(part, records, twin.record, `${records.pictureTold(twin.record)}: looks alike, stays`, readout)),
+      tileFigure(part, records, root, `${records.pictureTold(root)}: stays`, readout, after),
+      tileFigure(part, records, twin.record, `${records.pictureTold(twin.record)}: looks alike, stays`, readout),
+      readout),
     make("div", { class: "compared" },
       make("p", { class: "difference" }, differenceTold(records.fieldsOf(root), records.fieldsOf(twin.record))),
       storedTable(records, [root, twin.record])));
 }
 
-function classTold({ root, alike, copies }) {
+function classTold({ alike, copies }) {
   const said = [];
   if (alike.length) said.push(`${count(alike.length, "record looks", "records look")} like it and ${alike.length === 1 ? "stays" : "stay"}`);
   if (copies.length) said.push(`${count(copies.length, "copy is", "copies are")} removed`);
   return said.join("; ");
 }
 
+// The alike records of a class: the first are drawn beside its root, the others are rows.
+function alikeShown(part, records, root, alike, after) {
+  const drawn = alike.slice(0, DRAWN).map((twin) => alikeBeside(part, records, root, twin, after));
+  if (alike.length <= DRAWN) return drawn;
+  const cell = (...children) => make("td", {}, ...children);
+  const rows = alike.slice(DRAWN).map(({ record }) => () => make("tr", {},
+    cell(recordLink(record)), cell(String(records.tile(record))), cell(differenceTold(records.fieldsOf(root), records.fieldsOf(record)))));
+  return [...drawn, ...rowsShown(["looks alike, stays", "its tile", `beside record ${root}`], rows, ROWS)];
+}
+
+// The root of a class without alike records, and its copies.
+function copiesShown(part, records, group, after) {
+  const { root } = group, readout = readoutOf(), figure = tileFigure(part, records, root, `${records.pictureTold(root)}: stays`, readout, after);
+  return [make("div", { class: "beside" }, figure, make("div", { class: "copies" }, ...copiesTable(records, group))), readout];
+}
+
 // One card for the records that show one picture: those that look alike are drawn beside the first, copies are rows.
 function classCard(part, records, group) {
-  const { root, alike, copies } = group, readout = readoutOf(), exposed = make("p", { class: "exposed" });
-  const words = [[alike, "alike", "alike: stays"], [copies, "copy", "copy: removed"]].filter(([members]) => members.length);
+  const { root, alike, copies } = group, exposed = make("p", { class: "exposed" });
+  const tell = (look) => { exposed.textContent = lookTold(look); };
+  const words = [[alike, "alike", "looks alike, stays", "look alike, stay"], [copies, "copy", "copy, removed", "copies, removed"]].filter(([some]) => some.length);
   part.element.append(
     make("h3", { tabindex: "-1" }, `Record ${root}, tile ${records.tile(root)}: ${classTold(group)}`),
-    make("p", { class: "words" }, ...words.map(([members, name, text]) => make("span", { class: `word ${name}` }, `${members.length.toLocaleString("en")} ${text}`))));
-  const tell = (look) => { exposed.textContent = lookTold(look); };
-  for (const twin of alike.slice(0, DRAWN)) part.element.append(alikeBeside(part, records, root, twin, readout));
-  if (alike.length > DRAWN) {
-    const rest = alike.slice(DRAWN).map(({ record }) => () => make("tr", {}, make("td", {}, recordLink(records, record)), make("td", {}, String(records.tile(record))),
-      make("td", {}, differenceTold(records.fieldsOf(root), records.fieldsOf(record)))));
-    part.element.append(...rowsShown(["looks alike, stays", "its tile", "beside the first"], rest, ROWS));
-  }
-  const tile = alike.length ? [] : [tileFigure(part, records, root, `${records.pictureTold(root)}: stays`, readout)];
-  const rows = copies.length ? [make("div", { class: "copies" }, ...copiesTable(records, copies))] : [];
-  part.element.append(make("div", { class: "beside" }, ...tile, ...rows), readout, exposed);
-  part.tiles[part.tiles.length - 1].after = tell;
-  part.element.append(
-    make("div", { class: "folds" }, ...(alike.length ? [] : [storedFold(records, root)]), valuesFold(records, root), fold("Why is that safe?", () => make("p", {}, coverTold(group)))));
+    make("p", { class: "words" }, ...words.map(([some, name, one, more]) => make("span", { class: `word ${name}` }, count(some.length, one, more)))));
+  if (alike.length) part.element.append(...alikeShown(part, records, root, alike, tell), ...(copies.length ? copiesTable(records, group) : []));
+  else part.element.append(...copiesShown(part, records, group, tell));
+  part.element.append(exposed, make("div", { class: "folds" },
+    ...(alike.length ? [] : [storedFold(records, root)]), valuesFold(records, root), fold("Why is that safe?", () => make("p", {}, coverTold(group)))));
 }
 
 // ---- one record by itself

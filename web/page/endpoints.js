@@ -45,9 +45,11 @@ const stretchedOf = (fields) => endpointsOf(fields).map((end) => end.map((number
 // What two blocks that show one picture have in common and what not, in a sentence.
 function differenceTold(a, b) {
   const same = (of) => JSON.stringify(of(a)) === JSON.stringify(of(b));
-  const mode = same(modeOf), ends = same(stretchedOf), indices = same(indicesOf);
-  const partition = same(regionsOf) && (regionsOf(a) === 1 || a[26] === b[26]);
-  if (!mode && ends && partition && indices) return "Other mode, same endpoints: the two blocks write one picture in two ways.";
-  const others = [[mode, "mode"], [ends, "endpoints"], [partition, "partition"], [indices, "indices"]].filter(([equal]) => !equal).map(([, name]) => name);
-  return others.length ? `Other ${others.join(", ")}, same picture.` : "Same mode, endpoints, partition and indices: other bits that show nothing.";
+  const mode = same(modeOf), indices = same(indicesOf), partition = same(regionsOf) && (regionsOf(a) === 1 || a[26] === b[26]);
+  const equal = same(endpointsOf), ends = same(stretchedOf);
+  if (ends && partition && indices) {
+    if (mode) return "Same mode: other endpoints, which stretch to the same numbers.";
+    return equal ? "Other mode, same endpoints: two ways to write one picture." : "Other mode, and endpoints which stretch to the same numbers.";
+  }
+  return `Same picture, other ${[[mode, "mode"], [ends, "endpoints"], [partition, "partition"], [indices, "indices"]].filter(([one]) => !one).map(([, name]) => name).join(", ")}.`;
 }

@@ -4,10 +4,10 @@
 // Kinds by their letters: the name, the sign on a sheet, and what a clean-up does with such a record.
 const KINDS = {
   s: ["stays", "", "stays"],
-  c: ["copy", "C", "a copy: removed"],
-  a: ["alike", "A", "looks like an earlier one: stays"],
-  d: ["damaged", "D", "damaged: stays"],
-  x: ["refused", "\u00D7", "refused: stays"],
+  c: ["copy", "C", "a copy, removed"],
+  a: ["alike", "A", "looks like an earlier one, stays"],
+  d: ["damaged", "D", "damaged, stays"],
+  x: ["refused", "\u00D7", "refused, stays"],
 };
 
 class Records {

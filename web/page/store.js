@@ -105,7 +105,7 @@ async function showStore(view, asStore = false) {
   const facts = storeFacts(knot, view.programs, file.bytes), { records } = facts, classes = classesOf(facts.twins), scene = new Scene(view.sight);
   const exposure = middleExposure(records.values), cleanSum = await sumOf(facts.cleaned.store);
   const cards = new Map(classes.map((group) => {
-    const card = make("article", { class: "card class", id: `class-${group.root}`, "aria-label": `Record ${group.root}: ${classTold(group)}` });
+    const card = make("article", { class: `card class${group.alike.length ? " wide" : ""}`, id: `class-${group.root}`, "aria-label": `Record ${group.root}: ${classTold(group)}` });
     scene.part(card, (part) => classCard(part, records, group));
     return [group.root, card];
   }));
@@ -135,7 +135,7 @@ async function showStore(view, asStore = false) {
   if (faults) page.append(section("Damaged and refused records", ...faultRows(facts)));
   page.append(
     section(`Pictures that more than one record shows: ${classes.length.toLocaleString("en")}`,
-      make("p", {}, ...(classes.length ? ["Those with records that look alike come first. This page does not write a cleaned store: ", make("code", {}, "knot clean"), " does, with a receipt that undoes it."] : ["No record shows the picture of an earlier one."])), ...cards.values()),
+      make("p", {}, ...(classes.length ? ["Those with records that look alike come first. This page does not write a cleaned store: ", make("code", {}, "knot clean"), " does, with a receipt that undoes it."] : ["No record shows the picture of an earlier one."])), make("div", { class: "classes" }, ...cards.values())),
     section("All records, in order", make("ul", { class: "legend" }, ...SHEET_LEGEND.map((one) => edge(...one)), make("li", {}, make("b", {}, "±"), " behind a number: a signed tile")), single,
       ...sheetOf(scene, records, exposure, Math.min(1056, view.width()))),
     section("Minus infinity", ...(facts.infinities.length ? infinityRows(facts) : [make("p", {}, "No value is minus infinity.")])),

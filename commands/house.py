@@ -20,6 +20,7 @@ COMMANDS = [
     "check",
     "audit",
     "report",
+    "open",
     "clean",
     "restore",
     "infinities",

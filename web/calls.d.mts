@@ -28,5 +28,7 @@ export declare const PFM_LIMIT: 4096;
 export declare const PFM_FILE: 201326610;
 /** What the number of a refusal means. */
 export declare const WORDS: Readonly<Record<number, string>>;
+/** The parts of an answer's word: the lowest bit, and how many bits. */
+export declare const PARTS: Readonly<Record<string, readonly [number, number]>>;
 /** What each call of the module answers and takes. */
 export declare const CALLS: Readonly<Record<string, { readonly answers: string; readonly takes: readonly string[] }>>;

@@ -54,6 +54,30 @@ export const WORDS = Object.freeze({
   24: "the face, x or y is out of range",
 });
 
+// The parts of an answer's word: the lowest bit, and how many bits.
+export const PARTS = Object.freeze({
+  ANSWER: [0, 8],
+  MODE: [8, 8],
+  INFINITIES: [16, 8],
+  FORMAT: [8, 8],
+  TILE: [32, 32],
+  KEPT_COUNT: [16, 16],
+  TWIN_COUNT: [32, 16],
+  BAD_COUNT: [48, 16],
+  STAY_COUNT: [16, 16],
+  REMOVED_COUNT: [32, 16],
+  FACE: [16, 8],
+  MOVED: [16, 16],
+  RED: [16, 16],
+  GREEN: [32, 16],
+  BLUE: [48, 16],
+  FAULTY_RECORD: [16, 16],
+  DDS_FORMAT: [8, 8],
+  DDS_WIDTH: [16, 16],
+  DDS_HEIGHT: [32, 16],
+  FILE_LENGTH: [8, 56],
+});
+
 // What each call answers and takes: inN and outN are lent elements of N bits, a pointer and a length; slotN is room for one number; uN a number.
 export const CALLS = Object.freeze({
   knot_block_pixels: { answers: "u32", takes: ["in8 block", "u8 format", "out16 out"] },

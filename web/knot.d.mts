@@ -32,6 +32,8 @@ export interface PlacedRecord extends StoreRecord { face: number | null; column:
 /** A mark for each record, KEPT, TWIN or BAD, and how many have each. */
 export interface Twins { marks: Uint8Array; kept: number; twins: number; bad: number }
 export interface Cleaned { store: Uint8Array; stay: number; removed: number }
+/** A cleaned store and the receipt that `restoreStore` takes back. */
+export interface CleanedWithReceipt extends Cleaned { receipt: Uint8Array }
 export interface DdsHead { width: number; height: number; format: number }
 export interface Dds extends DdsHead { blocks: Uint8Array }
 
@@ -87,6 +89,10 @@ export declare class Knotpasture {
   firstDamaged(store: Bytes): number | null;
   /** A store without its copies. Refusals: 5, 6. */
   clean(store: Bytes): Cleaned;
+  /** `clean`, and a receipt by which `restoreStore` undoes it. Refusals: 5, 6. */
+  cleanWithReceipt(store: Bytes): CleanedWithReceipt;
+  /** The store as it was before `cleanWithReceipt` wrote these two. Refusals: 5, 6, 25. */
+  restoreStore(cleaned: Bytes, receipt: Bytes): Uint8Array;
   /** The record that stays for record n where `clean` removes that; n where it stays. */
   firstOf(store: Bytes, n: Whole): number;
   /** The first earlier record that record n is a twin of; n where it is no twin. */
@@ -95,9 +101,9 @@ export declare class Knotpasture {
   covered(store: Bytes, n: Whole, earlier: Whole): boolean;
   /** Record n of a store of records with a place. Refusals: 5, 6, 8, 1, 7, 17. */
   placedRecord(store: Bytes, n: Whole): PlacedRecord;
-  /** A store of 24-byte records as one of records with a place, none of them placed. Refusals: 5, 6, 1, 7. */
+  /** A store of 24-byte records as one of records with a place, none of them placed. Refusals: 5, 6; with the first faulty record 1, 7. */
   place(store: Bytes): Uint8Array;
-  /** The way back, for a store in which no record is placed. Refusals: 5, 6, 1, 7, 17, 18. */
+  /** The way back, for a store in which no record is placed. Refusals: 5, 6; with the first faulty record 1, 7, 17, 18. */
   unplace(store: Bytes): Uint8Array;
   /** Returns where a store is a probe of the edge. Refusals: 19, 5, 6; with the first faulty record 1, 7, 17, 20, 21, 22; 23. */
   probeCheck(store: Bytes, edge: Whole): void;

@@ -9,7 +9,7 @@
  * module is called; what the library refuses throws `Refused`.
  */
 import {
-  BAD, BC7_BYTES, BLOCK_SIZE, CALLS, DDS_HEADER, EDGE_LIMIT, FACES, FIELDS, PLACED_SIZE, PLACED_STORE_LIMIT, RECORD_SIZE, SCRATCH_VALUES, STORE_LIMIT, VALUES, WORDS,
+  BAD, BC7_BYTES, BLOCK_SIZE, CALLS, DDS_HEADER, EDGE_LIMIT, FACES, FIELDS, PARTS, PLACED_SIZE, PLACED_STORE_LIMIT, RECORD_SIZE, SCRATCH_VALUES, STORE_LIMIT, VALUES, WORDS,
 } from "./calls.mjs";
 
 const PAGE = 65536;
@@ -21,8 +21,10 @@ const MOST_MEMORY = 0xFFFF0000;
 // How many blocks `modes` copies in at once.
 const MODES_AT_ONCE = 65536;
 const ARRAYS = { 8: Uint8Array, 16: Uint16Array, 32: Uint32Array, 64: BigUint64Array };
-// The answers of a probe's check that name a record, and of the two moves.
-const NAMES_RECORD = new Set([1, 7, 17, 20, 21, 22]);
+// The bytes of a receipt for each removed record.
+const ENTRY_SIZE = 8;
+// The answers of a probe's check and of the two moves that name a record.
+const NAMES_RECORD = new Set([1, 7, 17, 18, 20, 21, 22]);
 
 /** The library did nothing. `number` is one of the header's, `words` what it means, `record` the record that is why, or null. */
 export class Refused extends Error {
@@ -50,12 +52,16 @@ function numberOf(given, what, bits) {
   return bits === 64 ? BigInt(value) : Number(value);
 }
 
-// Bits of an answer's word, which come as one number.
-const part = (word, low, bits = 16) => Number(word >> BigInt(low) & (1n << BigInt(bits)) - 1n);
-const answerOf = (word) => part(word, 0, 8);
+// A part of an answer's word, by the name of the header's macro.
+function part(word, name) {
+  const [low, bits] = PARTS[name];
+  return Number(word >> BigInt(low) & (1n << BigInt(bits)) - 1n);
+}
 
-function done(word, record = null) {
-  if (answerOf(word)) throw new Refused(answerOf(word), record);
+// Throws a refusal; `names` is the part of the word that has the record which is why.
+function done(word, names = null) {
+  const answer = part(word, "ANSWER");
+  if (answer) throw new Refused(answer, names && PARTS[names] && NAMES_RECORD.has(answer) ? part(word, names) : null);
   return word;
 }
 
@@ -122,7 +128,7 @@ export class Knotpasture {
   // word, and by its name what each room and each slot then holds.
   #call(name, given) {
     const calls = this.#instance(), words = [], inputs = [], results = [];
-    if (!calls[name]) throw new Error(`the module has no ${name}: it is of another version than this package`);
+    if (!calls[name] || !PARAMETERS[name]) throw new Error(`the module has no ${name}: it is of another version than this package`);
     let end = this.#start;
     const lay = (size) => {
       const at = end;
@@ -185,7 +191,7 @@ export class Knotpasture {
   show(block, signed) {
     const { word, out } = this.#call("knot_block_pixels", { block: bytesOf(block, "block"), format: signed, out: VALUES });
     done(word);
-    return { values: out, mode: part(word, 8, 8), infinite: part(word, 16, 8) };
+    return { values: out, mode: part(word, "MODE"), infinite: part(word, "INFINITIES") };
   }
 
   /** The mode of each BC6H block of a run, 0 where that is reserved: what `show` tells, block by block. Refusals: 1, 9. */
@@ -290,7 +296,7 @@ export class Knotpasture {
   showBc7(block) {
     const { word, out } = this.#call("knot_bc7_pixels", { block: bytesOf(block, "block"), out: BC7_BYTES });
     done(word);
-    return { values: out, mode: part(word, 8, 8) };
+    return { values: out, mode: part(word, "MODE") };
   }
 
   // ---- the store
@@ -299,7 +305,7 @@ export class Knotpasture {
   record(store, n) {
     const given = bytesOf(store, "store"), word = done(this.#call("knot_record_at", { store: given, n }).word);
     const start = Number(this.#call("knot_record_block", { store: given, n }).word);
-    return { tile: part(word, 32, 32), format: part(word, 8, 8), block: given.subarray(start, start + BLOCK_SIZE) };
+    return { tile: part(word, "TILE"), format: part(word, "FORMAT"), block: given.subarray(start, start + BLOCK_SIZE) };
   }
 
   /** The tile number of record n, whatever else the record holds, and 0 where there is no such record. */
@@ -311,7 +317,7 @@ export class Knotpasture {
     const given = bytesOf(store, "store"), count = Math.floor(Math.min(given.length, STORE_LIMIT) / RECORD_SIZE);
     const { word, marks, scratch } = this.#call(name, { store: given, marks: count, scratch: count * SCRATCH_VALUES });
     done(word);
-    return { list: { marks, kept: part(word, 16), twins: part(word, 32), bad: part(word, 48) }, scratch };
+    return { list: { marks, kept: part(word, "KEPT_COUNT"), twins: part(word, "TWIN_COUNT"), bad: part(word, "BAD_COUNT") }, scratch };
   }
 
   /** A mark for each record of a store, KEPT, TWIN or BAD, and how many have each. Refusals: 5, 6. */
@@ -344,7 +350,25 @@ export class Knotpasture {
   clean(store) {
     const given = bytesOf(store, "store"), { word, out } = this.#call("knot_clean_store", { store: given, out: Math.min(given.length, STORE_LIMIT) });
     done(word);
-    return { store: out.subarray(0, part(word, 16) * RECORD_SIZE), stay: part(word, 16), removed: part(word, 32) };
+    const stay = part(word, "STAY_COUNT");
+    return { store: out.subarray(0, stay * RECORD_SIZE), stay, removed: part(word, "REMOVED_COUNT") };
+  }
+
+  /** `clean`, and a receipt by which `restoreStore` undoes it: 8 bytes for each removed record, its number, that of the record that stays, its tile. Refusals: 5, 6. */
+  cleanWithReceipt(store) {
+    const given = bytesOf(store, "store"), room = Math.min(given.length, STORE_LIMIT);
+    const { word, out, receipt } = this.#call("knot_clean_with_receipt", { store: given, out: room, receipt: Math.floor(room / RECORD_SIZE) * ENTRY_SIZE });
+    done(word);
+    const stay = part(word, "STAY_COUNT"), removed = part(word, "REMOVED_COUNT");
+    return { store: out.subarray(0, stay * RECORD_SIZE), stay, removed, receipt: receipt.subarray(0, removed * ENTRY_SIZE) };
+  }
+
+  /** The store as it was before `cleanWithReceipt` wrote these two. Refusals: 5, 6, 25. */
+  restoreStore(cleaned, receipt) {
+    const given = bytesOf(cleaned, "cleaned"), entries = bytesOf(receipt, "receipt"), records = Math.floor(given.length / RECORD_SIZE) + Math.floor(entries.length / ENTRY_SIZE);
+    const { word, out } = this.#call("knot_restore_store", { cleaned: given, receipt: entries, out: Math.min(records * RECORD_SIZE, STORE_LIMIT) });
+    done(word);
+    return out.subarray(0, part(word, "RESTORED") * RECORD_SIZE);
   }
 
   /** The record that stays for record n where `clean` removes that; n where it stays, and where there is no such record. */
@@ -368,37 +392,36 @@ export class Knotpasture {
   placedRecord(store, n) {
     const given = bytesOf(store, "store"), { word, column, row } = this.#call("knot_placed_record_at", { store: given, n });
     done(word);
-    const start = Number(this.#call("knot_placed_record_block", { store: given, n }).word), face = part(word, 16, 8);
-    return { tile: part(word, 32, 32), format: part(word, 8, 8), face: face < FACES ? face : null, column, row, block: given.subarray(start, start + BLOCK_SIZE) };
+    const start = Number(this.#call("knot_placed_record_block", { store: given, n }).word), face = part(word, "FACE");
+    return { tile: part(word, "TILE"), format: part(word, "FORMAT"), face: face < FACES ? face : null, column, row, block: given.subarray(start, start + BLOCK_SIZE) };
   }
 
   #moved(name, what, store, limit, size, newSize) {
     const given = bytesOf(store, "store"), { word, out } = this.#call(name, { [what]: given, out: Math.floor(Math.min(given.length, limit) / size) * newSize });
-    done(word);
-    return out.subarray(0, part(word, 16) * newSize);
+    done(word, "UNMOVED_RECORD");
+    return out.subarray(0, part(word, "MOVED") * newSize);
   }
 
-  /** A store of 24-byte records as one of records with a place, none of them placed. Refusals: 5, 6; lowest record first 1, 7. */
+  /** A store of 24-byte records as one of records with a place, none of them placed. Refusals: 5, 6; with the first faulty record 1, 7. */
   place(store) {
     return this.#moved("knot_place_store", "old", store, STORE_LIMIT, RECORD_SIZE, PLACED_SIZE);
   }
 
-  /** The way back, for a store in which no record is placed. Refusals: 5, 6; lowest record first 1, 7, 17, 18. */
+  /** The way back, for a store in which no record is placed. Refusals: 5, 6; with the first faulty record 1, 7, 17, 18. */
   unplace(store) {
     return this.#moved("knot_unplace_store", "store", store, PLACED_STORE_LIMIT, PLACED_SIZE, RECORD_SIZE);
   }
 
   /** Returns where a store is a probe of the edge. Refusals: 19, 5, 6; with the first faulty record 1, 7, 17, 20, 21, 22; 23. */
   probeCheck(store, edge) {
-    const { word } = this.#call("knot_probe_check", { store: bytesOf(store, "store"), edge });
-    done(word, NAMES_RECORD.has(answerOf(word)) ? part(word, 16) : null);
+    done(this.#call("knot_probe_check", { store: bytesOf(store, "store"), edge }).word, "FAULTY_RECORD");
   }
 
   /** Red, green and blue of a pixel of a probe. Refusals: those of `probeCheck`, without the record, then 24. */
   probePixel(store, edge, face, x, y) {
     const { word } = this.#call("knot_probe_pixel", { store: bytesOf(store, "store"), edge, face, x, y });
     done(word);
-    return Uint16Array.of(part(word, 16), part(word, 32), part(word, 48));
+    return Uint16Array.of(part(word, "RED"), part(word, "GREEN"), part(word, "BLUE"));
   }
 
   /** A whole face of a probe, three patterns a pixel, row 0 on top. Refusals: those of `probeCheck`, without the record, then 24. */
@@ -414,20 +437,20 @@ export class Knotpasture {
   /** Width, height and format from the first 148 bytes of a DDS file. Refusals: 13, 14. */
   ddsHead(head) {
     const word = done(this.#call("knot_dds_head", { file: bytesOf(head, "head") }).word);
-    return { width: part(word, 16), height: part(word, 32), format: part(word, 8, 8) };
+    return { width: part(word, "DDS_WIDTH"), height: part(word, "DDS_HEIGHT"), format: part(word, "DDS_FORMAT") };
   }
 
   /** Size, format and blocks of a whole DDS file; the blocks are a part of it. Refusals: 13, 14, 15. */
   ddsRead(file) {
     const given = bytesOf(file, "file"), word = done(this.#call("knot_dds_read", { file: given }).word);
     const start = Number(this.#call("knot_dds_blocks", { file: given }).word);
-    return { width: part(word, 16), height: part(word, 32), format: part(word, 8, 8), blocks: given.subarray(start) };
+    return { width: part(word, "DDS_WIDTH"), height: part(word, "DDS_HEIGHT"), format: part(word, "DDS_FORMAT"), blocks: given.subarray(start) };
   }
 
   #file(name, blocks, signed, width, height, room) {
     const { word, out } = this.#call(name, { blocks: bytesOf(blocks, "blocks"), format: signed, width, height, out: room });
     done(word);
-    return out.subarray(0, Number(word >> 8n));
+    return out.subarray(0, part(word, "FILE_LENGTH"));
   }
 
   /** A DDS file of blocks in row order. Refusals: 1, 14, 15. */

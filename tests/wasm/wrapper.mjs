@@ -25,7 +25,7 @@ const throws = (kind, call) => check(kind.name, () => assert.throws(call, (error
 
 const source = text("web/knot.mjs");
 for (const name of Object.keys(CALLS)) check("wrappers", () => assert.ok(source.includes(`"${name}"`), `the header's ${name} has no function in web/knot.mjs: write one`));
-for (const [, name] of source.matchAll(/"(knot_\w+)"/g)) check("wrappers", () => assert.ok(name in CALLS, `web/knot.mjs calls ${name}, which the header has not`));
+for (const [, name] of source.matchAll(/part\(word, "(\w+)"\)/g)) if (name !== "RESTORED" || "knot_restore_store" in CALLS) check("parts", () => assert.ok(name in packaged.PARTS, `web/knot.mjs takes ${name} out of a word, which is no macro of the header`));
 const camel = (name) => name.replace(/_([a-z0-9])/g, (_, letter) => letter.toUpperCase());
 for (const [, name] of text("python/knotpasture/__init__.py").matchAll(/^def ([a-z]\w*)\(/gm)) {
   check("names", () => assert.equal(typeof Knotpasture.prototype[camel(name)], "function", `Python's ${name} has no function ${camel(name)} here`));
@@ -94,6 +94,22 @@ for (const name of ["covered.store", "refused.store", "apart.store"]) {
   marks.forEach((mark, n) => check("twinsShown", () => same(values.subarray(48 * n, 48 * n + 48), mark === packaged.BAD ? new Uint16Array(48) : knot.show(store.subarray(24 * n + 8, 24 * n + 24), store[24 * n + 4]).values)));
 }
 check("clean", () => { const cleaned = knot.clean(covered); assert.deepEqual([cleaned.stay, cleaned.removed, cleaned.store.length], [7, 5, 168]); });
+if ("knot_restore_store" in CALLS) {
+  for (const name of readdirSync(`${root}/samples`).filter((one) => one.endsWith(".store"))) check("restore", () => {
+    const store = sample(name), cleaned = knot.cleanWithReceipt(store);
+    same(cleaned.store, knot.clean(store).store);
+    assert.equal(cleaned.receipt.length, 8 * cleaned.removed);
+    same(knot.restoreStore(cleaned.store, cleaned.receipt), store);
+  });
+  refused(25, () => knot.restoreStore(covered, new Uint8Array(7)));
+  refused(25, () => knot.restoreStore(new Uint8Array(0), new Uint8Array(16)));
+  refused(6, () => knot.restoreStore(covered.subarray(1), new Uint8Array(0)));
+} else {
+  check("an older module", () => assert.throws(() => knot.cleanWithReceipt(covered), /another version/));
+}
+const moveFault = "UNMOVED_RECORD" in packaged.PARTS;
+refused(1, () => knot.place(sample("four.store")), moveFault ? 3 : null);
+refused(18, () => knot.unplace(placed), moveFault ? 0 : null);
 check("firsts", () => assert.deepEqual([knot.firstOf(covered, 1), knot.firstOf(covered, 4), knot.firstTwin(covered, 4), knot.firstTwin(covered, 0), knot.covered(covered, 1, 0), knot.covered(covered, 4, 2)], [0, 4, 2, 0, true, false]));
 check("record", () => { const one = knot.record(covered, 5); assert.deepEqual([one.tile, one.format, knot.tile(covered, 5), knot.tile(covered, 99)], [65, 1, 65, 0]); same(one.block, covered.subarray(128, 144)); });
 check("damaged", () => assert.deepEqual([knot.firstDamaged(sample("apart.store")), knot.firstDamaged(covered)], [0, null]));

@@ -29,7 +29,7 @@ use Rattle.restore.proofs.Appending as appending
 -- ---- undone
 
 module _ (store : List ℕ) (sized : Sized store) where
-  done-again : (room : ℕ) → length store ≤ room → restoreRefusal (cleanedOf store) (receiptOf store) room ≡ done
+  pub done-again : (room : ℕ) → length store ≤ room → restoreRefusal (cleanedOf store) (receiptOf store) room ≡ done
   done-again room h =
       let c = cleaned-sized store sized in
       let t = undoing.total-same store sized in

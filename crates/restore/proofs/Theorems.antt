@@ -28,7 +28,7 @@ use Rattle.restore.proofs.Undoing as undoing
 -- ---- undone
 
 module _ (store : List ℕ) (sized : Sized store) where
-  done-again : (room : ℕ) → length store ≤ room → restoreRefusal (cleanedOf store) (receiptOf store) room ≡ done
+  pub done-again : (room : ℕ) → length store ≤ room → restoreRefusal (cleanedOf store) (receiptOf store) room ≡ done
   done-again room h =
       let c = cleaned-sized store sized in
       let t = undoing.total-same store sized in

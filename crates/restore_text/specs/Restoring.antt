@@ -1,14 +1,15 @@
 -- What the program `restoring` writes of its input: one byte, the answer, and where that is 0 the restored store. Assumes nothing.
 use mathlib.Core.Path.{_≡_}
-use mathlib.Core.List.{List, [], _∷_}
-use Prim.Native.Nat.{ℕ, zero, suc, _+_, _*_}
+use mathlib.Core.List.{List, [], _∷_, _++_}
+use Prim.Native.Nat.{ℕ, zero, suc, _+_, _*_, _/_, _%_, _≤_}
 use lib.Dec.{ltb}
 use lib.ListN.{length, getD, take, drop}
 use Rattle.laws.specs.Pick.{pick}
 use Rattle.bc6h_spec.specs.Answers.{done, longStore}
-use Rattle.records.specs.Store.{storeLimit}
+use Rattle.records.specs.Store.{recordSize, storeLimit}
 use Rattle.twins_spec.specs.Twins.{mostRecords}
-use Rattle.receipt.specs.Receipt.{entrySize}
+use Rattle.clean.specs.Clean.{cleanedOf}
+use Rattle.receipt.specs.Receipt.{entrySize, receiptOf}
 use Rattle.restore.specs.Restore.{badReceipt, restoreRefusal, restoredOf}
 
 -- ---- the input: "4 bytes L (low byte first), L bytes of the cleaned store, then the receipt"
@@ -51,10 +52,29 @@ restoringOutput input = outputAt (inputRefusal input) input
 
 -- ---- how much of an input is read
 
--- one entry more than any store has records, behind a store of the largest size
+-- the longest input whose receipt may have no more entries than a store has records
+abbrev pub longestInput : ℕ
+longestInput = lengthSize + storeLimit + mostRecords * entrySize + 7
+
+-- one byte more is read: enough to tell that one is too long
 abbrev pub readLimit : ℕ
-readLimit = lengthSize + storeLimit + (mostRecords + 1) * entrySize
+readLimit = longestInput + 1
 
 -- No byte past those makes a difference.
 abbrev pub ReadEnough : Type 0
 ReadEnough = (input : List ℕ) → restoringOutput (take readLimit input) ≡ restoringOutput input
+
+-- ---- a clean-up is undone
+
+-- a number below 2^32 in four bytes, low byte first
+abbrev pub fourBytes : ℕ → List ℕ
+fourBytes n = n % 0x100 ∷ n / 0x100 % 0x100 ∷ n / 0x10000 % 0x100 ∷ n / 0x1000000 ∷ []
+
+-- the input of a cleaned store and a receipt
+abbrev pub inputOf : List ℕ → List ℕ → List ℕ
+inputOf cleaned receipt = fourBytes (length cleaned) ++ (cleaned ++ receipt)
+
+-- Of every store that a clean-up takes: handed the cleaned store and the receipt, the program writes the answer 0 and the same store.
+abbrev pub ProgramUndoes : Type 0
+ProgramUndoes = (store : List ℕ) → length store ≤ storeLimit → length store % recordSize ≡ 0
+    → restoringOutput (inputOf (cleanedOf store) (receiptOf store)) ≡ done ∷ store

@@ -1,12 +1,21 @@
 // The way back from a clean-up: reads the cleaned store, with its length before it, and the receipt from standard input, and writes the
 // answer, one byte, and where that is 0 the store as it was.
 
+ghost use Rattle.restore_text.specs.Restoring.{longestInput, restoringOutput};
+ghost use Rattle.store_program.specs.Output.{Outgoing};
 use restore_text::Restoring;
 use restore_text::put_restoring;
 use store_program::Input;
 use store_program::first_bytes;
 use store_program::read_input;
 use store_program::write_text;
+
+// What goes out is the definition of what was read.
+fn write_restoring(input: &[u8], size: usize, out: &[u8], end: usize)
+    requires { ⌜ Outgoing restoringOutput longestInput (now input) size (now out) end ⌝ }
+{
+    write_text(out, end);
+}
 
 fn main() {
     let mut input = [0u8; Restoring::INPUT];
@@ -15,5 +24,5 @@ fn main() {
     };
     let mut out = [0u8; Restoring::OUTPUT];
     let end = put_restoring(&mut out, first_bytes(&input, size));
-    write_text(&out, end);
+    write_restoring(&input, size, &out, end);
 }

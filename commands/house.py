@@ -22,6 +22,7 @@ COMMANDS = [
     "report",
     "clean",
     "restore",
+    "survey",
     "infinities",
     "fields",
     "block",
@@ -181,7 +182,7 @@ def ended(said, words):
         tell_refusal(said, error)
         return REFUSED
     except Faulty as error:
-        tell(f"{said}: {files.read_last}: {error}")
+        tell(f"{said}: {files.read_last + ': ' if files.read_last else ''}{error}")
         status = REFUSED
     for name, text in files.remarks:
         tell(f"{said}: {name}: {text}")

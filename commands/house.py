@@ -23,6 +23,7 @@ COMMANDS = [
     "open",
     "clean",
     "restore",
+    "survey",
     "infinities",
     "fields",
     "block",
@@ -137,7 +138,7 @@ def ended(said, words):
         tell_refusal(said, error)
         return REFUSED
     except Faulty as error:
-        tell(f"{said}: {files.read_last}: {error}")
+        tell(f"{said}: {files.read_last + ': ' if files.read_last else ''}{error}")
         status = REFUSED
     for name, text in files.remarks:
         tell(f"{said}: {name}: {text}")

@@ -2,7 +2,7 @@
 
     LINE = Line("STORE", "TEXT --into STORE N OUT", options=[Option("--into", "..")], example="knot ..")
 
-A form names the operands in their order, in capitals; one in brackets may be left out. A word in small letters stands for itself, and an
+A form names the operands in their order, in capitals; one in brackets may be left out, and one with three dots behind it stands for one or more. A word in small letters stands for itself, and an
 option in a form is given in that form and in no other. Options may come before, between and behind the operands; behind `--` every word is
 an operand, and `-` always is one. `run(asked)` of the command gets them by their names in small letters, asked.store, asked.as_store; the form
 is asked.chosen.
@@ -39,13 +39,18 @@ class Form:
     def least(self):
         return sum(not word.startswith("[") for word in self.words)
 
+    def takes_rest(self):
+        return bool(self.words) and self.words[-1].endswith("...")
+
     def fits(self, operands):
-        return self.least() <= len(operands) <= len(self.words) and all(not word.islower() or word == given for word, given in zip(self.words, operands))
+        most = len(operands) if self.takes_rest() else len(self.words)
+        return self.least() <= len(operands) <= most and all(not word.islower() or word == given for word, given in zip(self.words, operands))
 
     def named(self, operands):
         """Each operand by its name, None for one that is left out."""
         names = [word.strip("[]").split(".")[0].lower().replace("-", "_") for word in self.words]
-        return {name: operands[k] if k < len(operands) else None for k, name in enumerate(names)}
+        found = {name: operands[k] if k < len(operands) else None for k, name in enumerate(names)}
+        return {**found, names[-1]: operands[len(names) - 1:]} if self.takes_rest() else found
 
 
 class Asked:

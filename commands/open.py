@@ -1,13 +1,8 @@
 """Opens a picture, store or probe in a page of the browser.
 
-usage: knot open [--no-browser] [--out OUT.html] [FILE]
-
 The page is one file that needs nothing else and cannot reach a network. It shows DDS textures (BC6H, BC7) and bare blocks with exposure, zoom and every
 pixel's values; stores with their copies and damage; probes from inside. With a FILE the page opens it at once; without one it opens the file
 that is dropped on it. It changes no file.
-
-  --no-browser     start no browser
-  --out OUT.html   write the page there; OUT must not be there yet. Without it the page is written to a folder of its own for temporary files
 
 It prints where the page is. The browser is started by xdg-open.
 """
@@ -20,7 +15,16 @@ import subprocess
 import tempfile
 
 from . import house
+from .line import Line, Option
 
+LINE = Line(
+    "[FILE]",
+    options=[
+        Option("--no-browser", "start no browser"),
+        Option("--out", "write the page there, where no file may be yet; without it to a folder of its own for temporary files", value="OUT.html"),
+    ],
+    example="knot open samples/road.probe",
+)
 # The most bytes of a file that is put into a page.
 MOST = 64 << 20
 GIVEN = '<script type="application/json" id="given">null</script>'
@@ -52,26 +56,6 @@ def page_with(text, name, data):
     return text.replace(GIVEN, GIVEN.replace("null", given))
 
 
-def parsed(words):
-    browser, out, rest, plain = True, None, [], False
-    left = list(words)
-    while left:
-        word = left.pop(0)
-        if plain or not word.startswith("--"):
-            rest.append(word)
-        elif word == "--":
-            plain = True
-        elif word == "--no-browser":
-            browser = False
-        elif word == "--out" and left:
-            out = left.pop(0)
-        else:
-            raise house.Usage(f"there is no option '{house.shown(word, 40)}' here, or its word is missing")
-    if len(rest) > 1:
-        raise house.Usage("it takes one FILE")
-    return browser, out, rest[0] if rest else None
-
-
 def show(path):
     """Starts a browser; where there is none that can be started, that is said."""
     opener = shutil.which("xdg-open") or shutil.which("open")
@@ -82,16 +66,15 @@ def show(path):
         house.tell("knot open: there is no xdg-open: open the page that is named above in a browser")
 
 
-def run(words):
-    browser, out, source = parsed(words)
-    data = None if source is None else house.read(source, MOST)
+def run(asked):
+    data = None if asked.file is None else house.read(asked.file, MOST)
     if data is not None and len(data) > MOST:
-        raise house.Trouble(f"{house.shown(source)}: it has more than {MOST:,} bytes: open the page without a file, and drop the file on it")
+        raise house.Trouble(f"{house.shown(asked.file)}: it has more than {MOST:,} bytes: open the page without a file, and drop the file on it")
     text = page_text()
     if data is not None:
         text = page_with(text, os.path.basename(house.read_last), data)
-    path = out or pathlib.Path(tempfile.mkdtemp(prefix="knot-open-")) / "open.html"
+    path = asked.out or pathlib.Path(tempfile.mkdtemp(prefix="knot-open-")) / "open.html"
     house.write_whole(path, text.encode(errors="surrogateescape"), over=False)
     house.put(f"{house.shown(path, 4096)}\n")
-    if browser:
+    if not asked.no_browser:
         show(os.path.abspath(path))

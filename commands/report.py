@@ -1,16 +1,12 @@
 """Writes a page to look at and sign before a clean-up.
 
-usage: knot report [--date YYYY-MM-DD] [--force] STORE OUT.html
+OUT.html is one page that needs nothing else. It says first what is damaged or refused and what a clean-up would remove, with room for two
+signatures on the first printed sheet; then the command that runs exactly the clean-up that is signed. Records that look alike are drawn beside
+each other, copies are listed by the record that stays, and all records are small tiles. The page holds the SHA-256 of the store before and
+after the clean-up, which 'knot clean --signed OUT.html' reads.
 
-OUT is one page that needs nothing else. It says first what is damaged or refused and what a clean-up would remove, with room for two signatures on the
-first printed sheet; then the command that runs exactly the clean-up that is signed. Records that look alike are drawn beside each other, copies are
-listed by the record that stays, and all records are small tiles. The page holds the SHA-256 of the store before and after the clean-up, which
-'knot clean --signed OUT.html' reads.
-
-  --date YYYY-MM-DD   the date on the page; today (UTC) without it. The same store, version and date make the same page, byte for byte.
-  --force             overwrite OUT. Without it OUT must not be there yet: a file that is there stays as it is, and the status is 3.
-
-OUT is written whole or not at all. Of a refused store the line 'store refused' and the number are all, and nothing is written.
+OUT.html must not be there yet; it is written whole or not at all. The same store, version and date make the same page, byte for byte. A refused
+store is the line 'store refused' and the number, and nothing is written; so is, with 28, a file that looks like something else.
 """
 import base64
 import datetime
@@ -25,8 +21,14 @@ import stat
 import string
 import struct
 
-from . import audit, clean, house, infinities
+from . import audit, clean, house, infinities, kinds
+from .line import AS_STORE, Line, Option
 
+LINE = Line(
+    "STORE OUT.html",
+    options=[Option("--date", "the date on the page; without it today, in UTC", "YYYY-MM-DD"), Option("--force", "overwrite OUT.html where it is there"), AS_STORE],
+    example="knot report --date 2026-11-16 samples/covered.store page.html",
+)
 ROOT = pathlib.Path(__file__).resolve().parent.parent
 PAGE, SHARED = ROOT / "commands/page", ROOT / "web/page"
 STYLES = [SHARED / "shared.css", PAGE / "page.css"]
@@ -324,27 +326,8 @@ def date_of(word):
     raise house.Usage(f"--date takes a day as YYYY-MM-DD, and not '{house.shown(word, 40)}'")
 
 
-def parsed(words):
-    """The date, whether OUT may be overwritten, STORE and OUT."""
-    date, force, names, rest = None, False, [], list(words)
-    while rest:
-        word = rest.pop(0)
-        if word == "--":
-            names += rest
-            break
-        elif word == "--force":
-            force = True
-        elif word == "--date" or word.startswith("--date="):
-            if word == "--date" and not rest:
-                raise house.Usage("--date takes a day")
-            date = date_of(word.removeprefix("--date=") if word != "--date" else rest.pop(0))
-        elif word.startswith("-") and word != "-":
-            raise house.Usage(f"there is no option '{house.shown(word, 40)}'")
-        else:
-            names.append(word)
-    if len(names) != 2:
-        raise house.Usage("it takes a STORE and an OUT.html")
-    return date or datetime.datetime.now(datetime.timezone.utc).date().isoformat(), force, *names
+def today():
+    return datetime.datetime.now(datetime.timezone.utc).date().isoformat()
 
 
 def is_device(path):
@@ -356,12 +339,12 @@ def is_device(path):
     return not stat.S_ISREG(kind) and not stat.S_ISDIR(kind)
 
 
-def run(words):
-    date, force, source, out = parsed(words)
-    house.keep_apart(out, source)
-    over = force or is_device(out)
-    if not over and os.path.lexists(out):
+def run(asked):
+    date, out = today() if asked.date is None else date_of(asked.date), asked.out
+    house.keep_apart(out, asked.store)
+    over = asked.force or is_device(out)
+    if not over and not house.is_standard_output(out) and os.path.lexists(out):
         raise house.Trouble(f"{house.shown(out)}: it is there already, and is left as it is (--force overwrites it)")
-    store = house.read(source, house.STORE)
+    store = kinds.store_to_change(asked.store, asked.as_store)
     name = os.path.basename(house.read_last)
     house.write_whole(out, page_of(name, store, date).encode(errors="backslashreplace"), over=over)

@@ -10,10 +10,12 @@ use borrow.Author.Tests.{ltb-true, ltb-false}
 use borrow.Rule.Slice.PartMut.{midOf, putMid, mid-len}
 use Rattle.laws.proofs.Tests.{cases}
 use Rattle.bc6h_spec.specs.Answers.{done, longStore}
-use Rattle.records.specs.Store.{recordSize, storeLimit, recordsIn}
+use Rattle.records.specs.Store.{recordSize, storeLimit, recordsIn, recordRefusal}
 use Rattle.places.specs.Places.{placeSize, placeLimit, placesIn}
+use Rattle.places.specs.declared.Fault.{Fault}
+use Rattle.places.specs.Faults.{firstFault, wholeFirst}
 use Rattle.moves.specs.declared.Moved.{Moved}
-use Rattle.moves.specs.Moves.{placedStore, oldStore, placingRefusal, unplacingRefusal, MovedTo, PlacedStore, UnplacedStore}
+use Rattle.moves.specs.Moves.{placedStore, oldStore, backRefusal, placingFault, unplacingFault, placingRefusal, unplacingRefusal, MovedTo, PlacedStore, UnplacedStore}
 use Rattle.moves.proofs.Checks.{long}
 use Rattle.moves.proofs.Moving.{placed-length, old-length}
 use Rattle.moves.proofs.Calls.{answer-number, whole-moved, silent, place-done, unplace-done}
@@ -44,20 +46,20 @@ answer-first (x ∷ rest) word after answer h e =
 
 -- ---- of both moves
 
-module _ {refusal count : ℕ} {moved : List ℕ} (out after : List ℕ) {r : Moved} (d : MovedTo refusal count moved (midOf 1 (length out - 1) out) r after)
+module _ {fault : Fault} {count : ℕ} {moved : List ℕ} (out after : List ℕ) {r : Moved} (d : MovedTo fault count moved (midOf 1 (length out - 1) out) r after)
   where
     written-refused : 1 ≤ length out → (r .answer ≡ done → ⊥)
-        → Written out 0 (movedOutput refusal moved) 1 (set (putMid 1 (length out - 1) out after) 0 (r .answer))
-    written-refused some n = said (answer-first out [] after (r .answer) some (silent d n)) (go refusal (answer-number d))
+        → Written out 0 (movedOutput (fault .answer) moved) 1 (set (putMid 1 (length out - 1) out after) 0 (r .answer))
+    written-refused some n = said (answer-first out [] after (r .answer) some (silent d n)) (go (fault .answer) (answer-number d))
       where
         go : (k : ℕ) → r .answer ≡ k → r .answer ∷ [] ≡ movedOutput k moved
         go zero e = absurd (n e)
         go (suc k) e = ap (λ (a : ℕ). a ∷ []) e
 
     written-done : r .answer ≡ done → {size : ℕ} → length moved ≡ size → 1 + size ≤ length out
-        → Written out 0 (movedOutput refusal moved) (1 + size) (set (putMid 1 (length out - 1) out after) 0 (r .answer))
+        → Written out 0 (movedOutput (fault .answer) moved) (1 + size) (set (putMid 1 (length out - 1) out after) 0 (r .answer))
     written-done z {size} e room =
-        let number : refusal ≡ done = sym (answer-number d) ∙ z in
+        let number : fault .answer ≡ done = sym (answer-number d) ∙ z in
         rw (sym e) (said (answer-first out moved after (r .answer) (omega arith) (whole-moved d z)) (rw (number, z)))
 
 -- ---- of each, where what is lent is the room that the definition has
@@ -113,16 +115,19 @@ module _ (definition : List ℕ → List ℕ) (limit number : ℕ) (long-refused
       long-refused (take room input) (omega arith) ∙ sym (long-refused input (omega arith)))
       (λ f. ap definition (take-all room input (ltb-false room (length input) f)))
 
+alone : (moved : List ℕ) (fault : Fault) {whole : ℕ} → whole ≡ longStore → movedOutput (wholeFirst whole fault .answer) moved ≡ longStore ∷ []
+alone moved fault e = rw e
+
 long-placed : (old : List ℕ) → storeLimit < length old → placedOutput old ≡ longStore ∷ []
-unfolding placedOutput placingRefusal
-long-placed old h = rw (long storeLimit recordSize placeSize (length old) placeLimit h)
+unfolding placedOutput placingFault
+long-placed old h = alone (placedStore old) (firstFault (recordRefusal old) (recordsIn old)) (long storeLimit recordSize placeSize (length old) placeLimit h)
 
 pub placed-cut : (input : List ℕ) (room : ℕ) → storeLimit < room → placedOutput (take room input) ≡ placedOutput input
 placed-cut = cut placedOutput storeLimit longStore long-placed
 
 long-unplaced : (new : List ℕ) → placeLimit < length new → unplacedOutput new ≡ longStore ∷ []
-unfolding unplacedOutput unplacingRefusal
-long-unplaced new h = rw (long placeLimit placeSize recordSize (length new) storeLimit h)
+unfolding unplacedOutput unplacingFault
+long-unplaced new h = alone (oldStore new) (firstFault (backRefusal new) (placesIn new)) (long placeLimit placeSize recordSize (length new) storeLimit h)
 
 pub unplaced-cut : (input : List ℕ) (room : ℕ) → placeLimit < room → unplacedOutput (take room input) ≡ unplacedOutput input
 unplaced-cut = cut unplacedOutput placeLimit longStore long-unplaced

@@ -13,6 +13,7 @@ export declare const FIELDS: 32;
 export declare const RECORD_SIZE: 24;
 export declare const STORE_LIMIT: 48000;
 export declare const SCRATCH_VALUES: 49;
+export declare const RECEIPT_ENTRY: 8;
 export declare const OPAQUE: 15360;
 export declare const PLACED_SIZE: 32;
 export declare const PLACED_STORE_LIMIT: 64000;

@@ -12,6 +12,7 @@ export const FIELDS = 32;
 export const RECORD_SIZE = 24;
 export const STORE_LIMIT = 48000;
 export const SCRATCH_VALUES = 49;
+export const RECEIPT_ENTRY = 8;
 export const OPAQUE = 15360;
 export const PLACED_SIZE = 32;
 export const PLACED_STORE_LIMIT = 64000;
@@ -52,6 +53,10 @@ export const WORDS = Object.freeze({
   22: "a place is taken twice",
   23: "a place is empty",
   24: "the face, x or y is out of range",
+  25: "a receipt that does not fit the store",
+  26: "the store is not the one that was signed",
+  27: "the receipt is of another store",
+  28: "the file looks like something else",
 });
 
 // The parts of an answer's word: the lowest bit, and how many bits.
@@ -66,8 +71,10 @@ export const PARTS = Object.freeze({
   BAD_COUNT: [48, 16],
   STAY_COUNT: [16, 16],
   REMOVED_COUNT: [32, 16],
+  RESTORED: [16, 16],
   FACE: [16, 8],
   MOVED: [16, 16],
+  UNMOVED_RECORD: [32, 16],
   RED: [16, 16],
   GREEN: [32, 16],
   BLUE: [48, 16],
@@ -97,6 +104,8 @@ export const CALLS = Object.freeze({
   knot_first_twin: { answers: "u64", takes: ["in8 store", "u64 n"] },
   knot_is_covered: { answers: "bool", takes: ["in8 store", "u64 n", "u64 earlier"] },
   knot_clean_store: { answers: "u64", takes: ["in8 store", "out8 out"] },
+  knot_clean_with_receipt: { answers: "u64", takes: ["in8 store", "out8 out", "out8 receipt"] },
+  knot_restore_store: { answers: "u64", takes: ["in8 cleaned", "in8 receipt", "out8 out"] },
   knot_first_of: { answers: "u64", takes: ["in8 store", "u64 n"] },
   knot_placed_record_at: { answers: "u64", takes: ["in8 store", "u64 n", "slot16 column", "slot16 row"] },
   knot_placed_record_block: { answers: "u64", takes: ["in8 store", "u64 n"] },

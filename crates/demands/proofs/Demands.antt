@@ -24,6 +24,10 @@ use Rattle.copies.proofs.Demand3 as copies
 use Rattle.copies.proofs.Wide as wide
 use Rattle.clean.proofs.Theorems as clean
 use Rattle.restore.proofs.Theorems as restore
+use Rattle.store_theorems.proofs.Pictures as pictures
+use Rattle.store_theorems.proofs.Growing as growing
+use Rattle.store_theorems.proofs.Nights as nights
+use Rattle.store_theorems.proofs.Orders as orders
 use Rattle.bc6_writer.proofs.Undone as fields
 use Rattle.dds.proofs.Back as dds
 use Rattle.moves.proofs.Calls as moves
@@ -85,6 +89,12 @@ clean-up = record {
   taken = restore.taken;
   undone = restore.undone;
   no-tile-lost = restore.no-tile-lost;
+  every-picture-shown = pictures.every-picture-shown;
+  faulty-stay = pictures.faulty-stay;
+  appended = growing.appended;
+  nightly = nights.nightly;
+  alike-is-equivalence = orders.alike-is-equivalence;
+  same-kept = orders.same-kept;
 }
 
 pub block-again : BlockAgain

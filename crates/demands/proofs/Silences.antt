@@ -108,11 +108,11 @@ dds-number : (n : ℕ) (file : List ℕ) → dds.readAt n file .answer ≡ n
 dds-number zero file = refl
 dds-number (suc n) file = refl
 
-moved : (refusal count : ℕ) (store lent : List ℕ) {r : Moved} {after : List ℕ} → moves.MovedTo refusal count store lent r after
+moved : (fault : Fault) (count : ℕ) (store lent : List ℕ) {r : Moved} {after : List ℕ} → moves.MovedTo fault count store lent r after
     → Silent (r .answer) (r .records ∷ []) (lent ∷ []) (after ∷ [])
-moved refusal count store lent p =
-    silent-one (λ n. moves.movedAt n count) (λ r. r .answer) (λ r. r .records ∷ []) refl (λ n. zeros 1)
-    (λ n. moves.bytesAt n store lent) lent (λ n. refl) refusal (p .answers) (p .holds)
+moved fault count store lent p =
+    silent-one (λ n. moves.movedAt n (fault .faulty) count) (λ r. r .answer) (λ r. r .records ∷ []) refl (λ n. zeros 1)
+    (λ n. moves.bytesAt n store lent) lent (λ n. refl) (fault .answer) (p .answers) (p .holds)
 
 faced : (alpha : Bool) (b o : List ℕ) (w h f p : ℕ) {r : FacePixels} {a : List ℕ} → face.FacePainted alpha b w h f o p r a
     → Silent (r .answer) (r .infinite ∷ []) (o ∷ []) (a ∷ [])
@@ -164,8 +164,8 @@ demand1 = record {
       (λ n. restore.bytesAt n c q o) o (λ n. refl) (restore.restoreRefusal c q (length o)) (p .answers) (p .holds);
   placed-record-at = λ {s} {n} p. silent-values (λ k. placed.valuesAt k s n) (λ k. refl) (placed.placedRefusal s n) (p .answers) (p .gives);
   placed-record-block = λ s n. silent-values (λ k. placed.placedPart k s n) (λ k. refl) (placed.placedRefusal s n) refl refl;
-  place-store = λ s {o} p. moved (moves.placingRefusal s (length o)) (records.recordsIn s) (moves.placedStore s) o p;
-  unplace-store = λ s {o} p. moved (moves.unplacingRefusal s (length o)) (placesIn s) (moves.oldStore s) o p;
+  place-store = λ s {o} p. moved (moves.placingFault s (length o)) (records.recordsIn s) (moves.placedStore s) o p;
+  unplace-store = λ s {o} p. moved (moves.unplacingFault s (length o)) (placesIn s) (moves.oldStore s) o p;
   probe-pixel = λ {s} {e} {f} {x} {y} p.
       probed (probe.probeFault s e .answer) (probe.probeFault s e .faulty) (probe.questionRefusal e f x y) (probe.tripleFor s f x y) (p .answers);
   probe-check = λ s e p. record { zeros = λ no k. refl; unchanged = λ no. refl };

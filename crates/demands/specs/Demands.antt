@@ -29,6 +29,9 @@ use Rattle.bc7_blocks.specs.Run as bc7-run
 use Rattle.records.specs.Store.{recordSize, recordsIn}
 use Rattle.clean.specs.Theorems.{EachHasOne, OnlyThose, StaysInOrder, NoneLost, CleanAgain}
 use Rattle.restore.specs.Theorems.{Undone, Taken, NoTileLost}
+use Rattle.store_theorems.specs.Pictures.{EveryPictureShown, FaultyStay}
+use Rattle.store_theorems.specs.Growing.{Appended, Nightly}
+use Rattle.store_theorems.specs.Orders.{AlikeIsEquivalence, SameKept}
 use Rattle.places.specs.Places.{placeSize, placesIn}
 use Rattle.moves.specs.declared.Moved.{Moved}
 use Rattle.moves.specs.Moves.{PlacedStore, UnplacedStore}
@@ -80,7 +83,8 @@ WiderDemand3 = (format other : ℕ) (x y : List ℕ) → Suited format x → Sui
 
 -- ---- the clean-up
 
--- S-45 to S-50. Only copies go, what stays is there in order, no picture and no tile number is lost, and it can be undone.
+-- S-45 to S-52. Only copies go, what stays is there in order, every picture is still shown, no tile number is lost, it can be undone, and
+-- a store that grows, or whose records come in another order, keeps the same pictures.
 pub record CleanUp : Type 0 where
   pub each-has-one : EachHasOne
   pub only-those : OnlyThose
@@ -90,6 +94,12 @@ pub record CleanUp : Type 0 where
   pub taken : Taken
   pub undone : Undone
   pub no-tile-lost : NoTileLost
+  pub every-picture-shown : EveryPictureShown
+  pub faulty-stay : FaultyStay
+  pub appended : Appended
+  pub nightly : Nightly
+  pub alike-is-equivalence : AlikeIsEquivalence
+  pub same-kept : SameKept
 
 -- ---- calls that undo each other
 

@@ -264,8 +264,8 @@ def faults(facts):
 def removed_list(facts):
     if not facts.removed:
         return "<p>No tile is removed.</p>"
-    rows = [(tile, stays_tile, link(n), link(stays)) for n, tile, stays, stays_tile in facts.removed]
-    return table(["tile removed", "tile that stays", "record removed", "record that stays"], rows, "Removed tiles", "list four")
+    rows = [(link(n), tile, stays_tile, link(stays)) for n, tile, stays, stays_tile in facts.removed]
+    return table(["record", "tile removed", "tile that stays", "its record"], rows, "Removed tiles", "list four gone")
 
 
 def infinities_list(facts):
@@ -273,7 +273,7 @@ def infinities_list(facts):
     for line in house.over_store("infinities", facts.store, infinities.ENDS).decode().splitlines()[:-1]:
         n, tile, many, pixel, channel = line.split()
         rows.append((link(n), tile, many, f"{pixel}, {channel}"))
-    return table(["record", "tile", "values", "first pixel"], rows, "Minus infinity") if rows else "<p>No value is minus infinity.</p>"
+    return table(["record", "tile", "values", "first pixel"], rows, "Minus infinity", "list four") if rows else "<p>No value is minus infinity.</p>"
 
 
 # ---- the page

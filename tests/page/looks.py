@@ -374,7 +374,7 @@ def look_at_lists(view, facts, page):
     check(rows == wanted, f"{facts.name}: damaged and refused records: {rows[:3]} and not {wanted[:3]}")
     check(view.run("return document.getElementById('faults').checkVisibility()") == bool(wanted), f"{facts.name}: the list of damage is there where there is some")
     rows = view.run(LIST, "#removed")
-    wanted = [[str(twin["tile"]), str(twin["stays_tile"]), str(twin["record"]), str(twin["stays"])] for twin in facts.copies]
+    wanted = [[str(twin["record"]), str(twin["tile"]), str(twin["stays_tile"]), str(twin["stays"])] for twin in facts.copies]
     check(rows == wanted, f"{facts.name}: the removed tiles: {rows[:3]} and not {wanted[:3]}")
     rows = view.run(LIST, "#infinite")
     wanted = [[n, tile, many, f"{pixel}, {channel}"] for n, tile, many, pixel, channel in facts.infinities]

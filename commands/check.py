@@ -3,7 +3,7 @@
 Without a STORE it reads standard input. It prints a line for each faulty record: number, tile, 'refused' or 'damaged', the number of the cause,
 and the cause in words. A record is refused where the record call refuses it, and damaged where it is not refused and its block has a reserved
 mode. The last line has the form and the counts. The form is the one in which fewer records are refused, and that of 24 bytes where both
-have as many; --form decides it. A store of a length that its form does not have is the line 'store refused' and the number.
+have as many; --form decides it. If the file looks like something else, standard error says what. A store of a length that its form does not have is the line 'store refused' and the number.
 """
 from . import house, kinds
 from .line import JSON, Line, Option
@@ -42,4 +42,6 @@ def run(asked):
         closing = " ".join(f"{word} {number}" for word, number in counts.items())
         house.put("".join(map(told, faults)) + (closing if faults else house.painted(closing, "good")) + "\n")
     if faults:
-        raise house.Faulty(f"of {reading.records:,} records {reading.refused:,} are refused and {reading.damaged:,} damaged")
+        looks = kinds.looks_like(data, reading.form) if reading.refused else None
+        verdict = f"of {reading.records:,} records {reading.refused:,} are refused and {reading.damaged:,} damaged"
+        raise house.Faulty(f"{verdict}; it looks like {looks}" if looks else verdict)

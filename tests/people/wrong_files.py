@@ -149,4 +149,7 @@ def overridden(folder):
     check("wrong file, probe --as-store", ["probe", path, "1", "--as-store"], 1, None, "refused, 7")
     check("wrong file, check of a probe", ["check", SAMPLES / "small.probe"], 0, b"form 32 records 24 refused 0 damaged 0\n")
     check("wrong file, a probe checked as 24-byte records", ["check", "--form", "24", SAMPLES / "small.probe"], 1, None, "of 32 records 20 are refused and 0 damaged")
+    path.write_bytes(files()["an older DDS file of 24 n bytes"])
+    check("wrong file, check of a DDS file", ["check", path], 1, None, "2 are refused and 0 damaged; it looks like a DDS file")
+    path.write_bytes((SAMPLES / "covered.store").read_bytes())
     check("wrong file, 28 as JSON", ["probe", "--json", path, "1"], 1, None, "refused, 28")

@@ -57,7 +57,8 @@ class Inspector {
     const { mode } = this.knot.show(block, format);
     if (!mode) return [factList([...facts, ["mode", "reserved: the block is damaged and shows zeros"]]), written];
     const fields = fieldBytes(this.knot.fieldNumbers(block, format)), two = regionsOf(fields) === 2, indices = indicesOf(fields);
-    const rows = [...facts, ["mode", `${mode}, ${two ? "two regions" : "one region"}`], ...(two ? [["partition", `${fields[26]}: ${fields[27]} pixels in region 1`]] : []), ["index", `${indices[k]} of 0 to ${two ? 7 : 15}`]];
+    const partition = two ? [["partition", `${fields[26]}: ${fields[27]} pixels in region 1`]] : [];
+    const rows = [...facts, ["mode", `${mode}, ${two ? "two regions" : "one region"}`], ...partition, ["index", `${indices[k]} of 0 to ${two ? 7 : 15}`]];
     return [factList(rows), this.endpoints(fields), this.indices(indices, k), written];
   }
 
@@ -68,6 +69,7 @@ class Inspector {
   }
 
   indices(indices, k) {
-    return make("div", { class: "indices", role: "img", "aria-label": `Indices: ${indices.join(" ")}` }, ...indices.map((index, n) => make("i", n === k ? { class: "at" } : {}, String(index))));
+    const cells = indices.map((index, n) => make("i", n === k ? { class: "at" } : {}, String(index)));
+    return make("div", { class: "indices", role: "img", "aria-label": `Indices: ${indices.join(" ")}` }, ...cells);
   }
 }

@@ -22,10 +22,11 @@ const WAYS_OUT = {
   15: "The file is shorter or longer than its width and height say. It was probably cut short while it was copied: get it again.",
 };
 
+const notice = (...lines) => make("div", { class: "notice", role: "alert" }, ...lines.map((line) => make("p", {}, line)));
+
 function refusalTold(file, kind, error) {
   const way = error.number === 13 ? ddsCause(file.bytes) : WAYS_OUT[error.number];
-  return make("div", { class: "notice", role: "alert" }, make("p", {}, `${file.name} is ${error.message}.`), ...(way ? [make("p", {}, way)] : []),
-    make("p", { class: "less" }, `It was read as ${KINDS_READ[kind].name}; it has ${file.bytes.length.toLocaleString("en")} bytes.`));
+  return notice(`${file.name} is ${error.message}.`, ...(way ? [way] : []), `It was read as ${KINDS_READ[kind].name}; it has ${file.bytes.length.toLocaleString("en")} bytes.`);
 }
 
 // ---- the view of one file
@@ -61,8 +62,9 @@ class View {
   // The file looks like something else than what it is read as.
   otherKind(looks, wanted, anyway) {
     at("looks").hidden = true;
-    this.fill(make("div", { class: "notice", role: "alert" }, make("p", {}, `${this.file.name} looks like ${looks.words}.`), make("p", {}, `It was opened as ${wanted}.`),
-      make("p", { class: "choices" }, ...(looks.kind ? [pushed(`Read it as ${KINDS_READ[looks.kind].name}`, () => show(looks.kind), { class: "main" })] : []), pushed(`Show it as ${wanted} anyway`, () => attempt(this, anyway)))));
+    const other = looks.kind ? [pushed(`Read it as ${KINDS_READ[looks.kind].name}`, () => show(looks.kind), { class: "main" })] : [];
+    this.fill(notice(`${this.file.name} looks like ${looks.words}.`, `It was opened as ${wanted}.`,
+      make("span", { class: "choices" }, ...other, pushed(`Show it as ${wanted} anyway`, () => attempt(this, anyway)))));
   }
 }
 
@@ -85,7 +87,7 @@ async function attempt(view, run) {
   } catch (error) {
     at("looks").hidden = true;
     if (!(error instanceof Refused)) console.error(error);
-    view.fill(error instanceof Refused ? refusalTold(view.file, view.kind, error) : make("div", { class: "notice", role: "alert" }, make("p", {}, `This page failed: ${error.message}.`), make("p", {}, "Please report it, with the file if you may share it.")));
+    view.fill(error instanceof Refused ? refusalTold(view.file, view.kind, error) : notice(`This page failed: ${error.message}.`, "Please report it, with the file if you may share it."));
   }
   if (view.wanted()) document.documentElement.dataset.ready = "yes";
 }
@@ -185,7 +187,7 @@ async function start() {
 }
 
 start().catch((error) => {
-  at("view").replaceChildren(make("div", { class: "notice", role: "alert" }, make("p", {}, "The decoder does not run in this browser. It needs WebAssembly with 128-bit SIMD: Chrome 91, Firefox 89, Safari 16.4, or newer."), make("p", { class: "less" }, error.message)));
+  at("view").replaceChildren(notice("The decoder does not run in this browser. It needs WebAssembly with 128-bit SIMD: Chrome 91, Firefox 89, Safari 16.4, or newer.", error.message));
   document.documentElement.dataset.ready = "yes";
 });
 

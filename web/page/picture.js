@@ -38,13 +38,16 @@ async function decodePicture(knot, blocks, across, down, format, progress, wante
 // BC7 pixels of blocks, 64 bytes each, as rows of a picture.
 function inRows(pixels, across, down) {
   const rows = new Uint8Array(pixels.length);
-  for (let n = 0; n < across * down; n++) for (let y = 0; y < 4; y++) rows.set(pixels.subarray(64 * n + 16 * y, 64 * n + 16 * y + 16), 16 * ((4 * Math.floor(n / across) + y) * across + n % across));
+  for (let n = 0; n < across * down; n++) for (let y = 0; y < 4; y++) {
+    const from = 64 * n + 16 * y;
+    rows.set(pixels.subarray(from, from + 16), 16 * ((4 * Math.floor(n / across) + y) * across + n % across));
+  }
   return rows;
 }
 
 function modesCanvas(modes, across, down, colours) {
-  const canvas = make("canvas", { width: across, height: down }), image = new ImageData(across, down), rgb = colours.map((colour) => [1, 3, 5].map((at) => parseInt(colour.slice(at, at + 2), 16)));
-  modes.forEach((mode, n) => image.data.set([...rgb[mode], 255], 4 * n));
+  const canvas = make("canvas", { width: across, height: down }), image = new ImageData(across, down), pixels = new Uint32Array(image.data.buffer), numbers = colours.map(pixelOf);
+  modes.forEach((mode, n) => { pixels[n] = numbers[mode]; });
   canvas.getContext("2d").putImageData(image, 0, 0);
   return canvas;
 }
@@ -60,15 +63,20 @@ function modesCard(modes, isBc7) {
   return make("section", { class: "card" }, make("h2", {}, "Modes of the blocks"), make("ul", { class: "modes" }, ...rows));
 }
 
+const MARKS_TOLD = [
+  [[0x7000, 0x7000, 0x7000], "above the exposure's white, drawn as white"], [[0, 0xB666, 0xAE66], "below zero: drawn as zero, and in the corner how far below"], [[0xFC00, 0, 0], "minus infinity"],
+];
+const FALSE_TOLD = "In false colours each colour is one stop, from low to high. A large pixel has three columns, red, green and blue: its upper half is the stop, the two lines "
+  + "below say where in the stop. A small one has the colour of its brightest channel.";
+
 function legend() {
-  const patterns = [[[0x7000, 0x7000, 0x7000], "above the exposure's white, drawn as white"], [[0, 0xB666, 0xAE66], "below zero: drawn as zero, and in the corner how far below"], [[0xFC00, 0, 0], "minus infinity"]];
   return make("details", { class: "marks" }, make("summary", {}, "What the marks and colours mean"),
-    make("ul", { class: "legend" }, ...patterns.map(([pixel, words]) => {
+    make("ul", { class: "legend" }, ...MARKS_TOLD.map(([pixel, words]) => {
       const canvas = make("canvas", { width: LARGE, height: LARGE, "aria-hidden": "true" });
       drawLight(canvas.getContext("2d"), Uint16Array.from(pixel), 1, 0, 0, LARGE);
       return make("li", {}, canvas, words);
     })),
-    make("p", {}, "In false colours each colour is one stop, from low to high. A large pixel has three columns, red, green and blue: its upper half is the stop, the two lines below say where in the stop. A small one has the colour of its brightest channel."),
+    make("p", {}, FALSE_TOLD),
     make("p", { class: "swatches", "aria-hidden": "true" }, ...STEPS.map((colour) => { const one = make("i"); one.style.background = colour; return one; })));
 }
 
@@ -94,7 +102,10 @@ async function showPicture(view, { blocks, across, down, width, height, format, 
   const decoded = await decodePicture(knot, blocks, across, down, format, (share) => { bar.value = share; }, () => view.wanted());
   if (!decoded) return;
   const { values, modes, infinite } = decoded, pitch = 4 * across, size = isBc7 ? 4 : 3, took = performance.now() - began;
-  const picture = { width, height, pitch, values, bytes: isBc7, modes: modesCanvas(modes, across, down, isBc7 ? BC7_COLOURS : MODE_COLOURS), parts: null, over: null, covers: (x, y) => x >= 0 && y >= 0 && x < width && y < height };
+  const picture = {
+    width, height, pitch, values, bytes: isBc7, modes: modesCanvas(modes, across, down, isBc7 ? BC7_COLOURS : MODE_COLOURS), parts: null, over: null,
+    covers: (x, y) => x >= 0 && y >= 0 && x < width && y < height,
+  };
   const inspector = new Inspector(knot, screen), box = make("div", { class: "stage" });
   const stage = new Stage(box, picture, screen, `The picture, ${width} by ${height} pixels`, (x, y, aloud) => {
     const n = across * (y >> 2) + (x >> 2), at = size * (y * pitch + x);
@@ -106,10 +117,11 @@ async function showPicture(view, { blocks, across, down, width, height, format, 
   const pfm = pushed("Save PFM", () => save(`${stem(file.name)}.pfm`, new Blob([knot.pfmWrite(blocks, format, width, height)])));
   if (width % 4 || height % 4) Object.assign(pfm, { disabled: true, title: "A Portable Float Map needs a width and a height that are multiples of 4" });
   box.append(make("p", { class: "hint", "aria-hidden": "true" }, "Drag to move, wheel or pinch to zoom, click to keep a pixel"));
-  const rows = [["kind", kind], ["size", `${width.toLocaleString("en")} × ${height.toLocaleString("en")} pixels`], ["format", FORMATS[format]], ["blocks", `${(across * down).toLocaleString("en")}: ${across} × ${down}`],
-    ...(isBc7 ? [] : [["minus infinity", infinite ? count(infinite, "value") : "none"]]), ["decoded in", `${took.toFixed(took < 10 ? 1 : 0)} ms`], view.sumRow()];
+  const rows = [["kind", kind], ["size", `${width.toLocaleString("en")} × ${height.toLocaleString("en")} pixels`], ["format", FORMATS[format]],
+    ["blocks", `${(across * down).toLocaleString("en")}: ${across} × ${down}`], ...(isBc7 ? [] : [["minus infinity", infinite ? count(infinite, "value") : "none"]]), ["decoded in", `${took.toFixed(took < 10 ? 1 : 0)} ms`], view.sumRow()];
+  const png = pushed("Save PNG", () => savePng(stage, `${stem(file.name)}.png`));
   view.fill(make("div", { class: "work" },
-    make("div", { class: "shown" }, stageTools(stage, ...(isBc7 ? [] : [pfm]), pushed("Save PNG", () => savePng(stage, `${stem(file.name)}.png`))), box, inspector.brief, ...(isBc7 ? [] : [legend()])),
+    make("div", { class: "shown" }, stageTools(stage, ...(isBc7 ? [] : [pfm]), png), box, inspector.brief, ...(isBc7 ? [] : [legend()])),
     make("aside", { class: "side", "aria-label": "Facts" }, inspector.box, make("section", { class: "card" }, make("h2", {}, "File"), factList(rows)), modesCard(modes, isBc7))));
   view.stage = stage;
   view.onRedraw(() => { stage.draw(); inspector.redraw(); });

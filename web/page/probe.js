@@ -93,7 +93,8 @@ class Panorama {
   smoothColour() {
     const { side, light } = this, wide = side + 2, table = this.screen.tables().upper, mixed = new Float32Array(3), bits = new Uint32Array(mixed.buffer);
     return (face, u, v) => {
-      const x = u + 0.5, y = v + 0.5, left = Math.min(side, x | 0), top = Math.min(side, y | 0), s = x - left, t = y - top, values = light[face], p = 3 * (top * wide + left), below = p + 3 * wide;
+      const x = u + 0.5, y = v + 0.5, left = Math.min(side, x | 0), top = Math.min(side, y | 0), s = x - left, t = y - top;
+      const values = light[face], p = 3 * (top * wide + left), below = p + 3 * wide;
       for (let c = 0; c < 3; c++) mixed[c] = (1 - t) * ((1 - s) * values[p + c] + s * values[p + 3 + c]) + t * ((1 - s) * values[below + c] + s * values[below + 3 + c]);
       return OPAQUE_PIXEL | table[bits[2] >>> 16] << 16 | table[bits[1] >>> 16] << 8 | table[bits[0] >>> 16];
     };
@@ -117,7 +118,13 @@ class Panorama {
   listen() {
     const { canvas } = this, fingers = new Map();
     let last = null;
-    canvas.addEventListener("pointerdown", (event) => { canvas.setPointerCapture(event.pointerId); fingers.set(event.pointerId, event); last = event; this.box.classList.add("held"); this.point(event); });
+    canvas.addEventListener("pointerdown", (event) => {
+      canvas.setPointerCapture(event.pointerId);
+      fingers.set(event.pointerId, event);
+      last = event;
+      this.box.classList.add("held");
+      this.point(event);
+    });
     canvas.addEventListener("pointermove", (event) => {
       if (fingers.size === 2 && fingers.has(event.pointerId)) {
         const apart = () => { const [a, b] = fingers.values(); return Math.hypot(a.clientX - b.clientX, a.clientY - b.clientY); }, before = apart();
@@ -147,7 +154,8 @@ class Panorama {
 
 // The six faces as one picture, unfolded.
 function crossOf(side, faces) {
-  const pitch = 4 * side, values = new Uint16Array(3 * pitch * 3 * side), faceOf = (x, y) => x < 0 || y < 0 ? -1 : FACES_TOLD.findIndex(([, , column, row]) => column === Math.floor(x / side) && row === Math.floor(y / side));
+  const pitch = 4 * side, values = new Uint16Array(3 * pitch * 3 * side);
+  const faceOf = (x, y) => FACES_TOLD.findIndex(([, , column, row]) => column === Math.floor(x / side) && row === Math.floor(y / side));
   faces.forEach((face, f) => {
     const [, , column, row] = FACES_TOLD[f];
     for (let y = 0; y < side; y++) values.set(face.subarray(3 * side * y, 3 * side * (y + 1)), 3 * ((row * side + y) * pitch + column * side));
@@ -174,8 +182,8 @@ function showProbe(view, edge, records) {
   const tell = (face, x, y, aloud) => {
     const one = recordAt.get(`${face} ${x >> 2} ${y >> 2}`), from = 3 * (y * side + x), [sign, word] = FACES_TOLD[face];
     inspector.tell({
-      title: `face ${face}, x ${x}, y ${y}`, where: `${sign}, ${word}; record ${one.n}, tile ${one.tile}`, values: faces[face].subarray(from, from + 3), block: one.block, format: one.format, k: 4 * (y % 4) + x % 4,
-      facts: [["block", `column ${one.column}, row ${one.row} of face ${face}`], ["format", FORMATS[one.format]]],
+      title: `face ${face}, x ${x}, y ${y}`, where: `${sign}, ${word}; record ${one.n}, tile ${one.tile}`, values: faces[face].subarray(from, from + 3),
+      block: one.block, format: one.format, k: 4 * (y % 4) + x % 4, facts: [["block", `column ${one.column}, row ${one.row} of face ${face}`], ["format", FORMATS[one.format]]],
     }, aloud);
   };
   const lookBox = make("div", { class: "stage looking" }), crossBox = make("div", { class: "stage cross" });
@@ -191,8 +199,8 @@ function showProbe(view, edge, records) {
   const looks = make("div", { class: "tools", role: "group", "aria-label": "Ways to look" }, ...[4, 5, 1, 0, 2, 3].map((f) => ways[f]), make("span", { class: "grow" }),
     switched("Smooth", panorama.smooth, () => { panorama.smooth = !panorama.smooth; panorama.draw(); return panorama.smooth; }));
   const signed = records.filter((one) => one.format).length;
-  const rows = [["kind", "a probe: every place of its six faces has exactly one record"], ["edge", `${count(edge, "block")}: faces of ${side} × ${side} pixels`], ["records", `${[records.length - signed, signed].map((number) => number.toLocaleString("en")).join(" unsigned, ")} signed`],
-    ["faces", FACES_TOLD.map(([sign, word], f) => `${f} ${sign} ${word}`).join(", ")], view.sumRow()];
+  const rows = [["kind", "a probe: every place of its six faces has exactly one record"], ["edge", `${count(edge, "block")}: faces of ${side} × ${side} pixels`],
+    ["records", `${(records.length - signed).toLocaleString("en")} unsigned, ${signed.toLocaleString("en")} signed`], ["faces", FACES_TOLD.map(([sign, word], f) => `${f} ${sign} ${word}`).join(", ")], view.sumRow()];
   view.fill(make("div", { class: "work" }, make("div", { class: "shown" }, looks, lookBox, inspector.brief, stageTools(stage), crossBox, legend()),
     make("aside", { class: "side", "aria-label": "Facts" }, inspector.box, make("section", { class: "card" }, make("h2", {}, "Probe"), factList(rows)))));
   Object.assign(view, { stage, panorama });
@@ -215,17 +223,24 @@ function notProbe(view, records) {
   }
 }
 
-function placedTable(view, records) {
-  const scene = new Scene(view.sight), body = make("tbody");
-  scene.part(body, (part) => {
-    for (const one of records) {
-      const place = one.answer ? ["", "", ""] : one.face === null ? ["not placed", "", ""] : [one.face, one.column, one.row], picture = one.answer ? make("span", { class: "none small" }) : part.canvas(one.values, ownExposure(one.values), SMALL, { class: "small", "aria-hidden": "true" });
-      const words = [one.n, one.tile, one.answer ? `refused, ${one.answer}: ${WORDS[one.answer]}` : `${FORMATS[one.format]}${one.mode ? "" : ", damaged: reserved mode"}`, ...place];
-      body.append(make("tr", {}, make("td", {}, picture), ...words.map((word) => make("td", {}, String(word)))));
-    }
-  });
-  view.scene = scene;
-  return make("div", { class: "scroll" }, make("table", { class: "placed" }, make("thead", {}, make("tr", {}, make("td"), ...["record", "tile", "format", "face", "column", "row"].map((name) => heading(name)))), body));
+function placedRow(part, one) {
+  const row = (picture, ...words) => make("tr", {}, make("td", {}, picture), ...[one.n, one.tile, ...words].map((word) => make("td", {}, String(word))));
+  if (one.answer) return row(make("span", { class: "none small" }), `refused, ${one.answer}: ${WORDS[one.answer]}`, "", "", "");
+  const picture = part.canvas(one.values, ownExposure(one.values), SMALL, { class: "small", "aria-hidden": "true" }), format = `${FORMATS[one.format]}${one.mode ? "" : ", damaged: reserved mode"}`;
+  return one.face === null ? row(picture, format, "not placed", "", "") : row(picture, format, one.face, one.column, one.row);
+}
+
+function placedTable(scene, records) {
+  const body = make("tbody"), heads = ["record", "tile", "format", "face", "column", "row"].map((name) => heading(name));
+  scene.part(body, (part) => body.append(...records.map((one) => placedRow(part, one))));
+  return make("div", { class: "scroll" }, make("table", { class: "placed" }, make("thead", {}, make("tr", {}, make("td"), ...heads)), body));
+}
+
+function placedVerdict(records, reason) {
+  const refused = records.filter((one) => one.answer).length, damaged = records.filter((one) => one.mode === 0).length, placed = records.filter((one) => !one.answer && one.face !== null).length;
+  const damage = damaged + refused ? [make("p", { class: "damage" }, `${damaged} of ${count(records.length, "record")} ${isOrAre(damaged)} damaged and ${refused} ${isOrAre(refused)} refused.`)] : [];
+  return make("div", { class: `verdict ${damaged + refused ? "worry" : "nothing"}`, id: "verdict" }, ...damage,
+    make("p", {}, `${count(records.length, "record")} with a place: ${placed} placed, ${records.length - refused - placed} not placed.`), make("p", { class: "less" }, reason));
 }
 
 function showPlaces(view, asStore = false) {
@@ -236,14 +251,10 @@ function showPlaces(view, asStore = false) {
   const reason = notProbe(view, records);
   if (!reason) return showProbe(view, Math.sqrt(records.length / FACES), records);
   for (const one of records) if (!one.answer) Object.assign(one, knot.show(one.block, one.format));
-  const good = records.filter((one) => !one.answer), damaged = good.filter((one) => !one.mode).length, refused = records.length - good.length, placed = good.filter((one) => one.face !== null).length;
-  view.fill(make("div", { class: "page" },
-    make("div", { class: `verdict ${damaged + refused ? "worry" : "nothing"}`, id: "verdict" },
-      ...(damaged + refused ? [make("p", { class: "damage" }, `${damaged} of ${count(records.length, "record")} ${isOrAre(damaged)} damaged and ${refused} ${isOrAre(refused)} refused.`)] : []),
-      make("p", {}, `${count(records.length, "record")} with a place: ${placed} placed, ${good.length - placed} not placed.`), make("p", { class: "less" }, reason)),
-    factList([["store", file.name], view.sumRow(), ["length", `${file.bytes.length.toLocaleString("en")} bytes`]]),
-    make("section", { class: "card" }, placedTable(view, records))));
-  const { scene } = view;
+  const scene = new Scene(view.sight);
+  view.fill(make("div", { class: "page" }, placedVerdict(records, reason), factList([["store", file.name], view.sumRow(), ["length", `${file.bytes.length.toLocaleString("en")} bytes`]]),
+    make("section", { class: "card" }, placedTable(scene, records))));
+  view.scene = scene;
   view.onRedraw(() => scene.redraw());
-  view.light(middleExposure(Uint16Array.from(good.flatMap((one) => [...one.values]))), ["own", "one", "false"]);
+  view.light(middleExposure(Uint16Array.from(records.flatMap((one) => [...one.values ?? []]))), ["own", "one", "false"]);
 }

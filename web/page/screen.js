@@ -5,7 +5,13 @@ const LEAST_PATTERN = 0, OPAQUE_PIXEL = 0xFF000000;
 // A byte of a BC7 picture as linear light, by the screen's gamma (sRGB).
 const LINEAR = Float32Array.from({ length: 256 }, (_, byte) => byte <= 0.04045 * 255 ? byte / 255 / 12.92 : ((byte / 255 + 0.055) / 1.055) ** 2.4);
 
-const stepColours = STEPS.map((colour) => { const [r, g, b] = [1, 3, 5].map((at) => parseInt(colour.slice(at, at + 2), 16)); return OPAQUE_PIXEL | b << 16 | g << 8 | r; });
+// A colour, as #rrggbb, as a number that is a pixel of an image.
+function pixelOf(colour) {
+  const [r, g, b] = [1, 3, 5].map((at) => parseInt(colour.slice(at, at + 2), 16));
+  return OPAQUE_PIXEL | b << 16 | g << 8 | r;
+}
+
+const stepColours = STEPS.map(pixelOf);
 
 class Screen {
   constructor(sight) {

@@ -204,7 +204,8 @@ class Stage {
     const left = Math.max(0, Math.floor(-this.x / zoom)), top = Math.max(0, Math.floor(-this.y / zoom));
     const right = Math.min(picture.width, Math.ceil((canvas.width - this.x) / zoom)), bottom = Math.min(picture.height, Math.ceil((canvas.height - this.y) / zoom));
     if (right <= left || bottom <= top) return;
-    if (zoom >= 1 || picture.parts || isFalse) this.put(this.pixels(left, top, right - left, bottom - top), this.x + left * zoom, this.y + top * zoom, (right - left) * zoom, (bottom - top) * zoom);
+    const wide = right - left, high = bottom - top;
+    if (zoom >= 1 || picture.parts || isFalse) this.put(this.pixels(left, top, wide, high), this.x + left * zoom, this.y + top * zoom, wide * zoom, high * zoom);
     else this.put(this.smaller(Math.max(1, Math.round(picture.width * zoom)), Math.max(1, Math.round(picture.height * zoom))), this.x, this.y);
     if (!picture.bytes && zoom >= (isFalse ? CHANNELS_SHOWN : MARKED)) this.drawLarge(left, top, right, bottom, isFalse);
     if (this.overlay && picture.modes) {
@@ -236,12 +237,12 @@ class Stage {
       pen.clip();
     }
     pen.lineWidth = 1;
-    const whole = (place) => Math.round(place) + 0.5;
+    const whole = (place) => Math.round(place) + 0.5, across = (x) => whole(this.x + x * zoom), down = (y) => whole(this.y + y * zoom);
     for (const [step, colour] of lines) {
       pen.strokeStyle = colour;
       pen.beginPath();
-      for (let x = Math.ceil(left / step) * step; x <= right; x += step) { pen.moveTo(whole(this.x + x * zoom), whole(this.y + top * zoom)); pen.lineTo(whole(this.x + x * zoom), whole(this.y + bottom * zoom)); }
-      for (let y = Math.ceil(top / step) * step; y <= bottom; y += step) { pen.moveTo(whole(this.x + left * zoom), whole(this.y + y * zoom)); pen.lineTo(whole(this.x + right * zoom), whole(this.y + y * zoom)); }
+      for (let x = Math.ceil(left / step) * step; x <= right; x += step) { pen.moveTo(across(x), down(top)); pen.lineTo(across(x), down(bottom)); }
+      for (let y = Math.ceil(top / step) * step; y <= bottom; y += step) { pen.moveTo(across(left), down(y)); pen.lineTo(across(right), down(y)); }
       pen.stroke();
     }
     pen.restore();

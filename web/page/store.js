@@ -2,6 +2,7 @@
 // The view of a store: what `knot list` and `knot audit` print, by the proved programs, and the records as report pages draw them.
 
 const SHEET_PART = 100, SHEET_ROOM = 62;  // records in a part of the sheet, and points that a tile takes
+const PAGE_WIDTH = 1056;  // points, at most
 const CLOSING = /^(?:stays|kept) (\d+) removed (\d+)$/m;
 
 // The lines of a program's text, each as words; a refused store is thrown.
@@ -53,17 +54,21 @@ function damageTold({ kinds }) {
 }
 
 function removalTold({ counts, kinds }) {
-  return counts.copies ? `A clean-up would remove ${counts.copies.toLocaleString("en")} of ${count(kinds.length, "record")}: ${counts.copies === 1 ? "it is a copy" : "each is a copy"} of a record that stays.` : "A clean-up would remove nothing.";
+  if (!counts.copies) return "A clean-up would remove nothing.";
+  const copies = counts.copies === 1 ? "it is a copy" : "each is a copy";
+  return `A clean-up would remove ${counts.copies.toLocaleString("en")} of ${count(kinds.length, "record")}: ${copies} of a record that stays.`;
 }
 
 function alikeTold({ counts }) {
   if (!counts.alike) return null;
-  return counts.alike === 1 ? "1 record looks like an earlier one but has other bytes. It stays." : `${counts.alike.toLocaleString("en")} records look like an earlier one but have other bytes. They stay.`;
+  if (counts.alike === 1) return "1 record looks like an earlier one but has other bytes. It stays.";
+  return `${counts.alike.toLocaleString("en")} records look like an earlier one but have other bytes. They stay.`;
 }
 
 function verdict(facts) {
   const damage = damageTold(facts), alike = alikeTold(facts), mood = damage ? "worry" : facts.counts.copies ? "removes" : "nothing";
-  return make("div", { class: `verdict ${mood}`, id: "verdict" }, ...(damage ? [make("p", { class: "damage" }, damage)] : []), make("p", {}, removalTold(facts)), ...(alike ? [make("p", { class: "less" }, alike)] : []));
+  return make("div", { class: `verdict ${mood}`, id: "verdict" },
+    ...(damage ? [make("p", { class: "damage" }, damage)] : []), make("p", {}, removalTold(facts)), ...(alike ? [make("p", { class: "less" }, alike)] : []));
 }
 
 const faultTold = (facts, n) => facts.kinds[n] === "d" ? "damaged: its block has a reserved mode and holds no picture" : `refused, ${facts.answers[n]}: ${WORDS[facts.answers[n]]}`;
@@ -71,7 +76,6 @@ const faultTold = (facts, n) => facts.kinds[n] === "d" ? "damaged: its block has
 // ---- parts of the page
 
 const section = (title, ...inside) => make("section", {}, make("h2", {}, title), ...inside);
-const printed = (id, name, text) => make("pre", { tabindex: "0", id, "aria-label": name }, text);
 
 function faultRows(facts) {
   const rows = range(facts.kinds.length).filter((n) => "dx".includes(facts.kinds[n])).map((n) => () => make("tr", {},
@@ -85,7 +89,14 @@ function infinityRows(facts) {
   return rowsShown(["record", "tile", "values", "the first"], rows, 20);
 }
 
-const SHEET_LEGEND = [["stays", "", "stays"], ["copy", "C", "copy: would be removed"], ["alike", "A", "looks alike: stays"], ["damaged", "D", "damaged: stays"], ["refused", "×", "refused: stays"]];
+const SHEET_LEGEND = [
+  ["stays", "", "stays"], ["copy", "C", "copy: would be removed"], ["alike", "A", "looks alike: stays"], ["damaged", "D", "damaged: stays"], ["refused", "×", "refused: stays"],
+];
+
+function sheetLegend() {
+  const kinds = SHEET_LEGEND.map(([name, sign, words]) => make("li", { class: name }, make("span", { class: "edge" }), ...(sign ? [make("b", {}, sign), " "] : []), words));
+  return make("ul", { class: "legend" }, ...kinds, make("li", {}, make("b", {}, "±"), " behind a number: a signed tile"));
+}
 
 function sheetOf(scene, records, exposure, width) {
   const across = Math.max(1, Math.floor(width / SHEET_ROOM)), lists = [];
@@ -99,52 +110,81 @@ function sheetOf(scene, records, exposure, width) {
   return lists;
 }
 
+function classCards(scene, records, classes) {
+  return make("div", { class: "classes" }, ...classes.map((group) => {
+    const card = make("article", { class: `card class${group.alike.length ? " wide" : ""}`, id: `class-${group.root}`, "aria-label": `Record ${group.root}: ${classTold(group)}` });
+    scene.part(card, (part) => classCard(part, records, group));
+    return card;
+  }));
+}
+
+// One record by itself, where a link asks for it, and the way back.
+function singleRecord(scene, facts) {
+  const box = make("div", { id: "single", class: "card", hidden: "" });
+  let from = 0;
+  const close = () => {
+    scene.forget(box);
+    box.replaceChildren();
+    box.hidden = true;
+    scrollTo(0, from);
+  };
+  const open = (n) => {
+    if (box.hidden) from = scrollY;
+    scene.forget(box);
+    box.replaceChildren(make("p", {}, pushed("Back to where I was", close)));
+    box.hidden = false;
+    scene.part(box, (part) => recordCard(part, facts.records, n, faultTold(facts, n))).show();
+    box.scrollIntoView({ block: "nearest" });
+    box.querySelector("h3").focus({ preventScroll: true });
+  };
+  return { box, open };
+}
+
+function storeHead(view, facts, cleanSum) {
+  const { bytes, name } = view.file, left = facts.cleaned.store.length;
+  return [verdict(facts), factList([
+    ["store", name], view.sumRow(), ["length", `${bytes.length.toLocaleString("en")} bytes, ${count(facts.kinds.length, "record")}`],
+    ["after a clean-up", `${count(left / 24, "record")}, ${left.toLocaleString("en")} bytes`, make("span", { class: "sum" }, cleanSum)],
+  ])];
+}
+
+function picturesPart(scene, facts) {
+  const classes = classesOf(facts.twins), title = `Pictures that more than one record shows: ${classes.length.toLocaleString("en")}`;
+  if (!classes.length) return section(title, make("p", {}, "No record shows the picture of an earlier one."));
+  const words = ["Those with records that look alike come first. This page does not write a cleaned store: ", make("code", {}, "knot clean"), " does, with a receipt that undoes it."];
+  return section(title, make("p", {}, ...words), classCards(scene, facts.records, classes));
+}
+
+// What a command prints of the store.
+function printedPart(title, command, words, id, text) {
+  return section(title, make("p", {}, "What ", make("code", {}, command), words), make("pre", { tabindex: "0", id, "aria-label": title }, text));
+}
+
+function printedParts({ listing, audit, cleaned, counts }) {
+  const removed = counts.copies ? "each record that it removes, its tile, the record that stays for it, and that one's tile" : "it removes nothing";
+  return [
+    printedPart("The listing", "knot list", " prints: record, tile, answer, mode, mark and pixel 15.", "listing", listing),
+    printedPart("The audit", "knot audit", " prints of the records that show the picture of an earlier one.", "audit", audit),
+    printedPart("The clean-up", "knot clean", ` would print: ${removed}.`, "cleaning", cleaned.text),
+  ];
+}
+
 async function showStore(view, asStore = false) {
   const { knot, file } = view, looks = asStore ? null : looksLike(knot, file.bytes, PLAIN);
   if (looks) return view.otherKind(looks, "a store of 24-byte records", () => showStore(view, true));
-  const facts = storeFacts(knot, view.programs, file.bytes), { records } = facts, classes = classesOf(facts.twins), scene = new Scene(view.sight);
-  const exposure = middleExposure(records.values), cleanSum = await sumOf(facts.cleaned.store);
-  const cards = new Map(classes.map((group) => {
-    const card = make("article", { class: `card class${group.alike.length ? " wide" : ""}`, id: `class-${group.root}`, "aria-label": `Record ${group.root}: ${classTold(group)}` });
-    scene.part(card, (part) => classCard(part, records, group));
-    return [group.root, card];
-  }));
-  const single = make("div", { id: "single", class: "card", hidden: "" });
-  const openRecord = (n) => {
-    scene.forget(single);
-    single.replaceChildren();
-    single.hidden = false;
-    scene.part(single, (part) => recordCard(part, records, n, faultTold(facts, n))).show();
-    single.scrollIntoView({ block: "nearest" });
-    single.querySelector("h3").focus({ preventScroll: true });
-  };
-  const page = make("div", { class: "page" });
-  // a link to a record opens its card; nothing else of the page is left
+  const facts = storeFacts(knot, view.programs, file.bytes), scene = new Scene(view.sight), single = singleRecord(scene, facts);
+  const exposure = middleExposure(facts.records.values), cleanSum = await sumOf(facts.cleaned.store);
+  const page = make("div", { class: "page" }, ...storeHead(view, facts, cleanSum), ...(damageTold(facts) ? [section("Damaged and refused records", ...faultRows(facts))] : []),
+    picturesPart(scene, facts), section("All records, in order", sheetLegend(), single.box, ...sheetOf(scene, facts.records, exposure, Math.min(PAGE_WIDTH, view.width()))),
+    section("Minus infinity", ...(facts.infinities.length ? infinityRows(facts) : [make("p", {}, "No value is minus infinity.")])), ...printedParts(facts));
   page.addEventListener("click", (event) => {
     const link = event.target.closest("a[href^='#record-']");
     if (!link) return;
     event.preventDefault();
-    openRecord(Number(link.getAttribute("href").slice("#record-".length)));
+    single.open(Number(link.getAttribute("href").slice("#record-".length)));
   });
-  const faults = facts.kinds.match(/[dx]/g)?.length ?? 0, copies = facts.counts.copies;
-  const edge = (name, sign, words) => make("li", { class: name }, make("span", { class: "edge" }), ...(sign ? [make("b", {}, sign), " "] : []), words);
-  page.append(verdict(facts), factList([
-    ["store", file.name], view.sumRow(), ["length", `${file.bytes.length.toLocaleString("en")} bytes, ${count(records.count, "record")}`],
-    ["after a clean-up", `${count(facts.cleaned.store.length / 24, "record")}, ${facts.cleaned.store.length.toLocaleString("en")} bytes`, make("span", { class: "sum" }, cleanSum)],
-  ]));
-  if (faults) page.append(section("Damaged and refused records", ...faultRows(facts)));
-  page.append(
-    section(`Pictures that more than one record shows: ${classes.length.toLocaleString("en")}`,
-      make("p", {}, ...(classes.length ? ["Those with records that look alike come first. This page does not write a cleaned store: ", make("code", {}, "knot clean"), " does, with a receipt that undoes it."] : ["No record shows the picture of an earlier one."])), make("div", { class: "classes" }, ...cards.values())),
-    section("All records, in order", make("ul", { class: "legend" }, ...SHEET_LEGEND.map((one) => edge(...one)), make("li", {}, make("b", {}, "±"), " behind a number: a signed tile")), single,
-      ...sheetOf(scene, records, exposure, Math.min(1056, view.width()))),
-    section("Minus infinity", ...(facts.infinities.length ? infinityRows(facts) : [make("p", {}, "No value is minus infinity.")])),
-    section("The listing", make("p", {}, "What ", make("code", {}, "knot list"), " prints: record, tile, answer, mode, mark and pixel 15."), printed("listing", "The listing", facts.listing)),
-    section("The audit", make("p", {}, "What ", make("code", {}, "knot audit"), " prints of the records that show the picture of an earlier one."), printed("audit", "The audit", facts.audit)),
-    section("The clean-up", make("p", {}, "What ", make("code", {}, "knot clean"), ` would print: ${copies ? "each record that it removes, its tile, the record that stays for it, and that one's tile" : "it removes nothing"}.`), printed("cleaning", "The clean-up", facts.cleaned.text)));
   view.fill(page);
-  view.scene = scene;
-  view.facts = facts;
+  Object.assign(view, { scene, facts });
   view.onRedraw(() => scene.redraw());
   view.light(exposure, ["own", "one", "false"]);
 }

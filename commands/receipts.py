@@ -1,6 +1,6 @@
 """The receipt of a clean-up as text: of which store, what was removed, and which record stays for it.
 
-    # knot 0.9.0 commit 777b8ec
+    # knot 0.10.0 commit 777b8ec
     # kit rattle-kit-5 ..
     # store covered.store
     # damaged 0 refused 0

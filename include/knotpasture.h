@@ -30,7 +30,7 @@ extern "C" {
 #endif
 
 /* The version of this header: three numbers, of which the first is that of the shared library's name. */
-#define KNOT_VERSION "0.9.0"
+#define KNOT_VERSION "0.10.0"
 
 enum knot_answer {
     KNOT_DONE = 0,

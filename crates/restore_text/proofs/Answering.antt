@@ -8,10 +8,10 @@ use lib.ListN.{length, getD, take, drop, length-append, length-take, length-drop
 use lib.Seq.{take-all, take-at}
 use borrow.Author.Tests.{lt-ltb, le-ltb, ltb-true, ltb-false}
 use Rattle.laws.proofs.Tests.{cases}
-use Rattle.bc6h_spec.specs.Answers.{done, longStore}
+use Rattle.bc6h_spec.specs.Answers.{done, longStore, badReceipt}
 use Rattle.records.specs.Store.{recordSize, storeLimit}
 use Rattle.restore.specs.declared.Restored.{Restored}
-use Rattle.restore.specs.Restore.{badReceipt, totalOf, restoreRefusal, restoredOf, RestoredInto}
+use Rattle.restore.specs.Restore.{totalOf, restoreRefusal, restoredOf, RestoredInto}
 use Rattle.restore.proofs.Fitting.{restorable}
 use Rattle.restore.proofs.Restoring as restoring
 use Rattle.text.specs.Text.{Written}

@@ -5,12 +5,12 @@ use Prim.Native.Nat.{ℕ, zero, suc, _+_, _*_, _/_, _%_, _≤_}
 use lib.Dec.{ltb}
 use lib.ListN.{length, getD, take, drop}
 use Rattle.laws.specs.Pick.{pick}
-use Rattle.bc6h_spec.specs.Answers.{done, longStore}
+use Rattle.bc6h_spec.specs.Answers.{done, longStore, badReceipt}
 use Rattle.records.specs.Store.{recordSize, storeLimit}
 use Rattle.twins_spec.specs.Twins.{mostRecords}
 use Rattle.clean.specs.Clean.{cleanedOf}
 use Rattle.receipt.specs.Receipt.{entrySize, receiptOf}
-use Rattle.restore.specs.Restore.{badReceipt, restoreRefusal, restoredOf}
+use Rattle.restore.specs.Restore.{restoreRefusal, restoredOf}
 
 -- ---- the input: "4 bytes L (low byte first), L bytes of the cleaned store, then the receipt"
 

@@ -10,7 +10,6 @@ ghost use Rattle.restore_text.specs.Restoring.{lengthSize, cleanedLength
 use bc6h_spec::Answer;
 use receipt::Entry;
 use records::Record;
-use restore::Restored;
 use restore::restore_store;
 use text::put;
 use twins_spec::TwinList;
@@ -51,14 +50,14 @@ fn input_refusal(input: &[u8]) -> u8
     ensures { λ r. ⌜ r ≡ inputRefusal (now (input .entry)) ⌝ }
 {
     if input.len() < Restoring::LENGTH {
-        return Restored::BAD_RECEIPT;
+        return Answer::BAD_RECEIPT;
     }
     let size = cleaned_length(input);
     if size > Record::STORE {
         return Answer::LONG_STORE;
     }
     if input.len() < Restoring::LENGTH + size {
-        return Restored::BAD_RECEIPT;
+        return Answer::BAD_RECEIPT;
     }
     Answer::DONE
 }

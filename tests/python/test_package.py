@@ -2,6 +2,7 @@
 import array
 import ctypes
 import dataclasses
+import importlib.util
 import inspect
 import mmap
 import pathlib
@@ -502,3 +503,23 @@ def test_no_library():
     said = subprocess.run([sys.executable, "-B", "-c", "import knotpasture; knotpasture.decode(b'', True)"], capture_output=True, text=True,
                           env={"PYTHONPATH": str(ROOT / "python"), "KNOTPASTURE_LIBRARY": "/nowhere/libknotpasture.so"})
     assert said.returncode == 1 and "OSError: libknotpasture is not found" in said.stderr and "/nowhere/libknotpasture.so" in said.stderr
+
+
+def test_loader_before_the_library(tmp_path, monkeypatch):
+    """Where libknotload.so stands beside the library it is opened first, so that the machine's loader takes the library for its processor."""
+    monkeypatch.delenv("KNOTPASTURE_LIBRARY", raising=False)
+    package, lib = tmp_path / "python/knotpasture", tmp_path / "lib"
+    package.mkdir(parents=True)
+    lib.mkdir()
+    source = pathlib.Path(knotpasture.__file__).with_name("_library.py")
+    (package / "_library.py").write_bytes(source.read_bytes())
+    spec = importlib.util.spec_from_file_location("copied_library", package / "_library.py")
+    copied = importlib.util.module_from_spec(spec)
+    spec.loader.exec_module(copied)
+    assert copied.places() == [copied.NAME]
+    (lib / copied.LOADER).touch()
+    assert copied.places() == [copied.NAME]
+    (lib / copied.NAME).touch()
+    assert copied.places() == [str(lib / copied.LOADER), str(lib / copied.NAME), copied.NAME]
+    (lib / copied.LOADER).unlink()
+    assert copied.places() == [str(lib / copied.NAME), copied.NAME]

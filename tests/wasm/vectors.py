@@ -291,6 +291,18 @@ class Vectors:
             store = path.read_bytes()
             self.over_store(store, range(min(60, len(store) // RECORD) + 2))
 
+    def placed(self):
+        """Records with a place that are not placed, up to the limit and a record beyond it."""
+        self.call.open("placed")
+        for count in [1999, 2000, 2001] + [self.chance.randrange(1, 40) for _ in self.times(20)]:
+            store = b"".join(struct.pack("<IBB10x", self.chance.getrandbits(32), self.chance.randrange(2), 255) + self.bc6() for _ in range(count))
+            self.over_placed(store)
+            for n in (count - 1, count):
+                self.call("knot_placed_record_at", store, n)
+                self.call("knot_placed_record_block", store, n)
+            for edge in (1, 16):
+                self.call("knot_probe_check", store, edge)
+
     def probes(self):
         call = self.call
         call.open("probes")
@@ -366,7 +378,7 @@ class Vectors:
                 left = [b"", *left[-40:], *outs]
 
     def write(self):
-        for group in (self.blocks, self.refusals, self.huge, self.runs, self.faces, self.stores, self.probes, self.files, self.everything):
+        for group in (self.blocks, self.refusals, self.huge, self.runs, self.faces, self.stores, self.placed, self.probes, self.files, self.everything):
             # the pool of blocks is made by calls, which need a file
             group()
         self.call.close()

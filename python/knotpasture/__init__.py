@@ -25,6 +25,7 @@ import numpy
 from numpy.typing import NDArray
 
 from . import _library
+from .survey import survey
 from .words import WORDS
 
 __version__ = "0.10.0"

@@ -5,61 +5,25 @@ use Rattle.moves_output.specs.Output.{placedOutput}
 use Rattle.place_tiles.proofs.main.Statement.{statement}
 use Rattle.place_tiles.proofs.main.Tie as tie
 
-slice-aggregate-read-input : tie.Need-slice-aggregate-read-input
-slice-aggregate-read-input c = search needs
-
-read-input-requires : tie.Need-read-input-requires
-read-input-requires c κs = search needs
-
-enum-known-size : tie.Need-enum-known-size
-enum-known-size c = search needs
-
-enum-told : tie.Need-enum-told
-enum-told c = search needs
-
-returns : tie.Need-returns
-returns c = search needs
-
-slice-aggregate-first-bytes : tie.Need-slice-aggregate-first-bytes
-slice-aggregate-first-bytes c = search needs
-
-first-bytes-requires : tie.Need-first-bytes-requires
-first-bytes-requires c κs = search needs
-
-slice-aggregate-put-placed : tie.Need-slice-aggregate-put-placed
-slice-aggregate-put-placed c = search needs
-
-put-placed-requires : tie.Need-put-placed-requires
-put-placed-requires c κs = search needs
-
-slice-aggregate-write-placed : tie.Need-slice-aggregate-write-placed
-slice-aggregate-write-placed c = search needs
-
-slice-aggregate-write-placed-2 : tie.Need-slice-aggregate-write-placed-2
-slice-aggregate-write-placed-2 c = search needs
-
 write-placed-requires : tie.Need-write-placed-requires
 write-placed-requires c κs =
     let put = c .before .before .before .put-placed .ensures in
     record { room = search needs; fits = put .0; says = begins (put .1) (search needs) ∙ ap placedOutput (c .before .before .before .before .before .first-bytes .ensures) }
 
-returns-2 : tie.Need-returns-2
-returns-2 c = search needs
-
 pub main-spec : {M : Type 1} → statement M
 main-spec =
     tie.close
     (tie.spec
-    slice-aggregate-read-input
-    read-input-requires
-    enum-known-size
-    enum-told
-    returns
-    slice-aggregate-first-bytes
-    first-bytes-requires
-    slice-aggregate-put-placed
-    put-placed-requires
-    slice-aggregate-write-placed
-    slice-aggregate-write-placed-2
+    (λ c. search needs)
+    (λ c κs. search needs)
+    (λ c. search needs)
+    (λ c. search needs)
+    (λ c. search needs)
+    (λ c. search needs)
+    (λ c κs. search needs)
+    (λ c. search needs)
+    (λ c κs. search needs)
+    (λ c. search needs)
+    (λ c. search needs)
     write-placed-requires
-    returns-2)
+    (λ c. search needs))

@@ -200,7 +200,7 @@ function recordCard(part, records, n, reason) {
 
 // ---- a sheet of small tiles
 
-// Records first to end, a small tile each. `own` is the exposure that all of them are opened at.
+// Some records, a small tile each. `own` is the exposure that all of them are opened at.
 function sheetPart(part, records, numbers, own) {
   for (const n of numbers) {
     const [kind, sign, says] = records.kind(n), shown = records.hasPicture(n);

@@ -6,6 +6,7 @@ use mathlib.Core.Bool.{false}
 use mathlib.Core.List.{List}
 use Prim.Native.Nat.{ℕ, _+_, _-_, _*_, _/_, _%_, _≤_, _<_}
 use lib.ListN.{length, take, drop}
+use Rattle.laws.specs.Order.{Reordered}
 use Rattle.bc6h_spec.specs.declared.Fields.{Fields}
 use Rattle.bc6h_spec.specs.Answers.{done}
 use Rattle.bc6h_spec.specs.Bits.{blockSize, IsBlock}
@@ -37,7 +38,6 @@ use Rattle.moves.specs.declared.Moved.{Moved}
 use Rattle.moves.specs.Moves.{PlacedStore, UnplacedStore}
 use Rattle.probe.specs.declared.ProbePixel.{ProbePixel}
 use Rattle.probe.specs.Probe.{tripleIn, Asked}
-use Rattle.probe.specs.Order.{Reordered}
 use Rattle.probe_build.specs.Pictures.{BuildShows}
 use Rattle.dds.specs.declared.DdsRead.{DdsRead}
 use Rattle.dds.specs.declared.DdsWritten.{DdsWritten}
@@ -141,7 +141,7 @@ PixelWritten = (blocks : List ℕ) (format width height : ℕ) (lent after : Lis
 
 -- S-57. A probe answers every question the same in every order of its records.
 abbrev pub AnyOrder : Type 0
-AnyOrder = (store other : List ℕ) → Reordered store other → (edge face x y : ℕ) (r q : ProbePixel) → Asked store edge face x y r → Asked other edge face x y q
+AnyOrder = (store other : List ℕ) → Reordered placeSize store other → (edge face x y : ℕ) (r q : ProbePixel) → Asked store edge face x y r → Asked other edge face x y q
     → r .answer ≡ done → (q .answer ≡ done) × (tripleIn r ≡ tripleIn q)
 
 -- S-59. What `probe_build` leaves is a probe whose pixels and faces are those of the blocks.

@@ -102,6 +102,12 @@ sys.exit(house.main(["record", "take", {store!r}, "0", {out!r}]))
 """
 
 
+def heed_signals():
+    """A process that was started by nohup ignores SIGHUP, and so would the command."""
+    for number in (signal.SIGTERM, signal.SIGHUP, signal.SIGINT):
+        signal.signal(number, signal.SIG_DFL)
+
+
 def signals(folder):
     """A command that is asked to end while it writes leaves nothing behind, and ends by the signal."""
     for number in (signal.SIGTERM, signal.SIGHUP, signal.SIGINT):
@@ -110,7 +116,7 @@ def signals(folder):
             continue
         count()
         script = SLOW.format(root=str(ROOT), store=str(SAMPLES / "four.store"), out=str(folder / "OUT"))
-        child = subprocess.Popen([sys.executable, "-ISB", "-c", script], stderr=subprocess.PIPE)
+        child = subprocess.Popen([sys.executable, "-ISB", "-c", script], stderr=subprocess.PIPE, preexec_fn=heed_signals)
         child.stderr.read(5)
         before = sorted(path.name for path in folder.iterdir())
         child.send_signal(number)

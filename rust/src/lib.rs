@@ -26,6 +26,7 @@
 
 use std::fmt;
 
+// Every call stays within the lengths that it is given and keeps no pointer: the SAFETY comments say whose lengths those are.
 mod c;
 
 /// Bytes of a block.
@@ -186,6 +187,7 @@ pub struct Shown {
 ///
 /// Refusals: 1, 2, 3.
 pub fn block_pixels(block: &[u8], format: impl Into<u8>, out: &mut [u16]) -> Result<Shown, Refused> {
+    // SAFETY: `block` is borrowed to read, `out` to write, each with its own length.
     let word = unsafe { c::knot_block_pixels(block.as_ptr(), block.len(), format.into(), out.as_mut_ptr(), out.len()) };
     done(word.into()).map(|word| Shown { mode: (word >> 8) as u8, infinities: (word >> 16) as u8 })
 }
@@ -215,6 +217,7 @@ pub struct Run {
 pub fn blocks_pixels(blocks: &[u8], format: impl Into<u8>, out: &mut [u16]) -> Result<Run, Refused> {
     let (mut run, room) = (Run { blocks: 0, infinities: 0 }, out.len());
     let (lent, format) = (out.as_mut_ptr(), format.into());
+    // SAFETY: `blocks` is borrowed to read, `out` to write, each with its own length; `run.blocks` and `run.infinities` are locals.
     let word = unsafe { c::knot_blocks_pixels(blocks.as_ptr(), blocks.len(), format, lent, room, &mut run.blocks, &mut run.infinities) };
     done(word.into()).map(|_| run)
 }
@@ -225,6 +228,7 @@ pub fn blocks_pixels(blocks: &[u8], format: impl Into<u8>, out: &mut [u16]) -> R
 /// Refusals: 1, 2, 4.
 pub fn block_fields(block: &[u8], format: impl Into<u8>) -> Result<[u16; FIELDS], Refused> {
     let mut numbers = [0; FIELDS];
+    // SAFETY: `block` is borrowed to read, `numbers` to write, each with its own length.
     let word = unsafe { c::knot_block_fields(block.as_ptr(), block.len(), format.into(), numbers.as_mut_ptr(), numbers.len()) };
     done(word.into()).map(|_| numbers)
 }
@@ -245,6 +249,7 @@ pub fn block_fields(block: &[u8], format: impl Into<u8>) -> Result<[u16; FIELDS]
 /// ```
 pub fn write_block(numbers: &[u16]) -> Result<[u8; BLOCK_SIZE], Refused> {
     let mut block = [0; BLOCK_SIZE];
+    // SAFETY: `numbers` is borrowed to read, `block` to write, each with its own length.
     let word = unsafe { c::knot_write_block(numbers.as_ptr(), numbers.len(), block.as_mut_ptr(), block.len()) };
     done(word.into()).map(|_| block)
 }
@@ -253,6 +258,7 @@ pub fn write_block(numbers: &[u16]) -> Result<[u8; BLOCK_SIZE], Refused> {
 ///
 /// Refusals: 1, 10 (also for another count of numbers than 32), 3.
 pub fn fields_pixels(numbers: &[u16], out: &mut [u16]) -> Result<(), Refused> {
+    // SAFETY: `numbers` is borrowed to read, `out` to write, each with its own length.
     let word = unsafe { c::knot_fields_pixels(numbers.as_ptr(), numbers.len(), out.as_mut_ptr(), out.len()) };
     done(word.into()).map(|_| ())
 }
@@ -315,6 +321,7 @@ impl Fields {
 /// ```
 pub fn face_pixels(blocks: &[u8], width: usize, height: usize, format: impl Into<u8>, out: &mut [u16], pitch: usize) -> Result<usize, Refused> {
     let (mut infinite, format, lent, room) = (0, format.into(), out.as_mut_ptr(), out.len());
+    // SAFETY: `blocks` is borrowed to read, `out` to write, each with its own length; `infinite` is a local.
     let word = unsafe { c::knot_face_pixels(blocks.as_ptr(), blocks.len(), width, height, format, lent, room, pitch, &mut infinite) };
     done(word.into()).map(|_| infinite)
 }
@@ -324,6 +331,7 @@ pub fn face_pixels(blocks: &[u8], width: usize, height: usize, format: impl Into
 /// Refusals: 1, 15, 3 (a pitch below 16 · width, or room for fewer rows).
 pub fn face_rgba(blocks: &[u8], width: usize, height: usize, format: impl Into<u8>, out: &mut [u16], pitch: usize) -> Result<usize, Refused> {
     let (mut infinite, format, lent, room) = (0, format.into(), out.as_mut_ptr(), out.len());
+    // SAFETY: `blocks` is borrowed to read, `out` to write, each with its own length; `infinite` is a local.
     let word = unsafe { c::knot_face_rgba(blocks.as_ptr(), blocks.len(), width, height, format, lent, room, pitch, &mut infinite) };
     done(word.into()).map(|_| infinite)
 }
@@ -331,6 +339,7 @@ pub fn face_rgba(blocks: &[u8], width: usize, height: usize, format: impl Into<u
 /// Whether a block by itself meets the premises of the copies theorem: two such blocks of one format, mode and partition that show the
 /// same values are the same bytes. False for any other length or format.
 pub fn is_trusted(block: &[u8], format: impl Into<u8>) -> bool {
+    // SAFETY: `block` is borrowed to read, with its own length.
     unsafe { c::knot_is_trusted(block.as_ptr(), block.len(), format.into()) }
 }
 
@@ -347,21 +356,28 @@ pub struct Record {
 ///
 /// Refusals: 5, 6, 8, 1, 7.
 pub fn record_at(store: &[u8], n: usize) -> Result<Record, Refused> {
+    // SAFETY: `store` is borrowed to read, with its own length.
     let word = unsafe { c::knot_record_at(store.as_ptr(), store.len(), n) };
     done(word).map(|word| Record { tile: (word >> 32) as u32, format: (word >> 8) as u8 })
 }
 
 /// The block of record n as a part of the store; None where [`record_at`] refuses n.
 pub fn record_block(store: &[u8], n: usize) -> Option<&[u8]> {
+    // SAFETY: `store` is borrowed to read, with its own length.
     block_from(store, unsafe { c::knot_record_block(store.as_ptr(), store.len(), n) })
 }
 
 fn block_from(store: &[u8], start: usize) -> Option<&[u8]> {
-    if start == 0 { None } else { store.get(start..start + BLOCK_SIZE) }
+    if start == 0 {
+        None
+    } else {
+        store.get(start..start + BLOCK_SIZE)
+    }
 }
 
 /// The tile number of record n, whatever else the record holds, and 0 where there is no such record.
 pub fn tile_at(store: &[u8], n: usize) -> u32 {
+    // SAFETY: `store` is borrowed to read, with its own length.
     unsafe { c::knot_tile_at(store.as_ptr(), store.len(), n) }
 }
 
@@ -392,6 +408,7 @@ fn twins(word: u64) -> Result<Twins, Refused> {
 ///
 /// Refusals: 5, 6, 3.
 pub fn twin_list(store: &[u8], marks: &mut [u8]) -> Result<Twins, Refused> {
+    // SAFETY: `store` is borrowed to read, `marks` to write, each with its own length.
     twins(unsafe { c::knot_twin_list(store.as_ptr(), store.len(), marks.as_mut_ptr(), marks.len()) })
 }
 
@@ -400,6 +417,7 @@ pub fn twin_list(store: &[u8], marks: &mut [u8]) -> Result<Twins, Refused> {
 /// Refusals: 5, 6, 3.
 pub fn twin_list_in(store: &[u8], marks: &mut [u8], scratch: &mut [u16]) -> Result<Twins, Refused> {
     let (lent, room) = (scratch.as_mut_ptr(), scratch.len());
+    // SAFETY: `store` is borrowed to read, `marks` and `scratch` to write, each with its own length.
     twins(unsafe { c::knot_twin_list_in(store.as_ptr(), store.len(), marks.as_mut_ptr(), marks.len(), lent, room) })
 }
 
@@ -407,11 +425,13 @@ pub fn twin_list_in(store: &[u8], marks: &mut [u8], scratch: &mut [u16]) -> Resu
 ///
 /// Refusals: 5, 6, 3, 12.
 pub fn strict_twin_list(store: &[u8], marks: &mut [u8]) -> Result<Twins, Refused> {
+    // SAFETY: `store` is borrowed to read, `marks` to write, each with its own length.
     twins(unsafe { c::knot_strict_twin_list(store.as_ptr(), store.len(), marks.as_mut_ptr(), marks.len()) })
 }
 
 /// The number of the first damaged record; the number of records where none is.
 pub fn first_damaged(store: &[u8]) -> usize {
+    // SAFETY: `store` is borrowed to read, with its own length.
     unsafe { c::knot_first_damaged(store.as_ptr(), store.len()) }
 }
 
@@ -428,6 +448,7 @@ pub struct Cleaned {
 ///
 /// Refusals: 5, 6, 3.
 pub fn clean_store(store: &[u8], out: &mut [u8]) -> Result<Cleaned, Refused> {
+    // SAFETY: `store` is borrowed to read, `out` to write, each with its own length.
     cleaned(unsafe { c::knot_clean_store(store.as_ptr(), store.len(), out.as_mut_ptr(), out.len()) })
 }
 
@@ -454,6 +475,7 @@ fn cleaned(word: u64) -> Result<Cleaned, Refused> {
 /// ```
 pub fn clean_with_receipt(store: &[u8], out: &mut [u8], receipt: &mut [u8]) -> Result<Cleaned, Refused> {
     let (lent, room) = (receipt.as_mut_ptr(), receipt.len());
+    // SAFETY: `store` is borrowed to read, `out` and `receipt` to write, each with its own length.
     cleaned(unsafe { c::knot_clean_with_receipt(store.as_ptr(), store.len(), out.as_mut_ptr(), out.len(), lent, room) })
 }
 
@@ -462,22 +484,26 @@ pub fn clean_with_receipt(store: &[u8], out: &mut [u8], receipt: &mut [u8]) -> R
 /// Refusals: 5, 6, 25, 3.
 pub fn restore_store(cleaned: &[u8], receipt: &[u8], out: &mut [u8]) -> Result<usize, Refused> {
     let (lent, room) = (out.as_mut_ptr(), out.len());
+    // SAFETY: `cleaned` and `receipt` are borrowed to read, `out` to write, each with its own length.
     let word = unsafe { c::knot_restore_store(cleaned.as_ptr(), cleaned.len(), receipt.as_ptr(), receipt.len(), lent, room) };
     done(word).map(|word| usize::from((word >> 16) as u16))
 }
 
 /// The record that stays for record n where [`clean_store`] removes that; n where it stays, and where there is no such record.
 pub fn first_of(store: &[u8], n: usize) -> usize {
+    // SAFETY: `store` is borrowed to read, with its own length.
     unsafe { c::knot_first_of(store.as_ptr(), store.len(), n) }
 }
 
 /// The first earlier record that record n is a twin of; n itself where it is no twin, is refused, or is not there.
 pub fn first_twin(store: &[u8], n: usize) -> usize {
+    // SAFETY: `store` is borrowed to read, with its own length.
     unsafe { c::knot_first_twin(store.as_ptr(), store.len(), n) }
 }
 
 /// Whether the copies theorem covers two records of a store: twins that are covered are copies of each other, byte for byte.
 pub fn is_covered(store: &[u8], n: usize, earlier: usize) -> bool {
+    // SAFETY: `store` is borrowed to read, with its own length.
     unsafe { c::knot_is_covered(store.as_ptr(), store.len(), n, earlier) }
 }
 
@@ -508,6 +534,7 @@ pub struct PlacedRecord {
 /// Refusals: 5, 6, 8, 1, 7, 17.
 pub fn placed_record_at(store: &[u8], n: usize) -> Result<PlacedRecord, Refused> {
     let (mut column, mut row) = (0, 0);
+    // SAFETY: `store` is borrowed to read, with its own length; `column` and `row` are locals.
     let word = done(unsafe { c::knot_placed_record_at(store.as_ptr(), store.len(), n, &mut column, &mut row) })?;
     let face = (word >> 16) as u8;
     let place = if face < FACES { Some(Place { face, column, row }) } else { None };
@@ -516,6 +543,7 @@ pub fn placed_record_at(store: &[u8], n: usize) -> Result<PlacedRecord, Refused>
 
 /// The block of record n as a part of the store; None where [`placed_record_at`] refuses n.
 pub fn placed_record_block(store: &[u8], n: usize) -> Option<&[u8]> {
+    // SAFETY: `store` is borrowed to read, with its own length.
     block_from(store, unsafe { c::knot_placed_record_block(store.as_ptr(), store.len(), n) })
 }
 
@@ -527,6 +555,7 @@ fn moved(word: u64) -> Result<usize, Fault> {
 ///
 /// Refusals: 5, 6, 3; then the first record's that is refused, 1 or 7.
 pub fn place_store(old: &[u8], out: &mut [u8]) -> Result<usize, Fault> {
+    // SAFETY: `old` is borrowed to read, `out` to write, each with its own length.
     moved(unsafe { c::knot_place_store(old.as_ptr(), old.len(), out.as_mut_ptr(), out.len()) })
 }
 
@@ -534,6 +563,7 @@ pub fn place_store(old: &[u8], out: &mut [u8]) -> Result<usize, Fault> {
 ///
 /// Refusals: 5, 6, 3; then the first record's that is refused, 1, 7, 17 or 18.
 pub fn unplace_store(store: &[u8], out: &mut [u8]) -> Result<usize, Fault> {
+    // SAFETY: `store` is borrowed to read, `out` to write, each with its own length.
     moved(unsafe { c::knot_unplace_store(store.as_ptr(), store.len(), out.as_mut_ptr(), out.len()) })
 }
 
@@ -566,6 +596,7 @@ impl std::error::Error for Fault {}
 ///
 /// Refusals: 19, 5, 6; record by record 1, 7, 17, 20, 21, 22; 23.
 pub fn probe_check(store: &[u8], edge: u32) -> Result<(), Fault> {
+    // SAFETY: `store` is borrowed to read, with its own length.
     let word = unsafe { c::knot_probe_check(store.as_ptr(), store.len(), edge) };
     done(word).map(|_| ()).map_err(|refused| Fault::told(refused, (word >> 16) as u16))
 }
@@ -574,6 +605,7 @@ pub fn probe_check(store: &[u8], edge: u32) -> Result<(), Fault> {
 ///
 /// Refusals: those of [`probe_check`], then 24.
 pub fn probe_pixel(store: &[u8], edge: u32, face: u32, x: u32, y: u32) -> Result<[u16; 3], Refused> {
+    // SAFETY: `store` is borrowed to read, with its own length.
     let word = unsafe { c::knot_probe_pixel(store.as_ptr(), store.len(), edge, face, x, y) };
     done(word).map(|word| [16, 32, 48].map(|shift| (word >> shift) as u16))
 }
@@ -582,6 +614,7 @@ pub fn probe_pixel(store: &[u8], edge: u32, face: u32, x: u32, y: u32) -> Result
 ///
 /// Refusals: those of [`probe_check`], then 24, then 3.
 pub fn probe_face(store: &[u8], edge: u32, face: u32, out: &mut [u16]) -> Result<(), Refused> {
+    // SAFETY: `store` is borrowed to read, `out` to write, each with its own length.
     let word = unsafe { c::knot_probe_face(store.as_ptr(), store.len(), edge, face, out.as_mut_ptr(), out.len()) };
     done(word.into()).map(|_| ())
 }
@@ -591,6 +624,7 @@ pub fn probe_face(store: &[u8], edge: u32, face: u32, out: &mut [u16]) -> Result
 ///
 /// Refusals: 2, 3.
 pub fn bc7_pixels(block: &[u8], out: &mut [u8]) -> Result<u8, Refused> {
+    // SAFETY: `block` is borrowed to read, `out` to write, each with its own length.
     let word = unsafe { c::knot_bc7_pixels(block.as_ptr(), block.len(), out.as_mut_ptr(), out.len()) };
     done(word.into()).map(|word| (word >> 8) as u8)
 }
@@ -600,6 +634,7 @@ pub fn bc7_pixels(block: &[u8], out: &mut [u8]) -> Result<u8, Refused> {
 /// Refusals: 9, 3.
 pub fn bc7_blocks_pixels(blocks: &[u8], out: &mut [u8]) -> Result<usize, Refused> {
     let mut count = 0;
+    // SAFETY: `blocks` is borrowed to read, `out` to write, each with its own length; `count` is a local.
     let word = unsafe { c::knot_bc7_blocks_pixels(blocks.as_ptr(), blocks.len(), out.as_mut_ptr(), out.len(), &mut count) };
     done(word).map(|_| count)
 }
@@ -624,6 +659,7 @@ fn dds(word: u64) -> Result<Dds, Refused> {
 ///
 /// Refusals: 13, 14.
 pub fn dds_head(file: &[u8]) -> Result<Dds, Refused> {
+    // SAFETY: `file` is borrowed to read, with its own length.
     dds(unsafe { c::knot_dds_head(file.as_ptr(), file.len()) })
 }
 
@@ -631,11 +667,13 @@ pub fn dds_head(file: &[u8]) -> Result<Dds, Refused> {
 ///
 /// Refusals: 13, 14, 15.
 pub fn dds_read(file: &[u8]) -> Result<Dds, Refused> {
+    // SAFETY: `file` is borrowed to read, with its own length.
     dds(unsafe { c::knot_dds_read(file.as_ptr(), file.len()) })
 }
 
 /// The blocks of a whole file as a part of it; empty where [`dds_read`] refuses.
 pub fn dds_blocks(file: &[u8]) -> &[u8] {
+    // SAFETY: `file` is borrowed to read, with its own length.
     match unsafe { c::knot_dds_blocks(file.as_ptr(), file.len()) } {
         0 => &[],
         start => &file[start..],
@@ -647,6 +685,7 @@ pub fn dds_blocks(file: &[u8]) -> &[u8] {
 /// Refusals: 1, 14, 15, 3.
 pub fn dds_write(blocks: &[u8], format: impl Into<u8>, width: u32, height: u32, out: &mut [u8]) -> Result<usize, Refused> {
     let (lent, room) = (out.as_mut_ptr(), out.len());
+    // SAFETY: `blocks` is borrowed to read, `out` to write, each with its own length.
     done(unsafe { c::knot_dds_write(blocks.as_ptr(), blocks.len(), format.into(), width, height, lent, room) }).map(|word| (word >> 8) as usize)
 }
 
@@ -655,10 +694,12 @@ pub fn dds_write(blocks: &[u8], format: impl Into<u8>, width: u32, height: u32, 
 /// Refusals: 1, 16, 15, 3.
 pub fn pfm_write(blocks: &[u8], format: impl Into<u8>, width: u32, height: u32, out: &mut [u8]) -> Result<usize, Refused> {
     let (lent, room) = (out.as_mut_ptr(), out.len());
+    // SAFETY: `blocks` is borrowed to read, `out` to write, each with its own length.
     done(unsafe { c::knot_pfm_write(blocks.as_ptr(), blocks.len(), format.into(), width, height, lent, room) }).map(|word| (word >> 8) as usize)
 }
 
 /// The length of the Portable Float Map of a picture; None for a size that is refused.
 pub fn pfm_length(width: u32, height: u32) -> Option<usize> {
+    // SAFETY: the call takes numbers alone, no pointer.
     Some(unsafe { c::knot_pfm_length(width, height) }).filter(|length| *length != 0)
 }

@@ -1,5 +1,5 @@
 // Makes the calls of tests/wasm/vectors.py in a WebAssembly module, and compares the answer, every lent byte, input and slots too, and guard bytes on both
-// sides of each. It runs in node and in a browser.
+// sides of each. It runs in node, in browsers and in jsc.
 const PAGE = 65536, GUARD = 64, NULL = 0xFFFFFFFF, SAME = 0xFFFFFFFE, SLOT = 8;
 const GUARD_BYTE = 0xC7, SLOT_BYTE = 0x5A;
 const FILL = Uint8Array.from({ length: 1 << 20 }, (_, k) => 37 * k + 11 & 255);
@@ -103,4 +103,17 @@ export class Comparison {
     for (const [from, to] of this.guards) for (let k = from; k < to; k++) if (this.bytes[k] !== GUARD_BYTE) return "it wrote beside what was lent";
     return null;
   }
+}
+
+// Compares a module over the files of index.json, whose bytes `read` hands over: how many calls were made, and what differed. With `most` it ends at the
+// first file with a difference.
+export async function compareFiles(module, index, read, most) {
+  let made = 0, different = [];
+  for (const name of index.files) {
+    const comparison = new Comparison(module, index.calls).run(await read(name));
+    made += comparison.made;
+    different = different.concat(comparison.different);
+    if (most && different.length) break;
+  }
+  return { made, different };
 }

@@ -6,7 +6,7 @@ from .ends import Trouble
 
 # The name of what was read last, which a refusal speaks of, and the files that this run has written.
 read_last = None
-written = []
+written: list[str] = []
 
 # What a command has to say of its input beside its result: a line of its own, or the end of the line that tells a refusal.
 remarks = []

@@ -84,7 +84,7 @@ class Progress:
 
 def changed_of(job):
     """In a worker: the path, and the rows of the file or None where its SHA-256 is the one that is known."""
-    reading, path, known = package(), *job
+    reading, (path, known) = package(), job
     if known is not None:
         import hashlib
         try:

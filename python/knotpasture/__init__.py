@@ -51,7 +51,7 @@ class Refused(Exception):
         self.words = WORDS.get(number, "a number that this version does not know")
         super().__init__(f"refused, {number}: {self.words}" + ("" if record is None else f": record {record}"))
 
-    def __reduce__(self):
+    def __reduce__(self) -> tuple[type[Refused], tuple[int, Optional[int]]]:
         return Refused, (self.number, self.record)
 
 
@@ -251,7 +251,8 @@ def _face(name: str, channels: int, blocks: Bytes, width: int, height: int, sign
     pitch = out.strides[0] // 2 if out.size else channels * shape[1] if fits else 0
     room = pitch * (shape[0] - 1) + channels * shape[1] if out.size else 0
     _done(_library.call(name)(given.ctypes.data, given.size, wide, high, form, out.ctypes.data, room, pitch, ctypes.byref(ctypes.c_size_t())))
-    return out.view(numpy.float16)
+    shown: NDArray[numpy.float16] = out.view(numpy.float16)
+    return shown
 
 
 # ---- BC7

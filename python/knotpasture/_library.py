@@ -6,6 +6,7 @@ import os
 import pathlib
 import platform
 import threading
+from typing import Any
 
 NAME = "libknotpasture.so.0"
 
@@ -57,7 +58,7 @@ CALLS: dict[str, tuple[type, list[type]]] = {
 
 _lock = threading.Lock()
 _loaded: ctypes.CDLL | None = None
-_bound: dict[str, object] = {}
+_bound: dict[str, Any] = {}
 
 
 def places() -> list[str]:
@@ -90,7 +91,7 @@ def library() -> ctypes.CDLL:
         return _loaded
 
 
-def call(name: str):
+def call(name: str) -> Any:
     """A call of the library with its types; NotImplementedError where the library that is loaded is older than this package."""
     bound = _bound.get(name)
     if bound is None:

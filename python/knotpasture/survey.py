@@ -13,7 +13,7 @@ import errno
 import hashlib
 import os
 import stat
-from typing import Callable, Iterable, Iterator, NamedTuple, Optional, Union
+from typing import Any, Callable, Iterable, Iterator, NamedTuple, Optional, Union
 
 from . import _library
 
@@ -66,8 +66,8 @@ class Reading(NamedTuple):
 
     form: int
     bad_length: int
-    answers: list
-    places: list
+    answers: list[int]
+    places: list[tuple[int, int]]
 
     def fits(self) -> bool:
         return self.bad_length == 0 and bool(self.answers) and not any(word & 0xFF for word in self.answers)
@@ -196,6 +196,6 @@ def files_in(places: Iterable[Path]) -> Iterator[bytes]:
                 yield path
 
 
-def survey(places: Iterable[Path], each: Callable = map) -> Iterator[tuple[StoreRow, list[RecordRow]]]:
+def survey(places: Iterable[Path], each: Callable[..., Iterable[Any]] = map) -> Iterator[tuple[StoreRow, list[RecordRow]]]:
     """The rows of every file of places: files, and folders of files. `each` is `map`, or that of a pool of processes."""
     return iter(each(rows_of, files_in(places)))

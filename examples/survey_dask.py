@@ -9,17 +9,17 @@ from knotpasture.survey import files_in, rows_of
 
 
 def tiles(path):
-    """Each tile of a store that holds a picture: its format and bytes, and where it is."""
+    """Each tile of a store that holds a picture: its format's byte with its sixteen, and where it is."""
     store, records = rows_of(path)
-    return [((record.format, record.block), (store.path, record.number, record.tile)) for record in records if record.mode]
+    return [(bytes([record.format]) + record.block, store.path, record.number, record.tile) for record in records if record.mode]
 
 
 def main():
     files = dask.bag.from_sequence(files_in(sys.argv[1:]), npartitions=64)
     groups = files.map(tiles).flatten().groupby(lambda tile: tile[0])
-    shared = groups.filter(lambda group: len({place[0] for _, place in group[1]}) > 1)
-    for (form, block), found in shared.compute():
-        print(form, block.hex(), *(f"{path.decode(errors='replace')}:{number}" for _, (path, number, _) in found))
+    shared = groups.filter(lambda group: len({path for _, path, *_ in group[1]}) > 1)
+    for key, found in shared.compute():
+        print(key.hex(), *(f"{path.decode(errors='replace')}:{number}" for _, path, number, _ in found))
 
 
 if __name__ == "__main__":

@@ -31,6 +31,10 @@ LINE = Line(
 )
 
 
+# how many files a process is ahead of what is written, and how many are handed to a cluster at once
+AHEAD, BATCH = 4, 64
+
+
 def package():
     """The module of the Python package that reads stores, without the rest of the package, which needs numpy."""
     folder = os.path.join(house.ROOT, "python", "knotpasture")
@@ -109,14 +113,28 @@ def read_in_processes(jobs, count):
         yield from map(changed_of, jobs)
         return
     import multiprocessing
+    import threading
+    room = threading.Semaphore(AHEAD * count)
+
+    def few_at_a_time():
+        """Files are read no further ahead than their rows are written: else the rows of all of them pile up."""
+        for job in jobs:
+            room.acquire()
+            yield job
+
     with multiprocessing.Pool(count, initializer=leave_signals) as pool:
-        yield from pool.imap_unordered(changed_of, jobs, chunksize=2)
-        pool.close()
-        pool.join()
+        try:
+            for found in pool.imap_unordered(changed_of, few_at_a_time()):
+                yield found
+                room.release()
+            pool.close()
+            pool.join()
+        finally:
+            room.release(len(jobs) + 1)
 
 
 def read_by_cluster(jobs, address):
-    """The same by the workers of a Dask cluster, a few hundred files at a time."""
+    """The same by the workers of a Dask cluster, some files at a time."""
     with_site_packages()
     try:
         import distributed
@@ -124,8 +142,8 @@ def read_by_cluster(jobs, address):
         raise house.Trouble("--cluster needs Dask's distributed (Debian: python3-distributed), which this python3 does not have") from None
     try:
         with distributed.Client(address, timeout="10s") as client:
-            for first in range(0, len(jobs), 500):
-                for future in distributed.as_completed(client.map(cluster_rows, [(house.ROOT, *job) for job in jobs[first:first + 500]], pure=False)):
+            for first in range(0, len(jobs), BATCH):
+                for future in distributed.as_completed(client.map(cluster_rows, [(house.ROOT, *job) for job in jobs[first:first + BATCH]], pure=False)):
                     yield future.result()
     except OSError as error:
         raise house.Trouble(f"{house.shown(address)}: {error}") from None

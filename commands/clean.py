@@ -73,13 +73,13 @@ def keep_new(path):
 
 
 def write(receipt, text, out, left):
-    """The receipt first: no cleaned store is there without it."""
+    """The receipt first: no cleaned store is there without it, also where something fails once the store has its name."""
     if receipt is not None:
         house.write_whole(receipt, text, over=False)
     try:
         house.write_whole(out, left, over=False)
     except BaseException:
-        if receipt is not None:
+        if receipt is not None and not house.is_standard_output(receipt) and not os.path.lexists(out):
             os.unlink(receipt)
         raise
 

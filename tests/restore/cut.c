@@ -1,5 +1,5 @@
-/* A power cut: kills a Python process before its n-th call that changes a file, where KNOT_CUT is n. With KNOT_CUT=0 the calls are only
- * counted: each writes a byte to the file that KNOT_CUT_COUNT names. Programs other than Python, and writes to standard streams, are not counted. */
+/* A power cut: kills a Python process before its n-th call that changes a file, where KNOT_CUT is n; with KNOT_CUT_FAILS that call fails instead,
+ * as on a disk that does not answer. Programs other than Python, and writes to standard streams, are not counted. */
 #define _GNU_SOURCE
 #include <dlfcn.h>
 #include <errno.h>
@@ -13,83 +13,87 @@
 
 static int is_python(void) { return strncmp(program_invocation_short_name, "python", 6) == 0; }
 
-static void step(void) {
+/* Whether this call is to fail. */
+static int step(void) {
     static long done;
-    const char *cut = getenv("KNOT_CUT"), *count = getenv("KNOT_CUT_COUNT");
+    const char *cut = getenv("KNOT_CUT");
     if (cut == NULL || !is_python())
-        return;
+        return 0;
     done += 1;
-    if (count != NULL) {
-        int (*real_open)(const char *, int, ...) = (int (*)(const char *, int, ...))dlsym(RTLD_NEXT, "open");
-        ssize_t (*real_write)(int, const void *, size_t) = (ssize_t(*)(int, const void *, size_t))dlsym(RTLD_NEXT, "write");
-        int file = real_open(count, O_WRONLY | O_APPEND | O_CREAT, 0666);
-        if (file >= 0) {
-            if (real_write(file, "x", 1) != 1)
-                abort();
-            close(file);
-        }
-    }
-    if (atol(cut) == done)
+    if (atol(cut) != done)
+        return 0;
+    if (getenv("KNOT_CUT_FAILS") == NULL)
         kill(getpid(), SIGKILL);
+    errno = EIO;
+    return 1;
 }
 
 #define REAL(name) ((__typeof__(&name))dlsym(RTLD_NEXT, #name))
 
 ssize_t write(int file, const void *data, size_t size) {
-    if (file > 2)
-        step();
+    if (file > 2 && step())
+        return -1;
     return REAL(write)(file, data, size);
 }
 
 int link(const char *from, const char *to) {
-    step();
+    if (step())
+        return -1;
     return REAL(link)(from, to);
 }
 
 int linkat(int from_folder, const char *from, int to_folder, const char *to, int flags) {
-    step();
+    if (step())
+        return -1;
     return REAL(linkat)(from_folder, from, to_folder, to, flags);
 }
 
 int rename(const char *from, const char *to) {
-    step();
+    if (step())
+        return -1;
     return REAL(rename)(from, to);
 }
 
 int renameat(int from_folder, const char *from, int to_folder, const char *to) {
-    step();
+    if (step())
+        return -1;
     return REAL(renameat)(from_folder, from, to_folder, to);
 }
 
 int renameat2(int from_folder, const char *from, int to_folder, const char *to, unsigned flags) {
-    step();
+    if (step())
+        return -1;
     return REAL(renameat2)(from_folder, from, to_folder, to, flags);
 }
 
 int unlink(const char *path) {
-    step();
+    if (step())
+        return -1;
     return REAL(unlink)(path);
 }
 
 int unlinkat(int folder, const char *path, int flags) {
-    step();
+    if (step())
+        return -1;
     return REAL(unlinkat)(folder, path, flags);
 }
 
 int fsync(int file) {
-    step();
+    if (step())
+        return -1;
     return REAL(fsync)(file);
 }
 
 int chmod(const char *path, mode_t mode) {
-    step();
+    if (step())
+        return -1;
     return REAL(chmod)(path, mode);
 }
 
 static int opened(const char *name, const char *path, int flags, mode_t mode) {
     int (*real)(const char *, int, ...) = (int (*)(const char *, int, ...))dlsym(RTLD_NEXT, name);
-    if (flags & O_CREAT)
-        step();
+    if (flags & O_CREAT && step())
+        return -1;
     return real(path, flags, mode);
 }
 

@@ -79,7 +79,8 @@ def write(receipt, text, out, left):
     try:
         house.write_whole(out, left, over=False)
     except BaseException:
-        if receipt is not None and not house.is_standard_output(receipt) and not os.path.lexists(out):
+        streams = house.is_standard_output(out) or receipt is not None and house.is_standard_output(receipt)
+        if receipt is not None and not streams and not os.path.lexists(out):
             os.unlink(receipt)
         raise
 

@@ -59,7 +59,7 @@ def refused(number, data=b"", most=MOST_SIDE):
 def read(path):
     """A file's width, height, format and block bytes."""
     data = house.read(path, HEADER + MOST_BLOCKS)
-    told = house.ask("dds_files", data, lambda answer: len(answer) == 6 and answer[1] < len(fieldtext.FORMATS))
+    told = house.ask("run_dds", data, lambda answer: len(answer) == 6 and answer[1] < len(fieldtext.FORMATS))
     if told[0] != 0:
         raise refused(told[0], data)
     width, height = (int.from_bytes(told[at:at + 2], "little") for at in (2, 4))
@@ -88,7 +88,7 @@ def make(asked):
     def is_whole(answer):
         return len(answer) == 1 and answer != b"\0" or answer[:5] == b"\0DDS " and len(answer) == 1 + HEADER
 
-    told = house.ask("dds_files", wish + blocks, is_whole, ["--make"])
+    told = house.ask("run_dds", wish + blocks, is_whole, ["--make"])
     if told[0] != 0:
         raise refused(told[0])
     house.write_whole(asked.out, told[1:] + blocks)

@@ -14,12 +14,12 @@ LINE = Line(
     options=[Option("--picture", "print what the block shows: a line a pixel, red, green and blue in hex")],
     example="knot fields samples/lamp.block unsigned\nknot fields samples/four.store 0",
 )
-# An answer of extract_fields: a number, and the fields.
+# An answer of run_fields: a number, and the fields.
 ANSWER = 45
 
 
 def format_and_block(data, path, word):
-    """What a file of one block holds, as extract_fields reads it."""
+    """What a file of one block holds, as run_fields reads it."""
     size, name = len(data), house.shown(path)
     if size == house.BLOCK:
         if word is None:
@@ -51,7 +51,7 @@ def run(asked):
         given = format_and_block(data, path, word)
     else:
         given = own_block(house.record_in(data, house.number(word, "N")))
-    written = house.ask("extract_fields", given, lambda answer: len(answer) == ANSWER)
+    written = house.ask("run_fields", given, lambda answer: len(answer) == ANSWER)
     if written[0] != 0:
         raise house.Refused(written[0], f"block refused {written[0]}\n")
     house.put(fieldtext.picture_of(written[1:]) if asked.picture else fieldtext.text_of(written[1:]))

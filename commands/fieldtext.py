@@ -11,7 +11,7 @@ FORMATS = ["unsigned", "signed"]
 CHANNELS = ["red", "green", "blue"]
 # The most bytes of a text: some thirty times what a text has.
 TEXT = 16_384
-# An answer of write_blocks, a number and the block; one of show_fields, a number and the 48 values.
+# An answer of run_write, a number and the block; one of show_fields, a number and the 48 values.
 ANSWER, PICTURE = 17, 97
 
 NUMBER = "([0-9]{1,9})"
@@ -37,7 +37,7 @@ def refused(reason, name=None):
 
 
 def text_of(fields):
-    """The text of the 44 bytes that extract_fields gives."""
+    """The text of the 44 bytes that run_fields gives."""
     form, mode, partition, region1, indices = fields[0], fields[1], fields[26], fields[27], fields[28:]
     values = [low + 256 * high for low, high in zip(fields[2:26:2], fields[3:26:2])]
     two = mode <= 10
@@ -76,7 +76,7 @@ def parsed(data):
 
 
 def record_of(said):
-    """The 44 bytes that write_blocks reads; None where a number has no room in them."""
+    """The 44 bytes that run_write reads; None where a number has no room in them."""
     try:
         return b"".join(number.to_bytes(size, "little") for name, (_, size) in LINES.items() for number in said[name])
     except OverflowError:
@@ -87,7 +87,7 @@ def written(texts):
     """The block that the proved writer makes of each, None for a refused one."""
     records = [record_of(said) for said in texts]
     asked = [record for record in records if record]
-    answers = house.ask("write_blocks", b"".join(asked), lambda answers: len(answers) == ANSWER * len(asked))
+    answers = house.ask("run_write", b"".join(asked), lambda answers: len(answers) == ANSWER * len(asked))
     made = iter([answers[k:k + ANSWER] for k in range(0, len(answers), ANSWER)])
     blocks = [next(made) if record else None for record in records]
     return [answer[1:] if answer and answer[0] == 0 else None for answer in blocks]

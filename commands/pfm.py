@@ -23,7 +23,7 @@ def is_whole(data, answer):
 def run(asked):
     house.keep_apart(asked.out, asked.file)
     data = house.read(asked.file, MOST)
-    told = house.ask("pfm_files", data, lambda answer: is_whole(data, answer))
+    told = house.ask("run_pfm", data, lambda answer: is_whole(data, answer))
     if told[0] != 0:
         raise refused(told[0], data, MOST_SIDE)
     house.write_whole(asked.out, told[1:])

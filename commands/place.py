@@ -11,4 +11,4 @@ LINE = Line("GIVEN MADE", options=[AS_STORE], example="knot place samples/twins.
 
 
 def run(asked):
-    moving.move(asked, "place_tiles", kinds.store_to_change, kinds.PLAIN, kinds.PLACED)
+    moving.move(asked, "run_place", kinds.store_to_change, kinds.PLAIN, kinds.PLACED)

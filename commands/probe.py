@@ -21,7 +21,7 @@ def ask(asked, kind, edge, face, is_whole):
     """What the program answers, where it does not refuse."""
     store = kinds.placed_to_change(asked.store, asked.as_store)
     question = bytes([kind]) + b"".join(min(number, MOST).to_bytes(4, "little") for number in (edge, face))
-    answer = house.ask("probe_store", question + store, lambda answer: re.fullmatch(REFUSED, answer) or is_whole(answer, len(store)))
+    answer = house.ask("run_probe", question + store, lambda answer: re.fullmatch(REFUSED, answer) or is_whole(answer, len(store)))
     refused = re.fullmatch(REFUSED, answer)
     if refused:
         record = {"record": int(refused[2])} if refused[2] else {}

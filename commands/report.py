@@ -118,7 +118,7 @@ def shown(store, kinds):
     """The values and the fields of each record that holds a picture, zeros for another."""
     records = [store[at + 4:at + 5] + store[at + 8:at + house.RECORD] for at in range(0, len(store), house.RECORD)]
     asked = [n for n, kind in enumerate(kinds) if kind in PICTURES]
-    return answered("decode_blocks", records, BEFORE_VALUES, VALUES, asked), answered("extract_fields", records, BEFORE_FIELDS, FIELDS, asked)
+    return answered("run_pixels", records, BEFORE_VALUES, VALUES, asked), answered("run_fields", records, BEFORE_FIELDS, FIELDS, asked)
 
 
 def exposure(values):

@@ -11,4 +11,4 @@ LINE = Line("GIVEN MADE", options=[AS_STORE], example="knot unplace new.store ol
 
 
 def run(asked):
-    moving.move(asked, "unplace_tiles", kinds.placed_to_change, kinds.PLACED, kinds.PLAIN)
+    moving.move(asked, "run_unplace", kinds.placed_to_change, kinds.PLACED, kinds.PLAIN)

@@ -2,10 +2,10 @@
 //!
 //!     compare short|long [SEED]                     through the archive (built with --cfg archive)
 //!     compare first [SEED]                          the same as short, up to the first difference
-//!     compare programs DECODE EXTRACT WRITE [SEED]  through the programs decode_blocks, extract_fields and write_blocks, or others
+//!     compare programs DECODE EXTRACT WRITE [SEED]  through the programs run_pixels, run_fields and run_write, or others
 //!                                                   that answer as they do
 //!     compare runs PROGRAM [SEED]                   through a program over the call for a run of blocks
-//!     compare decode                                writes what decode_blocks must write for its standard input
+//!     compare decode                                writes what run_pixels must write for its standard input
 //!     compare entries SEED                          writes the list that the program replay reads
 //!     compare emit COUNT FORMAT SEED                writes 17-byte records, COUNT of them random, for other drivers
 mod blocks;

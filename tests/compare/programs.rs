@@ -1,5 +1,5 @@
-//! Our side as programs: decode_blocks (17 bytes in, 100 out), extract_fields (17 in, 45 out), and write_blocks (44 in, 17 out),
-//! which is given what extract_fields writes after its answers.
+//! Our side as programs: run_pixels (17 bytes in, 100 out), run_fields (17 in, 45 out), and run_write (44 in, 17 out),
+//! which is given what run_fields writes after its answers.
 use crate::blocks::{Mode, NAMED};
 use crate::{field_numbers, Tally};
 use std::io::{BufWriter, Read, Write};
@@ -55,7 +55,7 @@ fn extracted(record: &[u8]) -> Vec<u8> {
     bytes
 }
 
-/// What write_blocks writes of the fields of a record: the block again, or 10 and zeros where there are none.
+/// What run_write writes of the fields of a record: the block again, or 10 and zeros where there are none.
 fn written_back(record: &[u8]) -> [u8; 17] {
     let mut answer = [0; 17];
     match extracted(record)[0] {
@@ -101,13 +101,13 @@ pub fn compare(decode: &str, extract: &str, write: &str, seed: u64, tally: &mut 
     }
     records.extend([1, 0x0F, 0, 0]);
     let expected: Vec<u8> = records.chunks(17).flat_map(decoded).collect();
-    compare_run("decode_blocks", &records, &answers(decode, &records), &expected, 100, tally);
+    compare_run("run_pixels", &records, &answers(decode, &records), &expected, 100, tally);
     let expected: Vec<u8> = records.chunks(17).flat_map(extracted).collect();
     let fields = answers(extract, &records);
-    compare_run("extract_fields", &records, &fields, &expected, 45, tally);
+    compare_run("run_fields", &records, &fields, &expected, 45, tally);
     let fields: Vec<u8> = fields.chunks(45).flat_map(|piece| &piece[1..]).copied().collect();
     let expected: Vec<u8> = records.chunks(17).flat_map(written_back).collect();
-    compare_run("write_blocks", &records, &answers(write, &fields), &expected, 17, tally);
+    compare_run("run_write", &records, &answers(write, &fields), &expected, 17, tally);
 }
 
 /// The same blocks in runs of one format, of 0 to 199 blocks, through the call over a run: a format, a count and the blocks in; the
@@ -188,7 +188,7 @@ pub fn entries(seed: u64) -> ExitCode {
     ExitCode::SUCCESS
 }
 
-/// What decode_blocks must write for the records of standard input.
+/// What run_pixels must write for the records of standard input.
 pub fn decode() -> ExitCode {
     let mut records = Vec::new();
     std::io::stdin().read_to_end(&mut records).expect("standard input");

@@ -1,8 +1,8 @@
 /* The archive that is shipped, as a program, for machines on which it runs under an emulator. The word says what standard input is:
  *
- *   pixels   records of a format and a block (17 bytes); each answers as the program decode_blocks does, 100 bytes
- *   fields   the same records; each answers as the program extract_fields does, 45 bytes
- *   written  field records (44 bytes); each answers as the program write_blocks does, 17 bytes
+ *   pixels   records of a format and a block (17 bytes); each answers as the program run_pixels does, 100 bytes
+ *   fields   the same records; each answers as the program run_fields does, 45 bytes
+ *   written  field records (44 bytes); each answers as the program run_write does, 17 bytes
  *   runs     a format, a count of two bytes and as many blocks; answers the number, the blocks done and the count of minus infinities, four
  *            bytes each, and the values
  *

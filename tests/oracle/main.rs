@@ -1,4 +1,4 @@
-//! The Rust decoder in the manner of the program decode_blocks: standard input is a run of 17-byte records, a format byte
+//! The Rust decoder in the manner of the program run_pixels: standard input is a run of 17-byte records, a format byte
 //! and a block; for each, 100 bytes go out: answer, mode, count of minus infinities, 48 values, low byte
 //! first. Formats are 0 or 1 here.
 use std::io::{self, BufReader, BufWriter, ErrorKind, Read, Write};

@@ -30,7 +30,7 @@ def records_of(store):
 
 def values_of(store):
     """The 48 floats of each record, by the program over blocks and Python's own half-floats."""
-    out = ran("decode_blocks", b"".join(records_of(store)))
+    out = ran("run_pixels", b"".join(records_of(store)))
     return [struct.unpack("<48e", out[at + 4:at + 100]) for at in range(0, len(out), 100)]
 
 
@@ -112,7 +112,7 @@ class Facts:
 
     @functools.cached_property
     def extracted(self):
-        out = ran("extract_fields", b"".join(records_of(self.store)))
+        out = ran("run_fields", b"".join(records_of(self.store)))
         return [out[at + 1:at + 45] for at in range(0, len(out), 45)]
 
     def fields(self, n):
@@ -136,13 +136,13 @@ def record(tile, form, block):
 def region_counts():
     """How many pixels each partition has in region 1: of a block of mode 10 in that partition."""
     blocks = [b"\0" + (0x1E | partition << 77).to_bytes(16, "little") for partition in range(32)]
-    out = ran("extract_fields", b"".join(blocks))
+    out = ran("run_fields", b"".join(blocks))
     return [out[45 * partition + 28] for partition in range(32)]
 
 
 def written(fields):
     """The block of each field record, by the proved writer."""
-    out = ran("write_blocks", b"".join(fields))
+    out = ran("run_write", b"".join(fields))
     blocks = [out[at:at + 17] for at in range(0, len(out), 17)]
     assert all(len(block) == 17 and block[0] == 0 for block in blocks), "the writer refused the fields of a test store"
     return [block[1:] for block in blocks]

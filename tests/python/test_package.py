@@ -98,7 +98,7 @@ def stored(crate, size, shown):
 
 
 def test_stored_blocks():
-    pieces = stored("decode_blocks", 17, 100)
+    pieces = stored("run_pixels", 17, 100)
     by_format = {0: [], 1: []}
     for piece, wrote in pieces:
         if piece[0] > 1:
@@ -458,7 +458,7 @@ def by_rows(values, width, height):
 @pytest.mark.skipif(not has("knot_face_pixels"), reason="the library has no knot_face_pixels")
 @pytest.mark.parametrize("call, channels", [(knotpasture.face, 3), (knotpasture.face_rgba, 4)])
 def test_faces(call, channels):
-    blocks = b"".join(piece[1:] for piece, _ in stored("decode_blocks", 17, 100)[:35])
+    blocks = b"".join(piece[1:] for piece, _ in stored("run_pixels", 17, 100)[:35])
     expected = by_rows(knotpasture.decode(blocks, True), 7, 5)
     face = call(blocks, 7, 5, True)
     assert face.shape == (20, 28, channels) and face[:, :, :3].tobytes() == expected.tobytes()

@@ -1,4 +1,4 @@
-// A field record as a run of numbers, and back: how C and the program write_blocks hold one.
+// A field record as a run of numbers, and back: how C and the program run_write hold one.
 use bc6h_spec::Fields;
 ghost use mathlib.Core.Path.{_≡_};
 ghost use mathlib.Core.List.{_++_};

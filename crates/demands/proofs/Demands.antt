@@ -20,18 +20,18 @@ use Rattle.bc7.proofs.Calls as bc7-calls
 use Rattle.bc7_blocks.specs.declared.Bc7BlocksPixels.{Bc7BlocksPixels}
 use Rattle.bc7_blocks.specs.Run as bc7-run
 use Rattle.bc7_blocks.proofs.Calls as bc7-runs
-use Rattle.copies.proofs.Demand3 as copies
-use Rattle.copies.proofs.Wide as wide
-use Rattle.clean.proofs.Theorems as clean
-use Rattle.restore.proofs.Theorems as restore
+use Rattle.store_copies.proofs.Demand3 as copies
+use Rattle.store_copies.proofs.Wide as wide
+use Rattle.store_clean.proofs.Theorems as clean
+use Rattle.store_restore.proofs.Theorems as restore
 use Rattle.store_theorems.proofs.Pictures as pictures
 use Rattle.store_theorems.proofs.Growing as growing
 use Rattle.store_theorems.proofs.Nights as nights
 use Rattle.store_theorems.proofs.Orders as orders
 use Rattle.bc6_writer.proofs.Undone as fields
 use Rattle.dds.proofs.Back as dds
-use Rattle.moves.proofs.Calls as moves
-use Rattle.floats.proofs.Exact as floats
+use Rattle.probe_moves.proofs.Calls as moves
+use Rattle.pfm_floats.proofs.Exact as floats
 use Rattle.pfm.proofs.Places as pfm
 use Rattle.probe.proofs.Orders as probe
 use Rattle.probe_build.proofs.Shown as build

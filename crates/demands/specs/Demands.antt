@@ -13,8 +13,8 @@ use Rattle.bc6h_spec.specs.Bits.{blockSize, IsBlock}
 use Rattle.bc6h_spec.specs.Fields.{modeOf, Valid}
 use Rattle.bc6h_spec.specs.Picture.{isSigned, valueCount}
 use Rattle.bc6h_spec.specs.Block.{pixelsOf}
-use Rattle.copies.specs.Words.{Eligible, ChannelDiffers}
-use Rattle.copies.specs.Wide.{Suited, Matched}
+use Rattle.store_copies.specs.Words.{Eligible, ChannelDiffers}
+use Rattle.store_copies.specs.Wide.{Suited, Matched}
 use Rattle.bc6.specs.declared.Pixels.{Pixels}
 use Rattle.bc6.specs.Call.{Painted}
 use Rattle.bc6_blocks.specs.declared.BlocksPixels.{BlocksPixels}
@@ -27,22 +27,22 @@ use Rattle.bc7.specs.declared.Bc7Pixels.{Bc7Pixels}
 use Rattle.bc7.specs.Call as bc7
 use Rattle.bc7_blocks.specs.declared.Bc7BlocksPixels.{Bc7BlocksPixels}
 use Rattle.bc7_blocks.specs.Run as bc7-run
-use Rattle.records.specs.Store.{recordSize, recordsIn}
-use Rattle.clean.specs.Theorems.{EachHasOne, OnlyThose, StaysInOrder, NoneLost, CleanAgain}
-use Rattle.restore.specs.Theorems.{Undone, Taken, NoTileLost}
+use Rattle.store_records.specs.Store.{recordSize, recordsIn}
+use Rattle.store_clean.specs.Theorems.{EachHasOne, OnlyThose, StaysInOrder, NoneLost, CleanAgain}
+use Rattle.store_restore.specs.Theorems.{Undone, Taken, NoTileLost}
 use Rattle.store_theorems.specs.Pictures.{EveryPictureShown, FaultyStay}
 use Rattle.store_theorems.specs.Growing.{Appended, Nightly}
 use Rattle.store_theorems.specs.Orders.{AlikeIsEquivalence, SameKept}
-use Rattle.places.specs.Places.{placeSize, placesIn}
-use Rattle.moves.specs.declared.Moved.{Moved}
-use Rattle.moves.specs.Moves.{PlacedStore, UnplacedStore}
+use Rattle.probe_places.specs.Places.{placeSize, placesIn}
+use Rattle.probe_moves.specs.declared.Moved.{Moved}
+use Rattle.probe_moves.specs.Moves.{PlacedStore, UnplacedStore}
 use Rattle.probe.specs.declared.ProbePixel.{ProbePixel}
 use Rattle.probe.specs.Probe.{tripleIn, Asked}
 use Rattle.probe_build.specs.Pictures.{BuildShows}
 use Rattle.dds.specs.declared.DdsRead.{DdsRead}
 use Rattle.dds.specs.declared.DdsWritten.{DdsWritten}
 use Rattle.dds.specs.Dds.{FileRead, BlocksRead, FileWritten}
-use Rattle.floats.specs.Half.{isNegative, exponentOf, halfValue, Is24ths, floatOf}
+use Rattle.pfm_floats.specs.Half.{isNegative, exponentOf, halfValue, Is24ths, floatOf}
 use Rattle.pfm_header.specs.Header.{headerLength}
 use Rattle.pfm.specs.declared.PfmWritten.{PfmWritten}
 use Rattle.pfm.specs.File.{pixelBytes, PictureWritten}

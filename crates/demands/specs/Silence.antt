@@ -11,8 +11,8 @@ use Rattle.bc6.specs.declared.Pixels.{Pixels}
 use Rattle.bc6.specs.Call.{Painted}
 use Rattle.bc6_blocks.specs.declared.BlocksPixels.{BlocksPixels}
 use Rattle.bc6_blocks.specs.Run.{RunPainted}
-use Rattle.bc6_face.specs.declared.FacePixels.{FacePixels}
-use Rattle.bc6_face.specs.Face.{FacePainted}
+use Rattle.bc6_image.specs.declared.FacePixels.{FacePixels}
+use Rattle.bc6_image.specs.Face.{FacePainted}
 use Rattle.bc6_fields.specs.declared.FieldsRead.{FieldsRead}
 use Rattle.bc6_fields.specs.Call.{Extracted}
 use Rattle.bc6_writer.specs.Call as writer
@@ -21,24 +21,24 @@ use Rattle.bc7.specs.declared.Bc7Pixels.{Bc7Pixels}
 use Rattle.bc7.specs.Call as bc7
 use Rattle.bc7_blocks.specs.declared.Bc7BlocksPixels.{Bc7BlocksPixels}
 use Rattle.bc7_blocks.specs.Run as bc7-run
-use Rattle.records.specs.declared.RecordReading.{RecordReading}
-use Rattle.records.specs.Store as records
-use Rattle.twins_spec.specs.declared.TwinList.{TwinList}
-use Rattle.twins_spec.specs.Twins.{Listed, ListedIn}
-use Rattle.strict.specs.Strict.{StrictlyListed}
-use Rattle.clean.specs.declared.Cleaned.{Cleaned}
-use Rattle.clean.specs.Clean.{CleanedInto}
-use Rattle.receipt.specs.Receipt.{ReceiptInto}
-use Rattle.restore.specs.declared.Restored.{Restored}
-use Rattle.restore.specs.Restore.{RestoredInto}
-use Rattle.places.specs.declared.Fault.{Fault}
-use Rattle.places.specs.declared.PlacedReading.{PlacedReading}
-use Rattle.places.specs.Readings as placed
-use Rattle.moves.specs.declared.Moved.{Moved}
-use Rattle.moves.specs.Moves.{PlacedStore, UnplacedStore}
+use Rattle.store_records.specs.declared.RecordReading.{RecordReading}
+use Rattle.store_records.specs.Store as records
+use Rattle.store_spec.specs.declared.TwinList.{TwinList}
+use Rattle.store_spec.specs.Twins.{Listed, ListedIn}
+use Rattle.store_strict.specs.Strict.{StrictlyListed}
+use Rattle.store_clean.specs.declared.Cleaned.{Cleaned}
+use Rattle.store_clean.specs.Clean.{CleanedInto}
+use Rattle.store_receipt.specs.Receipt.{ReceiptInto}
+use Rattle.store_restore.specs.declared.Restored.{Restored}
+use Rattle.store_restore.specs.Restore.{RestoredInto}
+use Rattle.probe_places.specs.declared.Fault.{Fault}
+use Rattle.probe_places.specs.declared.PlacedReading.{PlacedReading}
+use Rattle.probe_places.specs.Readings as placed
+use Rattle.probe_moves.specs.declared.Moved.{Moved}
+use Rattle.probe_moves.specs.Moves.{PlacedStore, UnplacedStore}
 use Rattle.probe.specs.declared.ProbePixel.{ProbePixel}
 use Rattle.probe.specs.Probe.{Asked, probeFault, tripleIn}
-use Rattle.faces.specs.Face as faces
+use Rattle.probe_faces.specs.Face as faces
 use Rattle.probe_build.specs.declared.Built.{Built}
 use Rattle.probe_build.specs.Building.{BuiltTo}
 use Rattle.dds.specs.declared.DdsRead.{DdsRead}

@@ -3,14 +3,14 @@ use mathlib.Core.Path.{_≡_, refl, sym, ap, _∙_}
 use mathlib.Core.List.{List}
 use Prim.Native.Nat.{ℕ, zero, suc, _+_, _*_, _<_}
 use native.Mathlib.Omega.{arith}
-use Rattle.places.specs.declared.PlacedRecord.{PlacedRecord}
-use Rattle.places.specs.declared.PlacedReading.{PlacedReading}
-use Rattle.places.specs.declared.PlacedReading.the-variants as reading
-use Rattle.places.specs.Places.{placeSize, placeHead, placeLimit}
-use Rattle.places.specs.Readings.{placedRefusal, PlacedRead}
-use Rattle.places.proofs.Readings.{known, unrefused, record-is, refused}
-use Rattle.moves.specs.declared.Moved.{Moved}
-use Rattle.moves.specs.Moves.{PlacedStore, UnplacedStore}
+use Rattle.probe_places.specs.declared.PlacedRecord.{PlacedRecord}
+use Rattle.probe_places.specs.declared.PlacedReading.{PlacedReading}
+use Rattle.probe_places.specs.declared.PlacedReading.the-variants as reading
+use Rattle.probe_places.specs.Places.{placeSize, placeHead, placeLimit}
+use Rattle.probe_places.specs.Readings.{placedRefusal, PlacedRead}
+use Rattle.probe_places.proofs.Readings.{known, unrefused, record-is, refused}
+use Rattle.probe_moves.specs.declared.Moved.{Moved}
+use Rattle.probe_moves.specs.Moves.{PlacedStore, UnplacedStore}
 use Rattle.knotpasture.specs.Placed.{placedOffset, movedWord, PlacedReadingCalled, PlaceCalled, UnplaceCalled}
 
 -- ---- the record calls

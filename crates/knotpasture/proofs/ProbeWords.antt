@@ -3,11 +3,11 @@ use mathlib.Core.Path.{_≡_, sym, ap, _∙_}
 use mathlib.Core.List.{List}
 use Prim.Native.Nat.{ℕ, _≤_}
 use native.Mathlib.Omega.{arith}
-use Rattle.places.specs.declared.Fault.{Fault}
+use Rattle.probe_places.specs.declared.Fault.{Fault}
 use Rattle.probe.specs.declared.ProbePixel.{ProbePixel}
 use Rattle.probe.specs.Probe.{probeFault, probeAnswer, Asked}
 use Rattle.probe.proofs.Telling.{faulty-small}
-use Rattle.faces.specs.Face.{FacePainted}
+use Rattle.probe_faces.specs.Face.{FacePainted}
 use Rattle.knotpasture.specs.ProbeWords.{pixelWord, faultWord, FaceCalled}
 
 pub pixel-called : {store : List ℕ} {edge face x y : ℕ} {p : ProbePixel} → Asked store edge face x y p → pixelWord p ≡ pixelWord (probeAnswer store edge face x y)

@@ -8,18 +8,18 @@ use lib.ListN.{length}
 use borrow.Author.Tests.{eqb-true, eqb-false}
 use Rattle.laws.proofs.Tests.{cases}
 use Rattle.bc6h_spec.specs.Answers.{done}
-use Rattle.twins_spec.specs.declared.TwinList.{TwinList}
-use Rattle.twins_spec.specs.Twins.{ListedIn}
-use Rattle.twins_spec.proofs.Listing.{list-is, silent-in}
-use Rattle.clean.specs.declared.Cleaned.{Cleaned}
-use Rattle.clean.specs.Clean.{refusal, CleanedInto}
-use Rattle.clean.proofs.Cleaning as cleaning
-use Rattle.receipt.specs.Receipt.{receiptRefusal, ReceiptInto}
-use Rattle.receipt.proofs.Telling as telling
-use Rattle.restore.specs.declared.Restored.{Restored}
-use Rattle.restore.specs.Restore.{restoreRefusal, RestoredInto}
-use Rattle.restore.proofs.Fitting.{restorable}
-use Rattle.restore.proofs.Restoring as restoring
+use Rattle.store_spec.specs.declared.TwinList.{TwinList}
+use Rattle.store_spec.specs.Twins.{ListedIn}
+use Rattle.store_spec.proofs.Listing.{list-is, silent-in}
+use Rattle.store_clean.specs.declared.Cleaned.{Cleaned}
+use Rattle.store_clean.specs.Clean.{refusal, CleanedInto}
+use Rattle.store_clean.proofs.Cleaning as cleaning
+use Rattle.store_receipt.specs.Receipt.{receiptRefusal, ReceiptInto}
+use Rattle.store_receipt.proofs.Telling as telling
+use Rattle.store_restore.specs.declared.Restored.{Restored}
+use Rattle.store_restore.specs.Restore.{restoreRefusal, RestoredInto}
+use Rattle.store_restore.proofs.Fitting.{restorable}
+use Rattle.store_restore.proofs.Restoring as restoring
 use Rattle.knotpasture.specs.Packed.{twinsWord}
 use Rattle.knotpasture.specs.Stores.{TwinsInCalled, cleanWord, CleanCalled, ReceiptCalled, restoredWord, RestoreCalled}
 use Rattle.knotpasture.proofs.Words.{no-counts, few}

@@ -11,17 +11,17 @@ use Rattle.bc6.specs.declared.Pixels.{Pixels}
 use Rattle.bc6.specs.Call.{Painted}
 use Rattle.bc6_blocks.specs.declared.BlocksPixels.{BlocksPixels}
 use Rattle.bc6_blocks.specs.Run.{RunPainted}
-use Rattle.records.specs.declared.Record.{Record}
-use Rattle.records.specs.declared.RecordReading.{RecordReading}
-use Rattle.records.specs.declared.RecordReading.the-variants as reading
-use Rattle.records.specs.Store.{recordSize, headSize, storeLimit, tileOf, formatOf, recordRefusal, Read}
-use Rattle.records.proofs.Refusals.{known}
-use Rattle.records.proofs.Readings.{unrefused, refused}
-use Rattle.twins_spec.specs.declared.TwinList.{TwinList}
-use Rattle.twins_spec.specs.Twins.{refusal, Listed}
-use Rattle.twins_spec.proofs.Listing.{refused-alone, counts-add-up, whole}
-use Rattle.strict.specs.Strict.{StrictlyListed}
-use Rattle.strict.proofs.Strictness as strict
+use Rattle.store_records.specs.declared.Record.{Record}
+use Rattle.store_records.specs.declared.RecordReading.{RecordReading}
+use Rattle.store_records.specs.declared.RecordReading.the-variants as reading
+use Rattle.store_records.specs.Store.{recordSize, headSize, storeLimit, tileOf, formatOf, recordRefusal, Read}
+use Rattle.store_records.proofs.Refusals.{known}
+use Rattle.store_records.proofs.Readings.{unrefused, refused}
+use Rattle.store_spec.specs.declared.TwinList.{TwinList}
+use Rattle.store_spec.specs.Twins.{refusal, Listed}
+use Rattle.store_spec.proofs.Listing.{refused-alone, counts-add-up, whole}
+use Rattle.store_strict.specs.Strict.{StrictlyListed}
+use Rattle.store_strict.proofs.Strictness as strict
 use Rattle.knotpasture.specs.Packed.{pixelsWord, PixelsCalled, RunCalled, wordAt, readingWord, offsetAt, twinsWord, TwinsCalled, StrictCalled}
 
 -- ---- the pixels call

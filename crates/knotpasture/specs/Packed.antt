@@ -12,11 +12,11 @@ use Rattle.bc6_numbers.specs.Numbers.{numberCount, numbersOf}
 use Rattle.bc6.specs.declared.Pixels.{Pixels}
 use Rattle.bc6.specs.Call.{refusalOf, answerAt, valuesAt}
 use Rattle.bc6_blocks.specs.Run.{runRefusal, runAnswer, runValues}
-use Rattle.records.specs.Store.{recordSize, headSize, tileOf, formatOf, recordRefusal}
-use Rattle.twins_spec.specs.declared.TwinList.{TwinList}
-use Rattle.twins_spec.specs.Twins.{listRefusal, marksAt}
-use Rattle.twins_spec.specs.Twins as twins
-use Rattle.strict.specs.Strict.{strictRefusal}
+use Rattle.store_records.specs.Store.{recordSize, headSize, tileOf, formatOf, recordRefusal}
+use Rattle.store_spec.specs.declared.TwinList.{TwinList}
+use Rattle.store_spec.specs.Twins.{listRefusal, marksAt}
+use Rattle.store_spec.specs.Twins as twins
+use Rattle.store_strict.specs.Strict.{strictRefusal}
 
 -- two bytes, the first the lowest
 abbrev pub twoBytes : ℕ → ℕ → ℕ

@@ -3,11 +3,11 @@ use mathlib.Core.Path.{_≡_}
 use mathlib.Core.List.{List}
 use Prim.Native.Nat.{ℕ, zero, suc, _+_, _*_}
 use lib.ListN.{length}
-use Rattle.places.specs.Places.{placeSize, placeHead, placesIn, tileIn, formatIn, faceIn, columnIn, rowIn}
-use Rattle.places.specs.Readings.{placedRefusal}
-use Rattle.records.specs.Store.{recordsIn}
-use Rattle.moves.specs.declared.Moved.{Moved}
-use Rattle.moves.specs.Moves.{placedStore, oldStore, placingFault, unplacingFault, placingRefusal, unplacingRefusal, movedAt, bytesAt}
+use Rattle.probe_places.specs.Places.{placeSize, placeHead, placesIn, tileIn, formatIn, faceIn, columnIn, rowIn}
+use Rattle.probe_places.specs.Readings.{placedRefusal}
+use Rattle.store_records.specs.Store.{recordsIn}
+use Rattle.probe_moves.specs.declared.Moved.{Moved}
+use Rattle.probe_moves.specs.Moves.{placedStore, oldStore, placingFault, unplacingFault, placingRefusal, unplacingRefusal, movedAt, bytesAt}
 
 -- a record: 0 in the low byte, the format in the next, the face in bits 16 to 23, the tile in the high half; a refusal: its number alone
 abbrev pub placedWord : ℕ → List ℕ → ℕ → ℕ

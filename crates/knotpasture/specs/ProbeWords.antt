@@ -3,9 +3,9 @@ use mathlib.Core.Path.{_≡_}
 use mathlib.Core.List.{List}
 use Prim.Native.Nat.{ℕ, _+_, _*_}
 use lib.ListN.{length}
-use Rattle.places.specs.declared.Fault.{Fault}
+use Rattle.probe_places.specs.declared.Fault.{Fault}
 use Rattle.probe.specs.declared.ProbePixel.{ProbePixel}
-use Rattle.faces.specs.Face.{faceOf, faceFault, faceValues}
+use Rattle.probe_faces.specs.Face.{faceOf, faceFault, faceValues}
 
 -- the number in the low byte; red, green and blue in the three sixteen-bit fields above the lowest
 abbrev pub pixelWord : ProbePixel → ℕ

@@ -3,14 +3,14 @@ use mathlib.Core.Path.{_≡_}
 use mathlib.Core.List.{List}
 use Prim.Native.Nat.{ℕ, _+_, _*_}
 use lib.ListN.{length}
-use Rattle.twins_spec.specs.Twins.{answerAt, marksAt, scratchRefusal, scratchAt}
-use Rattle.clean.specs.declared.Cleaned.{Cleaned}
-use Rattle.clean.specs.Clean.{cleanRefusal, bytesAt}
-use Rattle.clean.specs.Clean as clean
-use Rattle.receipt.specs.Receipt.{receiptRefusal, paperAt}
-use Rattle.restore.specs.declared.Restored.{Restored}
-use Rattle.restore.specs.Restore.{totalOf, restoreRefusal, restoredAt}
-use Rattle.restore.specs.Restore as restore
+use Rattle.store_spec.specs.Twins.{answerAt, marksAt, scratchRefusal, scratchAt}
+use Rattle.store_clean.specs.declared.Cleaned.{Cleaned}
+use Rattle.store_clean.specs.Clean.{cleanRefusal, bytesAt}
+use Rattle.store_clean.specs.Clean as clean
+use Rattle.store_receipt.specs.Receipt.{receiptRefusal, paperAt}
+use Rattle.store_restore.specs.declared.Restored.{Restored}
+use Rattle.store_restore.specs.Restore.{totalOf, restoreRefusal, restoredAt}
+use Rattle.store_restore.specs.Restore as restore
 use Rattle.knotpasture.specs.Packed.{twinsWord}
 
 -- The twin list over lent scratch space: its answer in one word, and the lent marks and the scratch space as the call leaves them.

@@ -10,17 +10,17 @@ pub mod stores;
 
 use bc6_numbers::Numbers;
 use bc6h_spec::Answer;
-use records::Record;
-use records::RecordReading;
-use twins_spec::TwinList;
+use store_records::Record;
+use store_records::RecordReading;
+use store_spec::TwinList;
 ghost use mathlib.Core.Path.{_≡_};
 ghost use mathlib.Core.List.{_++_};
 ghost use Prim.Native.Nat.{_+_, _*_, _<_, _≤_};
 ghost use lib.ListN.{length, drop};
 ghost use Rattle.bc6_numbers.specs.Numbers.{fieldsFrom};
 ghost use Rattle.bc6_writer.specs.Call.{Written};
-ghost use Rattle.copies.specs.Trust.{trusted};
-ghost use Rattle.records.specs.Store.{recordRefusal, tileAt};
+ghost use Rattle.store_copies.specs.Trust.{trusted};
+ghost use Rattle.store_records.specs.Store.{recordRefusal, tileAt};
 ghost use Rattle.knotpasture.specs.Packed.{twoBytes, readingWord, offsetAt, twinsWord, PixelsCalled, RunCalled, FieldsCalled, TwinsCalled, StrictCalled};
 
 // Two bytes as one word, the first the lowest.
@@ -81,7 +81,7 @@ pub extern "C" fn knot_write_block(numbers: &[u16], out: &mut [u8]) -> u32
 pub extern "C" fn knot_record_at(store: &[u8], n: usize) -> u64
     ensures { λ r. ⌜ r ≡ readingWord (now (store .entry)) n ⌝ }
 {
-    let reading = records::record_at(store, n);
+    let reading = store_records::record_at(store, n);
     match reading {
         RecordReading::Record(record) => (record.format as u64) * 0x100
             + (record.tile as u64) * 0x100000000,
@@ -93,7 +93,7 @@ pub extern "C" fn knot_record_at(store: &[u8], n: usize) -> u64
 pub extern "C" fn knot_record_block(store: &[u8], n: usize) -> usize
     ensures { λ r. ⌜ r ≡ offsetAt (recordRefusal (now (store .entry)) n) n ⌝ }
 {
-    let RecordReading::Record(_) = records::record_at(store, n) else {
+    let RecordReading::Record(_) = store_records::record_at(store, n) else {
         return 0;
     };
     n * Record::SIZE + Record::HEAD
@@ -103,7 +103,7 @@ pub extern "C" fn knot_record_block(store: &[u8], n: usize) -> usize
 pub extern "C" fn knot_tile_at(store: &[u8], n: usize) -> u32
     ensures { λ r. ⌜ r ≡ tileAt (now (store .entry)) n ⌝ }
 {
-    records::tile_at(store, n)
+    store_records::tile_at(store, n)
 }
 
 // The number and the counts of a twin list.
@@ -121,19 +121,19 @@ fn list_word(list: TwinList) -> u64
 pub extern "C" fn knot_twin_list(store: &[u8], marks: &mut [u8]) -> u64
     ensures { λ r. ⌜ TwinsCalled (now (store .entry)) (now (marks .entry)) r (now (marks .exit)) ⌝ }
 {
-    list_word(twins::twin_list(store, marks))
+    list_word(store_twins::twin_list(store, marks))
 }
 
 #[no_mangle]
 pub extern "C" fn knot_strict_twin_list(store: &[u8], marks: &mut [u8]) -> u64
     ensures { λ r. ⌜ StrictCalled (now (store .entry)) (now (marks .entry)) r (now (marks .exit)) ⌝ }
 {
-    list_word(strict::strict_twin_list(store, marks))
+    list_word(store_strict::strict_twin_list(store, marks))
 }
 
 #[no_mangle]
 pub extern "C" fn knot_is_trusted(block: &[u8], format: u8) -> bool
     ensures { λ r. ⌜ r ≡ trusted format (now (block .entry)) ⌝ }
 {
-    trust::is_trusted(block, format)
+    store_trust::is_trusted(block, format)
 }

@@ -2,11 +2,11 @@
 
 ghost use mathlib.Core.Path.{_≡_};
 ghost use Prim.Native.Nat.{_≤_};
-ghost use Rattle.places.specs.Readings.{placedRefusal};
+ghost use Rattle.probe_places.specs.Readings.{placedRefusal};
 ghost use Rattle.knotpasture.specs.Placed.{placedOffset, movedWord, PlacedReadingCalled, PlaceCalled, UnplaceCalled};
-use moves::Moved;
-use places::Place;
-use places::PlacedReading;
+use probe_moves::Moved;
+use probe_places::Place;
+use probe_places::PlacedReading;
 
 #[no_mangle]
 pub extern "C" fn knot_placed_record_at(
@@ -17,7 +17,7 @@ pub extern "C" fn knot_placed_record_at(
 ) -> u64
     ensures { λ r. ⌜ PlacedReadingCalled (now (store .entry)) n r (now (column .exit)) (now (row .exit)) ⌝ }
 {
-    let reading = places::placed_record_at(store, n);
+    let reading = probe_places::placed_record_at(store, n);
     match reading {
         PlacedReading::Record(record) => {
             let place = record.place;
@@ -39,7 +39,7 @@ pub extern "C" fn knot_placed_record_at(
 pub extern "C" fn knot_placed_record_block(store: &[u8], n: usize) -> usize
     ensures { λ r. ⌜ r ≡ placedOffset (placedRefusal (now (store .entry)) n) n ⌝ }
 {
-    let PlacedReading::Record(_) = places::placed_record_at(store, n) else {
+    let PlacedReading::Record(_) = probe_places::placed_record_at(store, n) else {
         return 0;
     };
     n * Place::SIZE + Place::HEAD
@@ -57,12 +57,12 @@ fn moved_word(moved: Moved) -> u64
 pub extern "C" fn knot_place_store(old: &[u8], out: &mut [u8]) -> u64
     ensures { λ r. ⌜ PlaceCalled (now (old .entry)) (now (out .entry)) r (now (out .exit)) ⌝ }
 {
-    moved_word(moves::place_store(old, out))
+    moved_word(probe_moves::place_store(old, out))
 }
 
 #[no_mangle]
 pub extern "C" fn knot_unplace_store(store: &[u8], out: &mut [u8]) -> u64
     ensures { λ r. ⌜ UnplaceCalled (now (store .entry)) (now (out .entry)) r (now (out .exit)) ⌝ }
 {
-    moved_word(moves::unplace_store(store, out))
+    moved_word(probe_moves::unplace_store(store, out))
 }

@@ -26,5 +26,5 @@ pub extern "C" fn knot_probe_check(store: &[u8], edge: u32) -> u64
 pub extern "C" fn knot_probe_face(store: &[u8], edge: u32, face: u32, out: &mut [u16]) -> u32
     ensures { λ r. ⌜ FaceCalled (now (store .entry)) edge face (now (out .entry)) r (now (out .exit)) ⌝ }
 {
-    faces::probe_face(store, edge as usize, face as usize, out).answer as u32
+    probe_faces::probe_face(store, edge as usize, face as usize, out).answer as u32
 }

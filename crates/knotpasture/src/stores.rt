@@ -3,42 +3,42 @@
 
 ghost use mathlib.Core.Path.{_≡_};
 ghost use Prim.Native.Nat.{_+_, _≤_};
-ghost use Rattle.clean.specs.Clean.{firstOf};
-ghost use Rattle.cleanup.specs.CleanUp.{covered};
-ghost use Rattle.strict.specs.Strict.{firstDamaged};
-ghost use Rattle.twins_spec.specs.Twins.{firstTwin};
+ghost use Rattle.store_clean.specs.Clean.{firstOf};
+ghost use Rattle.store_covered.specs.CleanUp.{covered};
+ghost use Rattle.store_strict.specs.Strict.{firstDamaged};
+ghost use Rattle.store_spec.specs.Twins.{firstTwin};
 ghost use Rattle.knotpasture.specs.Stores.{cleanWord, CleanCalled, ReceiptCalled, restoredWord, RestoreCalled, TwinsInCalled};
 use super::list_word;
-use clean::Cleaned;
-use receipt::clean_with_receipt;
-use restore::Restored;
+use store_clean::Cleaned;
+use store_receipt::clean_with_receipt;
+use store_restore::Restored;
 
 #[no_mangle]
 pub extern "C" fn knot_twin_list_in(store: &[u8], marks: &mut [u8], scratch: &mut [u16]) -> u64
     ensures { λ r. ⌜ TwinsInCalled (now (store .entry)) (now (marks .entry)) (now (scratch .entry)) r (now (marks .exit)) (now (scratch .exit)) ⌝ }
 {
-    list_word(twins::twin_list_in(store, marks, scratch))
+    list_word(store_twins::twin_list_in(store, marks, scratch))
 }
 
 #[no_mangle]
 pub extern "C" fn knot_first_damaged(store: &[u8]) -> usize
     ensures { λ r. ⌜ r ≡ firstDamaged (now (store .entry)) ⌝ }
 {
-    strict::first_damaged(store)
+    store_strict::first_damaged(store)
 }
 
 #[no_mangle]
 pub extern "C" fn knot_first_twin(store: &[u8], n: usize) -> usize
     ensures { λ r. ⌜ r ≡ firstTwin (now (store .entry)) n ⌝ }
 {
-    twins::first_twin(store, n)
+    store_twins::first_twin(store, n)
 }
 
 #[no_mangle]
 pub extern "C" fn knot_is_covered(store: &[u8], n: usize, earlier: usize) -> bool
     ensures { λ r. ⌜ r ≡ covered (now (store .entry)) n earlier ⌝ }
 {
-    cleanup::is_covered(store, n, earlier)
+    store_covered::is_covered(store, n, earlier)
 }
 
 // The number and the counts of a clean-up.
@@ -55,14 +55,14 @@ fn clean_word(cleaned: Cleaned) -> u64
 pub extern "C" fn knot_clean_store(store: &[u8], out: &mut [u8]) -> u64
     ensures { λ r. ⌜ CleanCalled (now (store .entry)) (now (out .entry)) r (now (out .exit)) ⌝ }
 {
-    clean_word(clean::clean_store(store, out))
+    clean_word(store_clean::clean_store(store, out))
 }
 
 #[no_mangle]
 pub extern "C" fn knot_first_of(store: &[u8], n: usize) -> usize
     ensures { λ r. ⌜ r ≡ firstOf (now (store .entry)) n ⌝ }
 {
-    clean::first_of(store, n)
+    store_clean::first_of(store, n)
 }
 
 #[no_mangle]
@@ -84,5 +84,5 @@ fn restored_word(restored: Restored) -> u64
 pub extern "C" fn knot_restore_store(cleaned: &[u8], receipt: &[u8], out: &mut [u8]) -> u64
     ensures { λ r. ⌜ RestoreCalled (now (cleaned .entry)) (now (receipt .entry)) (now (out .entry)) r (now (out .exit)) ⌝ }
 {
-    restored_word(restore::restore_store(cleaned, receipt, out))
+    restored_word(store_restore::restore_store(cleaned, receipt, out))
 }

@@ -16,11 +16,11 @@ use Rattle.bc6.specs.Call.{Painted}
 use Rattle.bc6.proofs.Values.{unsigned-highest, signed-highest}
 use Rattle.bc6_blocks.specs.Run.{blockAt}
 use Rattle.bc6_blocks.proofs.Decoded.{decoding-done}
-use Rattle.floats.specs.declared.Rgb.{Rgb}
-use Rattle.floats.specs.Half.{IsNumber}
-use Rattle.floats.specs.Bytes.{rgbBytes}
-use Rattle.floats.proofs.Exact.{are-numbers}
-use Rattle.floats.proofs.Stores.{sets-append, length-rgb}
+use Rattle.pfm_floats.specs.declared.Rgb.{Rgb}
+use Rattle.pfm_floats.specs.Half.{IsNumber}
+use Rattle.pfm_floats.specs.Bytes.{rgbBytes}
+use Rattle.pfm_floats.proofs.Exact.{are-numbers}
+use Rattle.pfm_floats.proofs.Stores.{sets-append, length-rgb}
 use Rattle.pfm.specs.File.{colourAt, pixelBytes}
 use Rattle.pfm.specs.Bands.{coloursOf, noColour, AllNumbers, quarterOf, blockSets, cellAt, lineAt, bandAt, bandUp}
 use Rattle.laws.proofs.Joined.{run-length, run-room}

@@ -5,8 +5,8 @@ use Prim.Native.Nat.{ℕ, _+_, _*_, _/_, _%_, _≤_, _<_}
 use native.Mathlib.Nat.{mul-le-mul-right, add-mul, mod-lt, div-add-mod', div-lt-iff-lt-mul}
 use native.Mathlib.Decide.{decLt}
 use native.Mathlib.Omega.{arith}
-use Rattle.places.specs.declared.Place.{Place}
-use Rattle.places.specs.Places.{placesIn, placeIn}
+use Rattle.probe_places.specs.declared.Place.{Place}
+use Rattle.probe_places.specs.Places.{placesIn, placeIn}
 use Rattle.probe.specs.Probe.{placeOf, Filled, IsProbe, recordFor}
 use Rattle.laws.proofs.Pigeons.{pigeons}
 use Rattle.probe.proofs.Spots.{place-same}

@@ -9,10 +9,10 @@ use lib.Seq.{ext-getD, getD-take, getD-drop}
 use Rattle.bc6h_spec.specs.Answers.{done}
 use Rattle.bc6h_spec.specs.Picture.{isSigned}
 use Rattle.bc6h_spec.specs.Block.{pixelsOf}
-use Rattle.places.specs.declared.Fault.{Fault}
-use Rattle.places.specs.declared.Place.{Place}
-use Rattle.places.specs.Faults.{noFault}
-use Rattle.places.specs.Places.{faceCount, placesIn, byteAt, pairAt, formatIn, placeIn, blockIn, zeroByte, restZero, placeRefusal, placeRecordRefusal}
+use Rattle.probe_places.specs.declared.Fault.{Fault}
+use Rattle.probe_places.specs.declared.Place.{Place}
+use Rattle.probe_places.specs.Faults.{noFault}
+use Rattle.probe_places.specs.Places.{faceCount, placesIn, byteAt, pairAt, formatIn, placeIn, blockIn, zeroByte, restZero, placeRefusal, placeRecordRefusal}
 use Rattle.probe.specs.declared.ProbePixel.{ProbePixel}
 use Rattle.probe.specs.Probe.{placeOf, Filled, IsProbe, probeFault, InRange, questionRefusal, recordFor, shownIn, tripleOf, tripleAt, tripleFor, probedAt, tripleIn, Asked}
 use Rattle.laws.specs.Order.{recordIn, Reordered}

@@ -14,8 +14,8 @@ use Rattle.laws.proofs.Tests.{cases, both-true}
 use Rattle.laws.proofs.Joined.{run-length}
 use Rattle.bc6h_spec.specs.Answers.{done, badFormat, shortOutput, badBlocks, badEdge}
 use Rattle.bc6h_spec.specs.Bits.{blockSize}
-use Rattle.places.specs.declared.Place.{Place}
-use Rattle.places.specs.Places.{placeSize}
+use Rattle.probe_places.specs.declared.Place.{Place}
+use Rattle.probe_places.specs.Places.{placeSize}
 use Rattle.probe.specs.Probe.{edgeLimit}
 use Rattle.probe_build.specs.declared.Built.{Built}
 use Rattle.probe_build.specs.Building.{recordCount, placeFor, tileFor, recordWith, recordOf, builtOf, buildRefusal, builtAt, bytesAt, BuiltTo}

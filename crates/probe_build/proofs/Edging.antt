@@ -10,10 +10,10 @@ use borrow.Author.Tests.{lt-ltb, eq-eqb, ne-eqb, eqb-true, ltb-true, ltb-false}
 use Rattle.laws.specs.First.{firstBelow}
 use Rattle.laws.proofs.Tests.{cases}
 use Rattle.laws.proofs.Firsts.{first-more, first-end, first-at, first-passes, first-least}
-use Rattle.places.specs.Places.{placeSize}
+use Rattle.probe_places.specs.Places.{placeSize}
 use mathlib.Core.List.{List}
 use lib.ListN.{length}
-use Rattle.places.specs.Places.{placesIn}
+use Rattle.probe_places.specs.Places.{placesIn}
 use Rattle.probe.specs.Probe.{edgeLimit, IsProbe}
 use Rattle.probe.proofs.Counting.{probe-count}
 use Rattle.probe_build.specs.Building.{recordCount}

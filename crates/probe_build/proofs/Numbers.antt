@@ -3,7 +3,7 @@ use mathlib.Core.Path.{_≡_, sym, _∙_, ap}
 use Prim.Native.Nat.{ℕ, _+_, _*_, _/_, _%_, _≤_, _<_}
 use native.Mathlib.Nat.{add-zero, mul-assoc, mul-pos, mul-le-mul, mod-lt, mod-eq-of-lt, div-eq-of-lt, div-add-mod', div-lt-iff-lt-mul, mul-add-div-right, mul-add-mod-self-right}
 use native.Mathlib.Omega.{arith}
-use Rattle.places.specs.Places.{faceCount}
+use Rattle.probe_places.specs.Places.{faceCount}
 use Rattle.probe.specs.Probe.{edgeLimit, placeOf}
 use Rattle.probe.proofs.Counting.{digits-below}
 use Rattle.probe.proofs.Spots.{place-same}

@@ -8,8 +8,8 @@ use lib.Seq.{getD-append-add}
 use Rattle.laws.specs.Made.{made}
 use Rattle.laws.proofs.Rows.{length-made, getD-made, made-each}
 use Rattle.bc6h_spec.specs.Bits.{blockSize}
-use Rattle.places.specs.declared.Place.{Place}
-use Rattle.places.specs.Places.{placeSize}
+use Rattle.probe_places.specs.declared.Place.{Place}
+use Rattle.probe_places.specs.Places.{placeSize}
 use Rattle.probe_build.specs.Building.{headOf, blockByte, blockBytes, recordWith}
 
 abbrev zeros : List ℕ

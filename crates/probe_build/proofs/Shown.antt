@@ -10,19 +10,19 @@ use lib.Seq.{ext-getD, getD-take, getD-drop}
 use Rattle.laws.proofs.Joined.{run-value}
 use Rattle.bc6h_spec.specs.Answers.{done}
 use Rattle.bc6h_spec.specs.Bits.{blockSize}
-use Rattle.places.specs.declared.Fault.{Fault}
-use Rattle.places.specs.Places.{placeSize, faceCount, placesIn, byteAt, tileIn, formatIn, faceIn, columnIn, rowIn, placeIn, blockIn}
-use Rattle.places.proofs.Checks.{Fine, fine-so, on-face}
+use Rattle.probe_places.specs.declared.Fault.{Fault}
+use Rattle.probe_places.specs.Places.{placeSize, faceCount, placesIn, byteAt, tileIn, formatIn, faceIn, columnIn, rowIn, placeIn, blockIn}
+use Rattle.probe_places.proofs.Checks.{Fine, fine-so, on-face}
 use Rattle.probe.specs.declared.ProbePixel.{ProbePixel}
 use Rattle.probe.specs.Probe.{edgeLimit, placeOf, FilledOnce, IsProbe, probeFault, InRange, questionRefusal, recordFor, shownIn, tripleAt, tripleFor, Asked}
 use Rattle.probe.proofs.Spots.{place-same, parts}
 use Rattle.probe.proofs.Checking.{in-range}
 use Rattle.probe.proofs.Probes.{for-inside, for-here, probe-passes}
 use Rattle.probe.proofs.Telling.{answer-number, done-triple}
-use Rattle.faces.specs.Face.{faceRefusal, faceFault, FacePainted}
-use Rattle.faces.proofs.Painting.{pixel-same}
-use Rattle.faces.proofs.Painting as paint
-use Rattle.places.specs.Faults.{noFault}
+use Rattle.probe_faces.specs.Face.{faceRefusal, faceFault, FacePainted}
+use Rattle.probe_faces.proofs.Painting.{pixel-same}
+use Rattle.probe_faces.proofs.Painting as paint
+use Rattle.probe_places.specs.Faults.{noFault}
 use Rattle.probe_build.specs.Building.{recordCount, placeFor, tileFor, headOf, recordOf, builtOf}
 use Rattle.probe_build.specs.Pictures.{blockAt, blockTriple, pictureAt, Shows, BuildShows}
 use Rattle.probe_build.proofs.Numbers.{count-small, column-small, row-small, face-small, number-of, place-number, number-small}

@@ -8,8 +8,8 @@ use Rattle.laws.specs.Pick.{pick, both}
 use Rattle.laws.specs.Made.{made, join}
 use Rattle.bc6h_spec.specs.Answers.{done, badFormat, shortOutput, badBlocks, badEdge}
 use Rattle.bc6h_spec.specs.Bits.{blockSize}
-use Rattle.places.specs.declared.Place.{Place}
-use Rattle.places.specs.Places.{placeSize}
+use Rattle.probe_places.specs.declared.Place.{Place}
+use Rattle.probe_places.specs.Places.{placeSize}
 use Rattle.probe.specs.Probe.{edgeLimit, placeOf}
 use Rattle.probe_build.specs.declared.Built.{Built}
 

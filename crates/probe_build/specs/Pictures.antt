@@ -7,12 +7,12 @@ use Rattle.bc6h_spec.specs.Answers.{done}
 use Rattle.bc6h_spec.specs.Bits.{blockSize}
 use Rattle.bc6h_spec.specs.Block.{pixelsOf}
 use Rattle.bc6h_spec.specs.Picture.{isSigned}
-use Rattle.places.specs.declared.Fault.{Fault}
-use Rattle.places.specs.Faults.{noFault}
-use Rattle.places.specs.Places.{placeSize, faceCount}
+use Rattle.probe_places.specs.declared.Fault.{Fault}
+use Rattle.probe_places.specs.Faults.{noFault}
+use Rattle.probe_places.specs.Places.{placeSize, faceCount}
 use Rattle.probe.specs.declared.ProbePixel.{ProbePixel}
 use Rattle.probe.specs.Probe.{IsProbe, probeFault, InRange, tripleOf, tripleIn, Asked}
-use Rattle.faces.specs.Face.{FacePainted}
+use Rattle.probe_faces.specs.Face.{FacePainted}
 use Rattle.probe_build.specs.declared.Built.{Built}
 use Rattle.probe_build.specs.Building.{BuiltTo}
 use Rattle.probe_build.specs.Edges.{edgeOf}

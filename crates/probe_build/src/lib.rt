@@ -5,14 +5,14 @@ ghost use mathlib.Core.List.{_++_};
 ghost use Prim.Native.Nat.{_+_, _*_, _%_, _≤_, _<_};
 ghost use lib.ListN.{length, getD, drop};
 ghost use Rattle.bc6h_spec.specs.Bits.{blockSize};
-ghost use Rattle.places.specs.Places.{placeSize};
+ghost use Rattle.probe_places.specs.Places.{placeSize};
 ghost use Rattle.probe.specs.Probe.{edgeLimit};
 ghost use Rattle.probe_build.specs.Building.{recordCount, placeFor, tileFor, headOf, recordWith, builtOf, buildRefusal, builtAt, BuiltTo};
 ghost use Rattle.probe_build.specs.Edges.{edgeOf};
 use bc6h_spec::Answer;
 use bc6h_spec::Block;
-use places::Place;
 use probe::ProbePixel;
+use probe_places::Place;
 
 // What the call answers: its number, and how many records were written.
 pub struct Built {

@@ -8,13 +8,13 @@ use Rattle.laws.proofs.Tests.{cases}
 use Rattle.bc6h_spec.specs.Fields.{modeOf}
 use Rattle.bc6h_spec.specs.Picture.{isSigned}
 use Rattle.bc6h_spec.specs.Block.{pixelsOf}
-use Rattle.records.specs.Store.{recordsIn, formatOf, blockOf, Unrefused}
-use Rattle.twins_spec.specs.Shown.{pictureAt}
-use Rattle.twins_spec.specs.Twins.{holding, showing, alike}
-use Rattle.clean.specs.Clean.{repeats, goes, staying, cleanedOf}
-use Rattle.clean.proofs.Repeating.{each-has-one}
-use Rattle.clean.proofs.Leaving.{staying-less, place-of, left-at}
-use Rattle.clean.proofs.Moving.{Sized, Moved, format-moved, block-moved, refusal-moved, cleaned-records}
+use Rattle.store_records.specs.Store.{recordsIn, formatOf, blockOf, Unrefused}
+use Rattle.store_spec.specs.Shown.{pictureAt}
+use Rattle.store_spec.specs.Twins.{holding, showing, alike}
+use Rattle.store_clean.specs.Clean.{repeats, goes, staying, cleanedOf}
+use Rattle.store_clean.proofs.Repeating.{each-has-one}
+use Rattle.store_clean.proofs.Leaving.{staying-less, place-of, left-at}
+use Rattle.store_clean.proofs.Moving.{Sized, Moved, format-moved, block-moved, refusal-moved, cleaned-records}
 
 -- ---- record k of the one store is record n of the other
 

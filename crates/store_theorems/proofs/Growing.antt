@@ -5,15 +5,15 @@ use Prim.Native.Nat.{ℕ, _≤_, _<_}
 use native.Mathlib.Omega.{arith}
 use lib.Dec.{ltb}
 use lib.ListN.{length, length-append}
-use Rattle.records.specs.Store.{recordsIn}
+use Rattle.store_records.specs.Store.{recordsIn}
 use Rattle.laws.proofs.Firsts.{first-same}
 use Rattle.bc6h_spec.specs.Answers.{done}
-use Rattle.twins_spec.specs.declared.TwinList.{TwinList}
-use Rattle.twins_spec.specs.Twins.{alike, firstTwin, markAt, Listed}
-use Rattle.twins_spec.proofs.Listing as listing
-use Rattle.clean.specs.Clean.{repeats, firstOf, goes}
-use Rattle.clean.proofs.Leaving.{record-front}
-use Rattle.clean.proofs.Moving.{Sized, Moved, refusal-moved}
+use Rattle.store_spec.specs.declared.TwinList.{TwinList}
+use Rattle.store_spec.specs.Twins.{alike, firstTwin, markAt, Listed}
+use Rattle.store_spec.proofs.Listing as listing
+use Rattle.store_clean.specs.Clean.{repeats, firstOf, goes}
+use Rattle.store_clean.proofs.Leaving.{record-front}
+use Rattle.store_clean.proofs.Moving.{Sized, Moved, refusal-moved}
 use Rattle.store_theorems.specs.Growing.{Appended, MarksGrow}
 use Rattle.store_theorems.proofs.Carrying.{repeats-same, alike-same}
 

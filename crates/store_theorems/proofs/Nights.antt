@@ -11,12 +11,12 @@ use borrow.Author.Tests.{ltb-true, ltb-false}
 use Rattle.laws.specs.Pick.{pick}
 use Rattle.laws.proofs.Tests.{cases}
 use Rattle.laws.proofs.Sameness.{true-false, not-so}
-use Rattle.records.specs.Store.{recordSize, recordsIn}
-use Rattle.clean.specs.Clean.{goes, recordOf, left, cleanedOf, stayCount}
-use Rattle.clean.proofs.Repeating.{each-has-one, goes-by}
-use Rattle.clean.proofs.Leaving.{record-front, left-length}
-use Rattle.clean.proofs.Cleaning as cleaning
-use Rattle.clean.proofs.Moving.{Sized, Moved, repeats-moved, cleaned-records, cleaned-sized, cleaned-again}
+use Rattle.store_records.specs.Store.{recordSize, recordsIn}
+use Rattle.store_clean.specs.Clean.{goes, recordOf, left, cleanedOf, stayCount}
+use Rattle.store_clean.proofs.Repeating.{each-has-one, goes-by}
+use Rattle.store_clean.proofs.Leaving.{record-front, left-length}
+use Rattle.store_clean.proofs.Cleaning as cleaning
+use Rattle.store_clean.proofs.Moving.{Sized, Moved, repeats-moved, cleaned-records, cleaned-sized, cleaned-again}
 use Rattle.store_theorems.specs.Growing.{CleanedGrows, Nightly}
 use Rattle.store_theorems.proofs.Carrying.{turned, stays-there, origin}
 use Rattle.store_theorems.proofs.Pictures.{sized-when}

@@ -9,15 +9,15 @@ use Rattle.laws.specs.Order.{recordIn, Reordered}
 use Rattle.laws.proofs.Tests.{cases}
 use Rattle.laws.proofs.Orders.{ordered-back}
 use Rattle.bc6h_spec.specs.Answers.{done}
-use Rattle.records.specs.Store.{recordSize, recordsIn, Unrefused}
-use Rattle.twins_spec.specs.declared.TwinList.{TwinList}
-use Rattle.twins_spec.specs.Shown.{isRecord}
-use Rattle.twins_spec.specs.Twins.{keptMark, Alike, firstTwin, markAt, Listed}
-use Rattle.twins_spec.proofs.Marking.{mark-bad, mark-kept, first-alike, first-stays}
-use Rattle.twins_spec.proofs.Listing as listing
-use Rattle.clean.specs.Clean.{recordOf, cleanedOf}
-use Rattle.clean.proofs.Cleaning as cleaning
-use Rattle.clean.proofs.Moving.{Sized, Moved, format-moved, block-moved, refusal-moved}
+use Rattle.store_records.specs.Store.{recordSize, recordsIn, Unrefused}
+use Rattle.store_spec.specs.declared.TwinList.{TwinList}
+use Rattle.store_spec.specs.Shown.{isRecord}
+use Rattle.store_spec.specs.Twins.{keptMark, Alike, firstTwin, markAt, Listed}
+use Rattle.store_spec.proofs.Marking.{mark-bad, mark-kept, first-alike, first-stays}
+use Rattle.store_spec.proofs.Listing as listing
+use Rattle.store_clean.specs.Clean.{recordOf, cleanedOf}
+use Rattle.store_clean.proofs.Cleaning as cleaning
+use Rattle.store_clean.proofs.Moving.{Sized, Moved, format-moved, block-moved, refusal-moved}
 use Rattle.store_theorems.specs.Orders.{AlikeIsEquivalence, KeptPicture, SameKept, LeftTile, SameLeft}
 use Rattle.store_theorems.proofs.Carrying.{picture-moved, mode-moved, origin, stands}
 use Rattle.store_theorems.proofs.Pictures.{sized-when}

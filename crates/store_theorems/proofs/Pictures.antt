@@ -7,15 +7,15 @@ use Rattle.bc6h_spec.specs.Answers.{done}
 use Rattle.bc6h_spec.specs.Fields.{modeOf}
 use Rattle.bc6h_spec.specs.Picture.{isSigned}
 use Rattle.bc6h_spec.specs.Block.{pixelsOf}
-use Rattle.records.specs.Store.{Unrefused}
-use Rattle.records.proofs.Refusals.{known}
-use Rattle.twins_spec.specs.Shown.{pictureAt}
-use Rattle.clean.specs.declared.Cleaned.{Cleaned}
-use Rattle.clean.specs.Clean.{cleanedOf, CleanedInto}
-use Rattle.clean.proofs.Repeating.{refused-stays, reserved-stays}
-use Rattle.clean.proofs.Cleaning as cleaning
-use Rattle.clean.proofs.Moving.{Sized, format-moved, block-moved, refusal-moved, cleaned-sized}
-use Rattle.clean.proofs.Theorems.{stays-in-order}
+use Rattle.store_records.specs.Store.{Unrefused}
+use Rattle.store_records.proofs.Refusals.{known}
+use Rattle.store_spec.specs.Shown.{pictureAt}
+use Rattle.store_clean.specs.declared.Cleaned.{Cleaned}
+use Rattle.store_clean.specs.Clean.{cleanedOf, CleanedInto}
+use Rattle.store_clean.proofs.Repeating.{refused-stays, reserved-stays}
+use Rattle.store_clean.proofs.Cleaning as cleaning
+use Rattle.store_clean.proofs.Moving.{Sized, format-moved, block-moved, refusal-moved, cleaned-sized}
+use Rattle.store_clean.proofs.Theorems.{stays-in-order}
 use Rattle.store_theorems.specs.Pictures.{ShownBy, EveryPictureShown, FaultyStay}
 use Rattle.store_theorems.proofs.Carrying.{stands}
 

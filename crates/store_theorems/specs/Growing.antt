@@ -4,12 +4,12 @@ use mathlib.Core.List.{List, _++_}
 use Prim.Native.Nat.{ℕ, _*_, _%_, _≤_, _<_}
 use lib.ListN.{length, getD, take}
 use Rattle.bc6h_spec.specs.Answers.{done}
-use Rattle.records.specs.Store.{recordSize, storeLimit, recordsIn}
-use Rattle.twins_spec.specs.declared.TwinList.{TwinList}
-use Rattle.twins_spec.specs.Twins.{firstTwin, markAt, Listed}
-use Rattle.clean.specs.declared.Cleaned.{Cleaned}
-use Rattle.clean.specs.Clean.{firstOf, goes, CleanedInto}
-use Rattle.clean.specs.Theorems.{cleanedBytes}
+use Rattle.store_records.specs.Store.{recordSize, storeLimit, recordsIn}
+use Rattle.store_spec.specs.declared.TwinList.{TwinList}
+use Rattle.store_spec.specs.Twins.{firstTwin, markAt, Listed}
+use Rattle.store_clean.specs.declared.Cleaned.{Cleaned}
+use Rattle.store_clean.specs.Clean.{firstOf, goes, CleanedInto}
+use Rattle.store_clean.specs.Theorems.{cleanedBytes}
 
 -- ---- record by record
 

@@ -5,13 +5,13 @@ use Prim.Native.Nat.{ℕ, _<_}
 use lib.ListN.{getD}
 use Rattle.laws.specs.Order.{Reordered}
 use Rattle.bc6h_spec.specs.Answers.{done}
-use Rattle.records.specs.Store.{recordSize, recordsIn, formatOf, blockOf, Unrefused}
-use Rattle.twins_spec.specs.declared.TwinList.{TwinList}
-use Rattle.twins_spec.specs.Shown.{pictureAt, Reserved}
-use Rattle.twins_spec.specs.Twins.{keptMark, Alike, Listed}
-use Rattle.clean.specs.declared.Cleaned.{Cleaned}
-use Rattle.clean.specs.Clean.{CleanedInto}
-use Rattle.clean.specs.Theorems.{cleanedBytes}
+use Rattle.store_records.specs.Store.{recordSize, recordsIn, formatOf, blockOf, Unrefused}
+use Rattle.store_spec.specs.declared.TwinList.{TwinList}
+use Rattle.store_spec.specs.Shown.{pictureAt, Reserved}
+use Rattle.store_spec.specs.Twins.{keptMark, Alike, Listed}
+use Rattle.store_clean.specs.declared.Cleaned.{Cleaned}
+use Rattle.store_clean.specs.Clean.{CleanedInto}
+use Rattle.store_clean.specs.Theorems.{cleanedBytes}
 
 -- ---- looking alike
 

@@ -5,11 +5,11 @@ use mathlib.Core.List.{List}
 use Prim.Native.Nat.{ℕ, _<_}
 use Rattle.bc6h_spec.specs.Answers.{done}
 use Rattle.bc6h_spec.specs.Fields.{modeOf}
-use Rattle.records.specs.Store.{recordsIn, formatOf, blockOf, Unrefused}
-use Rattle.twins_spec.specs.Shown.{pictureAt, Reserved}
-use Rattle.clean.specs.declared.Cleaned.{Cleaned}
-use Rattle.clean.specs.Clean.{CleanedInto}
-use Rattle.clean.specs.Theorems.{cleanedBytes, Written}
+use Rattle.store_records.specs.Store.{recordsIn, formatOf, blockOf, Unrefused}
+use Rattle.store_spec.specs.Shown.{pictureAt, Reserved}
+use Rattle.store_clean.specs.declared.Cleaned.{Cleaned}
+use Rattle.store_clean.specs.Clean.{CleanedInto}
+use Rattle.store_clean.specs.Theorems.{cleanedBytes, Written}
 
 -- A record of `bytes` is not refused and has the format, the mode and the 48 values of record n of the store.
 pub record ShownBy (store : List ℕ) (n : ℕ) (bytes : List ℕ) : Type 0 where

@@ -24,9 +24,6 @@ extended s = ap (λ (z : ℤ). signExtend (s .args .width) (natAbs z)) (widened 
 known : (s : tie.Start) {t u : Bool} → s .args .signed ≡ t → s .args .moved ≡ u → delta t u (s .args .width) (s .args .field) ≡ delta (s .args .signed) (s .args .moved) (s .args .width) (s .args .field)
 known s e f = sym (λ i. delta (e i) (f i) (s .args .width) (s .args .field))
 
-cast-x : tie.Need-cast-x
-cast-x c = search needs
-
 sign-extend-requires : tie.Need-sign-extend-requires
 sign-extend-requires c κs = let s = c .before in (s .pre .0, omega arith, bits s)
 
@@ -53,4 +50,4 @@ returns-3 c =
 
 pub delta-of-spec : {M : Type 1} → statement M
 delta-of-spec =
-    tie.close (tie.spec cast-x sign-extend-requires returns sign-extend-requires-2 returns-2 returns-3)
+    tie.close (tie.spec (λ c. search needs) sign-extend-requires returns sign-extend-requires-2 returns-2 returns-3)

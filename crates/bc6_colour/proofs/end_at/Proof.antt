@@ -22,9 +22,6 @@ known : (s : tie.Start) {t : Bool} (e : s .args .moved ≡ t) → otherEnd (s .a
 unfolding otherEnd
 known s e = ap (λ (t : Bool). pick t (transform (s .args .signed) (s .args .bits) (s .args .a) (delta (s .args .signed) (s .args .moved) (s .args .width) (s .args .field))) (delta (s .args .signed) (s .args .moved) (s .args .width) (s .args .field))) e
 
-delta-of-requires : tie.Need-delta-of-requires
-delta-of-requires c κs = search needs
-
 transform-one-requires : tie.Need-transform-one-requires
 transform-one-requires c κs =
     let s = c .before .before in (
@@ -47,4 +44,4 @@ returns-2 : tie.Need-returns-2
 returns-2 c = told (c .before) ∙ sym (known (c .before .before) (c .if1 .left))
 
 pub end-at-spec : {M : Type 1} → statement M
-end-at-spec = tie.close (tie.spec delta-of-requires transform-one-requires returns returns-2)
+end-at-spec = tie.close (tie.spec (λ c κs. search needs) transform-one-requires returns returns-2)

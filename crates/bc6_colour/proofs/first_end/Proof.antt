@@ -12,9 +12,6 @@ use Rattle.laws.proofs.Num.{widened, read}
 use Rattle.bc6_colour.proofs.first_end.Statement.{statement}
 use Rattle.bc6_colour.proofs.first_end.Tie as tie
 
-cast-x : tie.Need-cast-x
-cast-x c = search needs
-
 sign-extend-requires : tie.Need-sign-extend-requires
 sign-extend-requires c κs =
     let s = c .before in
@@ -36,4 +33,4 @@ returns-2 c =
     ∙ sym (ap (λ (t : Bool). firstEnd t (s .args .bits) (s .args .field)) (c .if1 .left))
 
 pub first-end-spec : {M : Type 1} → statement M
-first-end-spec = tie.close (tie.spec cast-x sign-extend-requires returns returns-2)
+first-end-spec = tie.close (tie.spec (λ c. search needs) sign-extend-requires returns returns-2)

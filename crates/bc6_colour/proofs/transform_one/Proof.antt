@@ -28,9 +28,6 @@ low c =
 add-keep-bits : tie.Need-add-keep-bits
 add-keep-bits c = need (sum c) tt
 
-keep-bits-requires : tie.Need-keep-bits-requires
-keep-bits-requires c κs = search needs
-
 sign-extend-requires : tie.Need-sign-extend-requires
 sign-extend-requires c κs =
     let s = c .before .before in (
@@ -57,4 +54,4 @@ returns-2 c =
 
 pub transform-one-spec : {M : Type 1} → statement M
 transform-one-spec =
-    tie.close (tie.spec add-keep-bits keep-bits-requires sign-extend-requires returns returns-2)
+    tie.close (tie.spec add-keep-bits (λ c κs. search needs) sign-extend-requires returns returns-2)

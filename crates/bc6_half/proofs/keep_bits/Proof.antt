@@ -13,12 +13,6 @@ use Rattle.bc6_half.proofs.keep_bits.Tie as tie
 abbrev mask : tie.Start → Num
 mask c = ones (c .args .bits) (c .pre)
 
-cast-result : tie.Need-cast-result
-cast-result c = search needs
-
-shl-result : tie.Need-shl-result
-shl-result c = search needs
-
 sub-result : tie.Need-sub-result
 sub-result c = need (mask c) tt
 
@@ -28,4 +22,4 @@ returns c =
     ∙ masked (c .args .bits) (c .args .x) (c .pre) (c .fits .x)
 
 pub keep-bits-spec : {M : Type 1} → statement M
-keep-bits-spec = tie.close (tie.spec cast-result shl-result sub-result returns)
+keep-bits-spec = tie.close (tie.spec (λ c. search needs) (λ c. search needs) sub-result returns)

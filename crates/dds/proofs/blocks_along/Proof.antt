@@ -4,11 +4,8 @@ use borrow.Author.Needs.{needs}
 use Rattle.dds.proofs.blocks_along.Statement.{statement}
 use Rattle.dds.proofs.blocks_along.Tie as tie
 
-add-result : tie.Need-add-result
-add-result c = search needs
-
 returns : tie.Need-returns
 returns c = refl
 
 pub blocks-along-spec : {M : Type 1} → statement M
-blocks-along-spec = tie.close (tie.spec add-result returns)
+blocks-along-spec = tie.close (tie.spec (λ c. search needs) returns)

@@ -6,9 +6,6 @@ use Rattle.dds.proofs.Reading.{head-sized, sized-refused, sized-badly, 
 use Rattle.dds.proofs.dds_sized.Statement.{statement}
 use Rattle.dds.proofs.dds_sized.Tie as tie
 
-dds-head-requires : tie.Need-dds-head-requires
-dds-head-requires c κs = search needs
-
 returns : tie.Need-returns
 returns c = sized-refused (c .before .before .dds-head .ensures) (c .if1 .taken)
 
@@ -17,9 +14,6 @@ block-bytes-requires c κs = head-sized (c .before .before .dds-head .ensures) (
 
 add-if2 : tie.Need-add-if2
 add-if2 c = omega (arith, c .block-bytes .ensures, bytes-most _ _ (head-sized (c .before .before .before .dds-head .ensures) (c .before .if1 .left)))
-
-refused-requires : tie.Need-refused-requires
-refused-requires c κs = search needs
 
 returns-2 : tie.Need-returns-2
 returns-2 c =
@@ -32,10 +26,10 @@ pub dds-sized-spec : {M : Type 1} → statement M
 dds-sized-spec =
     tie.close
     (tie.spec
-    dds-head-requires
+    (λ c κs. search needs)
     returns
     block-bytes-requires
     add-if2
-    refused-requires
+    (λ c κs. search needs)
     returns-2
     returns-3)

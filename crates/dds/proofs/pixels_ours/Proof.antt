@@ -5,18 +5,9 @@ use Rattle.laws.proofs.Tests.{and-both}
 use Rattle.dds.proofs.pixels_ours.Statement.{statement}
 use Rattle.dds.proofs.pixels_ours.Tie as tie
 
-word-requires : tie.Need-word-requires
-word-requires c κs = search needs
-
-word-requires-2 : tie.Need-word-requires-2
-word-requires-2 c κs = search needs
-
-word-requires-3 : tie.Need-word-requires-3
-word-requires-3 c κs = search needs
-
 returns : tie.Need-returns
 unfolding pixelsOurs
 returns c = rw (c .before .before .word .ensures, c .before .word2 .ensures, c .word3 .ensures) (simp and-both)
 
 pub pixels-ours-spec : {M : Type 1} → statement M
-pixels-ours-spec = tie.close (tie.spec word-requires word-requires-2 word-requires-3 returns)
+pixels-ours-spec = tie.close (tie.spec (λ c κs. search needs) (λ c κs. search needs) (λ c κs. search needs) returns)

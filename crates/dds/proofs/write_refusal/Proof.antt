@@ -16,9 +16,6 @@ sized c = sym (c .before .size-ours .ensures) ∙ not-false _ (c .if2 .left)
 returns : tie.Need-returns
 returns c = sym (write-format _ _ _ _ _ (search needs))
 
-size-ours-requires : tie.Need-size-ours-requires
-size-ours-requires c κs = search needs
-
 returns-2 : tie.Need-returns-2
 returns-2 c = sym (write-size _ _ _ _ _ (search needs) (sym (c .before .size-ours .ensures) ∙ not-true _ (c .if2 .taken)))
 
@@ -43,4 +40,4 @@ returns-5 c =
 pub write-refusal-spec : {M : Type 1} → statement M
 write-refusal-spec =
     tie.close
-    (tie.spec returns size-ours-requires returns-2 block-bytes-requires returns-3 add-if4 returns-4 returns-5)
+    (tie.spec returns (λ c κs. search needs) returns-2 block-bytes-requires returns-3 add-if4 returns-4 returns-5)

@@ -1,19 +1,10 @@
 use borrow.Author.Needs.{needs}
 use native.Mathlib.Omega.{arith}
 use Prim.Native.Nat.{_*_, _<_}
-use Rattle.records.specs.Store.{recordSize, storeLimit}
+use Rattle.store_records.specs.Store.{recordSize, storeLimit}
 use Rattle.knotpasture.proofs.Words.{record-offset, refused-offset, inside}
 use Rattle.knotpasture.proofs.knot_record_block.Statement.{statement}
 use Rattle.knotpasture.proofs.knot_record_block.Tie as tie
-
-record-at-requires : tie.Need-record-at-requires
-record-at-requires c κs = search needs
-
-enum-told : tie.Need-enum-told
-enum-told c = search needs
-
-enum-told-2 : tie.Need-enum-told-2
-enum-told-2 c = search needs
 
 returns : tie.Need-returns
 returns c = refused-offset (c .before .before .record-at .ensures) (c .enum-told2 .given .1)
@@ -33,4 +24,4 @@ returns-2 c = record-offset (c .before .before .record-at .ensures) (c .enum-tol
 pub knot-record-block-spec : {M : Type 1} → statement M
 knot-record-block-spec =
     tie.close
-    (tie.spec record-at-requires enum-told enum-told-2 returns mul-result add-result returns-2)
+    (tie.spec (λ c κs. search needs) (λ c. search needs) (λ c. search needs) returns mul-result add-result returns-2)

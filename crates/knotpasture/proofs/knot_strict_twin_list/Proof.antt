@@ -3,18 +3,12 @@ use Rattle.knotpasture.proofs.Words.{strict-called, strict-few}
 use Rattle.knotpasture.proofs.knot_strict_twin_list.Statement.{statement}
 use Rattle.knotpasture.proofs.knot_strict_twin_list.Tie as tie
 
-strict-twin-list-requires : tie.Need-strict-twin-list-requires
-strict-twin-list-requires c κs = search needs
-
 list-word-requires : tie.Need-list-word-requires
 list-word-requires c κs = strict-few (c .before .before .strict-twin-list .ensures)
-
-same-length : tie.Need-same-length
-same-length c = search needs
 
 returns : tie.Need-returns
 returns c = strict-called (c .before .before .before .strict-twin-list .ensures) (c .list-word .ensures)
 
 pub knot-strict-twin-list-spec : {M : Type 1} → statement M
 knot-strict-twin-list-spec =
-    tie.close (tie.spec strict-twin-list-requires list-word-requires same-length returns)
+    tie.close (tie.spec (λ c κs. search needs) list-word-requires (λ c. search needs) returns)

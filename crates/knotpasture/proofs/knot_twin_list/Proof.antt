@@ -3,18 +3,12 @@ use Rattle.knotpasture.proofs.Words.{twins-called, few}
 use Rattle.knotpasture.proofs.knot_twin_list.Statement.{statement}
 use Rattle.knotpasture.proofs.knot_twin_list.Tie as tie
 
-twin-list-requires : tie.Need-twin-list-requires
-twin-list-requires c κs = search needs
-
 list-word-requires : tie.Need-list-word-requires
 list-word-requires c κs = few (c .before .before .twin-list .ensures)
-
-same-length : tie.Need-same-length
-same-length c = search needs
 
 returns : tie.Need-returns
 returns c = twins-called (c .before .before .before .twin-list .ensures) (c .list-word .ensures)
 
 pub knot-twin-list-spec : {M : Type 1} → statement M
 knot-twin-list-spec =
-    tie.close (tie.spec twin-list-requires list-word-requires same-length returns)
+    tie.close (tie.spec (λ c κs. search needs) list-word-requires (λ c. search needs) returns)

@@ -27,17 +27,8 @@ here c = placed _ _ _ _ _ (search needs) (search needs) (search needs) (search n
 loop-holds : tie.Need-loop-holds Inv-loop μ-loop
 loop-holds c = (search needs, run-start _ _ (length-up _ _ _ _) _, refl)
 
-sub-first : tie.Need-sub-first Inv-loop μ-loop
-sub-first c = search needs
-
-sub-first-2 : tie.Need-sub-first-2 Inv-loop μ-loop
-sub-first-2 c = search needs
-
 mul-first : tie.Need-mul-first Inv-loop μ-loop
 mul-first c = let p = here c in record { fits = omega arith }
-
-mul-at : tie.Need-mul-at Inv-loop μ-loop
-mul-at c = search needs
 
 mul-at-2 : tie.Need-mul-at-2 Inv-loop μ-loop
 mul-at-2 c = let p = here c in record { fits = omega arith }
@@ -48,19 +39,10 @@ sub-put-band c = let p = here c in omega arith
 part-put-band-start : tie.Need-part-put-band-start Inv-loop μ-loop
 part-put-band-start c = let p = here c in omega arith
 
-part-put-band-end : tie.Need-part-put-band-end Inv-loop μ-loop
-part-put-band-end c = search needs
-
 put-band-requires : tie.Need-put-band-requires Inv-loop μ-loop
 put-band-requires c κs =
     let p = here (c .before) in
     ((search needs, search needs), (omega arith, simp (length-take, length-drop) (omega arith)))
-
-add-n : tie.Need-add-n Inv-loop μ-loop
-add-n c = search needs
-
-loop-less : tie.Need-loop-less Inv-loop μ-loop
-loop-less c = search needs
 
 loop-again : tie.Need-loop-again Inv-loop μ-loop
 unfolding bandUp
@@ -75,9 +57,6 @@ loop-again c =
       same-len-mid {X = ℕ} (size * l .n) (length (l .out) - size * l .n) (l .out) (w .last .1 .1 .1 .1 .0) (w .kept .1 .1 .1 .1 .0) ∙ l .inv .2,
     )
 
-same-length : tie.Need-same-length Inv-loop μ-loop
-same-length c = search needs
-
 returns : tie.Need-returns Inv-loop μ-loop
 unfolding bandsOf
 returns c =
@@ -91,17 +70,17 @@ put-bands-spec =
     Inv-loop
     μ-loop
     loop-holds
-    sub-first
-    sub-first-2
+    (λ c. search needs)
+    (λ c. search needs)
     mul-first
-    mul-at
+    (λ c. search needs)
     mul-at-2
     sub-put-band
     part-put-band-start
-    part-put-band-end
+    (λ c. search needs)
     put-band-requires
-    add-n
-    loop-less
+    (λ c. search needs)
+    (λ c. search needs)
     loop-again
-    same-length
+    (λ c. search needs)
     returns)

@@ -15,17 +15,8 @@ even c = sym (c .before .size-even .ensures) ∙ not-false _ (c .if2 .left)
 returns : tie.Need-returns
 returns c = sym (write-format _ _ _ _ _ (search needs))
 
-size-even-requires : tie.Need-size-even-requires
-size-even-requires c κs = search needs
-
 returns-2 : tie.Need-returns-2
 returns-2 c = sym (write-size _ _ _ _ _ (search needs) (sym (c .before .size-even .ensures) ∙ not-true _ (c .if2 .taken)))
-
-cast-if3 : tie.Need-cast-if3
-cast-if3 c = search needs
-
-cast-if3-2 : tie.Need-cast-if3-2
-cast-if3-2 c = search needs
 
 mul-if3 : tie.Need-mul-if3
 mul-if3 c = let k = small _ _ (even c) in record { fits = omega arith }
@@ -35,9 +26,6 @@ mul-if3-2 c = let k = small _ _ (even c) in record { fits = omega arith }
 
 returns-3 : tie.Need-returns-3
 returns-3 c = sym (write-blocks _ _ _ _ _ (search needs) (even (c .before)) (λ e. c .if3 .taken (e ∙ sym (bytes-are _ _))))
-
-pfm-length-requires : tie.Need-pfm-length-requires
-pfm-length-requires c κs = search needs
 
 returns-4 : tie.Need-returns-4
 returns-4 c =
@@ -54,13 +42,13 @@ write-refusal-spec =
     tie.close
     (tie.spec
     returns
-    size-even-requires
+    (λ c κs. search needs)
     returns-2
-    cast-if3
-    cast-if3-2
+    (λ c. search needs)
+    (λ c. search needs)
     mul-if3
     mul-if3-2
     returns-3
-    pfm-length-requires
+    (λ c κs. search needs)
     returns-4
     returns-5)

@@ -13,17 +13,8 @@ returns-2 c = long-edge _ _ _ _ (search needs)
 returns-3 : tie.Need-returns-3
 returns-3 c = bad-format _ _ _ _ (search needs) (search needs) (search needs)
 
-record-count-requires : tie.Need-record-count-requires
-record-count-requires c κs = search needs
-
-mul-if4 : tie.Need-mul-if4
-mul-if4 c = search needs
-
 returns-4 : tie.Need-returns-4
 returns-4 c = bad-blocks _ _ _ _ (search needs) (search needs) (search needs) (λ e. omega arith)
-
-mul-if5 : tie.Need-mul-if5
-mul-if5 c = search needs
 
 returns-5 : tie.Need-returns-5
 returns-5 c = short _ _ _ _ (search needs) (search needs) (search needs) (search needs) (search needs)
@@ -38,9 +29,9 @@ build-refusal-spec =
     returns
     returns-2
     returns-3
-    record-count-requires
-    mul-if4
+    (λ c κs. search needs)
+    (λ c. search needs)
     returns-4
-    mul-if5
+    (λ c. search needs)
     returns-5
     returns-6)

@@ -5,30 +5,6 @@ use borrow.Author.Needs.{needs}
 use Rattle.probe_build.proofs.head_byte.Statement.{statement}
 use Rattle.probe_build.proofs.head_byte.Tie as tie
 
-low-requires : tie.Need-low-requires
-low-requires c κs = search needs
-
-low-requires-2 : tie.Need-low-requires-2
-low-requires-2 c κs = search needs
-
-low-requires-3 : tie.Need-low-requires-3
-low-requires-3 c κs = search needs
-
-low-requires-4 : tie.Need-low-requires-4
-low-requires-4 c κs = search needs
-
-low-of-pair-requires : tie.Need-low-of-pair-requires
-low-of-pair-requires c κs = search needs
-
-low-of-pair-requires-2 : tie.Need-low-of-pair-requires-2
-low-of-pair-requires-2 c κs = search needs
-
-low-of-pair-requires-3 : tie.Need-low-of-pair-requires-3
-low-of-pair-requires-3 c κs = search needs
-
-low-of-pair-requires-4 : tie.Need-low-of-pair-requires-4
-low-of-pair-requires-4 c κs = search needs
-
 returns : tie.Need-returns
 unfolding headOf
 returns c = head-at _ _ _ 0 (c .before .match .keys1) (c .low .ensures)
@@ -76,14 +52,14 @@ pub head-byte-spec : {M : Type 1} → statement M
 head-byte-spec =
     tie.close
     (tie.spec
-    low-requires
-    low-requires-2
-    low-requires-3
-    low-requires-4
-    low-of-pair-requires
-    low-of-pair-requires-2
-    low-of-pair-requires-3
-    low-of-pair-requires-4
+    (λ c κs. search needs)
+    (λ c κs. search needs)
+    (λ c κs. search needs)
+    (λ c κs. search needs)
+    (λ c κs. search needs)
+    (λ c κs. search needs)
+    (λ c κs. search needs)
+    (λ c κs. search needs)
     returns
     returns-2
     returns-3

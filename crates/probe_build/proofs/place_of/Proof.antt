@@ -14,17 +14,11 @@ div-t4 c = let l = square-positive (c .args .edge) (c .pre .0) in search needs
 cast-t5 : tie.Need-cast-t5
 cast-t5 c = let l = face-small (c .args .edge) (c .pre .0) (c .args .n) (c .pre .2) in search needs
 
-rem-t6 : tie.Need-rem-t6
-rem-t6 c = search needs
-
 cast-t7 : tie.Need-cast-t7
 cast-t7 c = let l = column-small (c .args .edge) (c .pre .0) (c .args .n) in search needs
 
 rem-t8 : tie.Need-rem-t8
 rem-t8 c = let l = square-positive (c .args .edge) (c .pre .0) in search needs
-
-div-t9 : tie.Need-div-t9
-div-t9 c = search needs
 
 cast-t10 : tie.Need-cast-t10
 cast-t10 c = let l = row-small (c .args .edge) (c .pre .0) (c .args .n) in search needs
@@ -35,4 +29,4 @@ returns c = refl
 
 pub place-of-spec : {M : Type 1} → statement M
 place-of-spec =
-    tie.close (tie.spec mul-square div-t4 cast-t5 rem-t6 cast-t7 rem-t8 div-t9 cast-t10 returns)
+    tie.close (tie.spec mul-square div-t4 cast-t5 (λ c. search needs) cast-t7 rem-t8 (λ c. search needs) cast-t10 returns)

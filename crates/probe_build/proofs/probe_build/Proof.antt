@@ -4,15 +4,6 @@ use borrow.Author.Needs.{needs}
 use Rattle.probe_build.proofs.probe_build.Statement.{statement}
 use Rattle.probe_build.proofs.probe_build.Tie as tie
 
-wide-requires : tie.Need-wide-requires
-wide-requires c κs = search needs
-
-build-refusal-requires : tie.Need-build-refusal-requires
-build-refusal-requires c κs = search needs
-
-refused-requires : tie.Need-refused-requires
-refused-requires c κs = search needs
-
 returns : tie.Need-returns
 returns c = let w = c .before .before in built-refused _ _ _ _ _ (w .before .wide .ensures) (w .build-refusal .ensures) (c .before .if1 .taken) (c .refused .ensures)
 
@@ -22,12 +13,6 @@ write-records-requires c κs = let b = buildable _ _ _ _ (sym (c .before .before
 record-count-requires : tie.Need-record-count-requires
 record-count-requires c κs = let w = c .before .before .before .before in buildable _ _ _ _ (sym (w .before .build-refusal .ensures) ∙ w .if1 .left) .edge-last
 
-done-requires : tie.Need-done-requires
-done-requires c κs = search needs
-
-same-length : tie.Need-same-length
-same-length c = search needs
-
 returns-2 : tie.Need-returns-2
 returns-2 c = let w = c .before .before .before .before in let u = w .before .before .before in built-done _ _ _ _ _ (u .before .wide .ensures) (u .build-refusal .ensures) (w .before .before .if1 .left) (c .done .ensures) (c .before .record-count .ensures .0) (w .write-records .ensures)
 
@@ -35,12 +20,12 @@ pub probe-build-spec : {M : Type 1} → statement M
 probe-build-spec =
     tie.close
     (tie.spec
-    wide-requires
-    build-refusal-requires
-    refused-requires
+    (λ c κs. search needs)
+    (λ c κs. search needs)
+    (λ c κs. search needs)
     returns
     write-records-requires
     record-count-requires
-    done-requires
-    same-length
+    (λ c κs. search needs)
+    (λ c. search needs)
     returns-2)

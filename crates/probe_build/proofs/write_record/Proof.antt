@@ -4,7 +4,7 @@ use mathlib.Core.List.{_++_}
 use lib.ListN.{length, drop, length-set}
 use Rattle.laws.specs.Made.{made}
 use Rattle.laws.proofs.Rows.{made-none, made-store, made-upto}
-use Rattle.places.specs.Places.{placeSize}
+use Rattle.probe_places.specs.Places.{placeSize}
 use Rattle.probe_build.proofs.Records.{recordByte, record-written}
 use borrow.Author.Needs.{needs}
 use Rattle.probe_build.proofs.write_record.Statement.{statement}
@@ -19,24 +19,9 @@ abbrev μ-loop : tie.MeasureT-loop
 loop-holds : tie.Need-loop-holds Inv-loop μ-loop
 loop-holds c = (search needs, made-none _ _, refl)
 
-record-byte-requires : tie.Need-record-byte-requires Inv-loop μ-loop
-record-byte-requires c κs = search needs
-
-slice-write-out : tie.Need-slice-write-out Inv-loop μ-loop
-slice-write-out c = search needs
-
-add-k : tie.Need-add-k Inv-loop μ-loop
-add-k c = search needs
-
-loop-less : tie.Need-loop-less Inv-loop μ-loop
-loop-less c = search needs
-
 loop-again : tie.Need-loop-again Inv-loop μ-loop
 unfolding recordByte
 loop-again c = let i = c .before .before .loop .inv in (search needs, made-store (recordByte _ _ _ _ _) _ _ _ _ _ (i .1) refl (c .record-byte .ensures) (search needs), simp length-set (i .2))
-
-same-length : tie.Need-same-length Inv-loop μ-loop
-same-length c = search needs
 
 returns : tie.Need-returns Inv-loop μ-loop
 returns c = record-written _ _ _ _ _ (c .before .before .before .before .args .out .now) (made-upto _ _ _ _ _ (c .before .loop .inv .1) (search needs) (search needs))
@@ -48,10 +33,10 @@ write-record-spec =
     Inv-loop
     μ-loop
     loop-holds
-    record-byte-requires
-    slice-write-out
-    add-k
-    loop-less
+    (λ c κs. search needs)
+    (λ c. search needs)
+    (λ c. search needs)
+    (λ c. search needs)
     loop-again
-    same-length
+    (λ c. search needs)
     returns)

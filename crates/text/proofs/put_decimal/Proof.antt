@@ -40,21 +40,6 @@ left c =
 loop-holds : tie.Need-loop-holds Inv-loop μ-loop
 loop-holds c = (search needs, search needs, digit-none (c .before .args .n))
 
-sub-first : tie.Need-sub-first Inv-loop μ-loop
-sub-first c = search needs
-
-cast-digits : tie.Need-cast-digits Inv-loop μ-loop
-cast-digits c = search needs
-
-add-digits : tie.Need-add-digits Inv-loop μ-loop
-add-digits c = search needs
-
-array-write-digits : tie.Need-array-write-digits Inv-loop μ-loop
-array-write-digits c = search needs
-
-loop-less : tie.Need-loop-less Inv-loop μ-loop
-loop-less c = search needs
-
 loop-again : tie.Need-loop-again Inv-loop μ-loop
 loop-again c = (
   search needs,
@@ -70,12 +55,6 @@ part-put-start c = let l = left (c .before .before .before) in omega arith
 
 part-put-end : tie.Need-part-put-end Inv-loop μ-loop
 part-put-end c = let l = left (c .before .before .before) in omega arith
-
-put-requires : tie.Need-put-requires Inv-loop μ-loop
-put-requires c κs = search needs
-
-same-length : tie.Need-same-length Inv-loop μ-loop
-same-length c = search needs
 
 returns : tie.Need-returns Inv-loop μ-loop
 returns c = (
@@ -93,15 +72,15 @@ put-decimal-spec =
     Inv-loop
     μ-loop
     loop-holds
-    sub-first
-    cast-digits
-    add-digits
-    array-write-digits
-    loop-less
+    (λ c. search needs)
+    (λ c. search needs)
+    (λ c. search needs)
+    (λ c. search needs)
+    (λ c. search needs)
     loop-again
     sub-put
     part-put-start
     part-put-end
-    put-requires
-    same-length
+    (λ c κs. search needs)
+    (λ c. search needs)
     returns)

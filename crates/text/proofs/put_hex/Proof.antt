@@ -3,27 +3,6 @@ use borrow.Author.Needs.{needs}
 use Rattle.text.proofs.put_hex.Statement.{statement}
 use Rattle.text.proofs.put_hex.Tie as tie
 
-hex-digit-requires : tie.Need-hex-digit-requires
-hex-digit-requires c κs = search needs
-
-hex-digit-requires-2 : tie.Need-hex-digit-requires-2
-hex-digit-requires-2 c κs = search needs
-
-hex-digit-requires-3 : tie.Need-hex-digit-requires-3
-hex-digit-requires-3 c κs = search needs
-
-hex-digit-requires-4 : tie.Need-hex-digit-requires-4
-hex-digit-requires-4 c κs = search needs
-
-slice-aggregate-put : tie.Need-slice-aggregate-put
-slice-aggregate-put c = search needs
-
-put-requires : tie.Need-put-requires
-put-requires c κs = search needs
-
-same-length : tie.Need-same-length
-same-length c = search needs
-
 returns : tie.Need-returns
 returns c = (search needs, said (c .before .before .put .ensures .1) (hex-is (c .before .before .before .before .before .before .before .before .before .before .args .value) (search needs) (search needs) (search needs) (search needs)))
 
@@ -31,11 +10,11 @@ pub put-hex-spec : {M : Type 1} → statement M
 put-hex-spec =
     tie.close
     (tie.spec
-    hex-digit-requires
-    hex-digit-requires-2
-    hex-digit-requires-3
-    hex-digit-requires-4
-    slice-aggregate-put
-    put-requires
-    same-length
+    (λ c κs. search needs)
+    (λ c κs. search needs)
+    (λ c κs. search needs)
+    (λ c κs. search needs)
+    (λ c. search needs)
+    (λ c κs. search needs)
+    (λ c. search needs)
     returns)

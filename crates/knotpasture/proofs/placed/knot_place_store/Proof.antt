@@ -1,4 +1,4 @@
-use Rattle.moves.proofs.Calls.{place-few, place-few-told}
+use Rattle.probe_moves.proofs.Calls.{place-few, place-few-told}
 use Rattle.knotpasture.proofs.PlacedWords.{place-called}
 use borrow.Author.Needs.{needs}
 use Rattle.knotpasture.proofs.placed.knot_place_store.Statement.{statement}

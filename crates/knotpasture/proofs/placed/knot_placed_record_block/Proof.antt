@@ -1,6 +1,6 @@
 use native.Mathlib.Omega.{arith}
 use Prim.Native.Nat.{_*_, _<_}
-use Rattle.places.specs.Places.{placeSize, placeLimit}
+use Rattle.probe_places.specs.Places.{placeSize, placeLimit}
 use Rattle.knotpasture.proofs.PlacedWords.{placed-offset, refused-offset, inside}
 use borrow.Author.Needs.{needs}
 use Rattle.knotpasture.proofs.placed.knot_placed_record_block.Statement.{statement}

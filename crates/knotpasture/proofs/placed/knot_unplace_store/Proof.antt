@@ -1,4 +1,4 @@
-use Rattle.moves.proofs.Calls.{unplace-few, unplace-few-told}
+use Rattle.probe_moves.proofs.Calls.{unplace-few, unplace-few-told}
 use Rattle.knotpasture.proofs.PlacedWords.{unplace-called}
 use borrow.Author.Needs.{needs}
 use Rattle.knotpasture.proofs.placed.knot_unplace_store.Statement.{statement}

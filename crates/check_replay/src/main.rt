@@ -1,0 +1,138 @@
+// Replays a fixed list of the Rust decoder's answers. Standard input is a run of entries, each a format, a block and what
+// the Rust answers: number, mode, count of minus infinities and 48 values, low byte first. Prints each entry that our call answers otherwise, and how
+// many agree.
+use libc::STDIN_FILENO;
+use libc::STDOUT_FILENO;
+ghost use mathlib.Core.Path.{_≡_};
+ghost use mathlib.Core.List.{[], _∷_};
+ghost use Prim.Native.Nat.{_/_, _<_, _≤_};
+ghost use lib.ListN.{length};
+ghost use Rattle.laws.specs.Every.{same};
+ghost use Rattle.bc6h_spec.specs.Picture.{valueCount};
+ghost use Rattle.check_replay.specs.Entries.{entrySize, valueIn, valuesIn, infiniteIn, agrees, countAt, agreeing};
+
+struct Entry {
+    number: usize,
+}
+
+impl Entry {
+    const SIZE: usize = 117;
+
+    const BLOCK: usize = 1;
+
+    const ANSWER: usize = 17;
+
+    const MODE: usize = 18;
+
+    const COUNT: usize = 19;
+
+    const VALUES: usize = 21;
+}
+
+fn wide(byte: u8) -> u16
+    ensures { λ r. ⌜ (r ≡ byte) × (r < 256) ⌝ }
+{
+    byte as u16
+}
+
+// Value k of an entry's values, low byte first.
+fn value_at(bytes: &[u8], k: usize) -> u16
+    requires { ⌜ (length (now bytes) ≡ 96) × (k < valueCount) ⌝ }
+    ensures { λ r. ⌜ r ≡ valueIn (now (bytes .entry)) k ⌝ }
+{
+    wide(bytes[2 * k]) + wide(bytes[2 * k + 1]) * 0x100
+}
+
+fn same_values(values: &[u16], bytes: &[u8]) -> bool
+    requires { ⌜ (length (now values) ≡ valueCount) × (length (now bytes) ≡ 96) ⌝ }
+    ensures { λ r. ⌜ r ≡ same (now (values .entry)) (valuesIn (now (bytes .entry))) ⌝ }
+{
+    for k in 0..48usize {
+        if values[k] != value_at(bytes, k) {
+            return false;
+        }
+    }
+    true
+}
+
+// The count of minus infinities that an entry has, low byte first.
+fn infinite_in(entry: &[u8]) -> u16
+    requires { ⌜ length (now entry) ≡ entrySize ⌝ }
+    ensures { λ r. ⌜ r ≡ infiniteIn (now (entry .entry)) ⌝ }
+{
+    wide(entry[Entry::COUNT]) + wide(entry[Entry::COUNT + 1]) * 0x100
+}
+
+// Whether our call answers an entry's block as the entry says.
+fn agrees(entry: &[u8]) -> bool
+    requires { ⌜ length (now entry) ≡ entrySize ⌝ }
+    ensures { λ r. ⌜ r ≡ agrees (now (entry .entry)) ⌝ }
+{
+    let mut values = [0u16; 48];
+    let block = &entry[Entry::BLOCK..Entry::ANSWER];
+    let pixels = bc6::block_pixels(block, entry[0], &mut values);
+    if pixels.answer != entry[Entry::ANSWER] {
+        return false;
+    }
+    if pixels.mode != entry[Entry::MODE] {
+        return false;
+    }
+    if pixels.infinite != infinite_in(entry) {
+        return false;
+    }
+    same_values(&values, &entry[Entry::VALUES..Entry::SIZE])
+}
+
+fn print_word(word: &[u8]) {
+    io::write_all(STDOUT_FILENO, word);
+}
+
+fn print_number(number: usize) {
+    io::print_decimal(STDOUT_FILENO, number as u64);
+}
+
+fn print_difference(entry: usize) {
+    print_word(b"entry ");
+    print_number(entry);
+    print_word(b" differs\n");
+}
+
+fn print_counts(agreeing: usize, entries: usize) {
+    print_number(agreeing);
+    print_word(b" of ");
+    print_number(entries);
+    print_word(b" agree\n");
+}
+
+// 1 where entry n of the list agrees; else 0, and the entry's number is printed.
+fn replay_one(list: &[u8], n: usize) -> usize
+    requires { ⌜ n < length (now list) / entrySize ⌝ }
+    ensures { λ r. ⌜ r ≡ countAt (now (list .entry)) n ⌝ }
+{
+    let start = n * Entry::SIZE;
+    let end = start + Entry::SIZE;
+    if agrees(&list[start..end]) {
+        return 1;
+    }
+    print_difference(n);
+    0
+}
+
+// How many entries of the list agree.
+fn replay(list: &[u8]) -> usize
+    ensures { λ r. ⌜ r ≡ agreeing (now (list .entry)) (length (now (list .entry)) / entrySize) ⌝ }
+{
+    let entries = list.len() / Entry::SIZE;
+    let mut count: usize = 0;
+    for n in 0..entries {
+        count += replay_one(list, n);
+    }
+    count
+}
+
+fn main() {
+    let mut list = [0u8; 471040];
+    let n = io::read_full(STDIN_FILENO, &mut list);
+    let entries = &list[..n];
+    print_counts(replay(entries), entries.len() / Entry::SIZE);
+}

@@ -1,0 +1,22 @@
+-- Checks in their order, each beside the number of its refusal. Assumes nothing.
+use mathlib.Core.Path.{_≡_}
+use mathlib.Core.Bool.{Bool, true, false}
+use mathlib.Core.List.{List, [], _∷_}
+use Prim.Native.Nat.{ℕ, zero, suc}
+use Rattle.laws.specs.Pick.{pick}
+
+-- the number beside the first test that holds, or 0 where none does
+abbrev pub firstMet : List (Bool × ℕ) → ℕ
+firstMet [] = zero
+firstMet ((test, number) ∷ rest) = pick test number (firstMet rest)
+
+-- no test holds
+abbrev pub NoneMet : List (Bool × ℕ) → Type 0
+NoneMet [] = Unit {0}
+NoneMet ((test, number) ∷ rest) = (test ≡ false) × NoneMet rest
+
+-- no number is 0
+abbrev pub Numbered : List (Bool × ℕ) → Type 0
+Numbered [] = Unit {0}
+Numbered ((test, zero) ∷ rest) = ⊥
+Numbered ((test, suc number) ∷ rest) = Numbered rest

@@ -1,0 +1,41 @@
+-- Runs of stores, one after the other, and the bytes of words. Assumes nothing.
+use mathlib.Core.Path.{_≡_, refl, ap, _∙_}
+use mathlib.Core.List.{List, [], _∷_, _++_}
+use Prim.Native.Nat.{ℕ, suc, _+_, _/_, _%_}
+use native.Mathlib.Omega.{arith}
+use lib.Ieee.{binary32, toBits}
+use lib.ListN.{length, set}
+use lib.Seq.{sets}
+use Rattle.pfm_floats.specs.declared.Rgb.{Rgb}
+use Rattle.pfm_floats.specs.Bytes.{wordBytes, rgbBytes}
+
+pub sets-append : (xs ys l : List ℕ) (i j : ℕ) → i + length xs ≡ j → sets (sets l i xs) j ys ≡ sets l i (xs ++ ys)
+sets-append [] ys l i j e = let same : i ≡ j = omega arith in rw same
+sets-append (x ∷ xs) ys l i j e = sets-append xs ys (set l i x) (suc i) j (omega arith)
+
+-- four stores at n, n + 1, .., as code has them
+four : (l : List ℕ) (n a b c d : ℕ) → set (set (set (set l n a) (n + 1) b) (n + 2) c) (n + 3) d ≡ sets l n (a ∷ b ∷ c ∷ d ∷ [])
+four l n a b c d =
+    let e1 : n + 1 ≡ suc n = omega arith in
+    let e2 : n + 2 ≡ suc (suc n) = omega arith in
+    let e3 : n + 3 ≡ suc (suc (suc n)) = omega arith in
+    rw (e1, e2, e3)
+
+pub word-stores : (l : List ℕ) (n w : ℕ)
+    → set (set (set (set l n (w % 256)) (n + 1) (w / 256 % 256)) (n + 2) (w / 65536 % 256)) (n + 3) (w / 16777216 % 256) ≡ sets l n (wordBytes w)
+word-stores l n w = four l n (w % 256) (w / 256 % 256) (w / 65536 % 256) (w / 16777216 % 256)
+
+-- three words, one after the other
+pub three-words : (l l1 l2 l3 : List ℕ) (n : ℕ) (p : Rgb) → l1 ≡ sets l n (wordBytes (toBits binary32 (p .r)))
+    → l2 ≡ sets l1 (n + 4) (wordBytes (toBits binary32 (p .g))) → l3 ≡ sets l2 (n + 8) (wordBytes (toBits binary32 (p .b))) → l3 ≡ sets l n (rgbBytes p)
+unfolding rgbBytes
+three-words l l1 l2 l3 n p a b c =
+    let r = wordBytes (toBits binary32 (p .r)) in
+    let g = wordBytes (toBits binary32 (p .g)) in
+    let u = wordBytes (toBits binary32 (p .b)) in
+    c ∙ ap (λ (x : List ℕ). sets x (n + 8) u) b ∙ sets-append g u l1 (n + 4) (n + 8) (omega arith)
+    ∙ ap (λ (x : List ℕ). sets x (n + 4) (g ++ u)) a ∙ sets-append r (g ++ u) l n (n + 4) (omega arith)
+
+pub length-rgb : (p : Rgb) → length (rgbBytes p) ≡ 12
+unfolding rgbBytes
+length-rgb p = refl

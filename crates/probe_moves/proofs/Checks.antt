@@ -1,0 +1,72 @@
+-- Which check refuses a record on the way back, and a store. Assumes nothing.
+use mathlib.Core.Path.{_≡_, sym, _∙_}
+use mathlib.Core.List.{List}
+use Prim.Native.Nat.{ℕ, zero, suc, _*_, _/_, _%_, _≤_, _<_}
+use native.Mathlib.Omega.{arith}
+use lib.Dec.{eqb, ltb}
+use borrow.Author.Tests.{lt-ltb, le-ltb, eq-eqb, ne-eqb, ltb-false, eqb-true}
+use Rattle.laws.specs.Pick.{pick}
+use Rattle.laws.proofs.Tests.{cases}
+use Rattle.bc6h_spec.specs.Answers.{done, shortOutput, longStore, unevenStore, placedRecord}
+use Rattle.probe_places.specs.declared.Place.{Place}
+use Rattle.probe_places.specs.Faults.{orNext}
+use Rattle.probe_places.specs.Places.{faceCount, faceIn, placeIn, placed, placeRecordRefusal}
+use Rattle.probe_moves.specs.Moves.{sizeRefusal, backRefusal}
+
+-- ---- a record on the way back
+
+module _ (store : List ℕ) (n : ℕ) where
+  pub refused-before : {r : ℕ} → r ≡ placeRecordRefusal store n → (r ≡ done → ⊥) → r ≡ backRefusal store n
+  unfolding backRefusal
+  refused-before {r} e z = go (placeRecordRefusal store n) e
+    where
+      go : (m : ℕ) → r ≡ m → r ≡ orNext m (pick (placed (placeIn store n)) placedRecord done)
+      go zero q = absurd (z q)
+      go (suc m) q = q
+
+  pub is-placed : {r : ℕ} {p : Place} → r ≡ placeRecordRefusal store n → r ≡ done → p ≡ placeIn store n → p .face < faceCount → placedRecord ≡ backRefusal store n
+  unfolding backRefusal
+  is-placed {r} {p} e z q h =
+      let l : faceIn store n < faceCount = rw q at h in
+      let d : placeRecordRefusal store n ≡ done = sym e ∙ z in
+      rw (d, lt-ltb _ _ l)
+
+  pub not-placed : {r : ℕ} {p : Place} → r ≡ placeRecordRefusal store n → r ≡ done → p ≡ placeIn store n → faceCount ≤ p .face → done ≡ backRefusal store n
+  unfolding backRefusal
+  not-placed {r} {p} e z q h =
+      let l : faceCount ≤ faceIn store n = rw q at h in
+      let d : placeRecordRefusal store n ≡ done = sym e ∙ z in
+      rw (d, le-ltb _ _ l)
+
+-- ---- a store's size and the room
+
+module _ (limit from to size room : ℕ) where
+  pub long : limit < size → sizeRefusal limit from to size room ≡ longStore
+  unfolding sizeRefusal
+  long h = rw (lt-ltb _ _ h)
+
+  pub uneven : size ≤ limit → (size % from ≡ 0 → ⊥) → sizeRefusal limit from to size room ≡ unevenStore
+  unfolding sizeRefusal
+  uneven h w = rw (le-ltb _ _ h, ne-eqb _ _ w)
+
+  pub short : size ≤ limit → size % from ≡ 0 → room < size / from * to → sizeRefusal limit from to size room ≡ shortOutput
+  unfolding sizeRefusal
+  short h w l = rw (le-ltb _ _ h, eq-eqb _ _ w, lt-ltb _ _ l)
+
+  pub enough : size ≤ limit → size % from ≡ 0 → size / from * to ≤ room → sizeRefusal limit from to size room ≡ done
+  unfolding sizeRefusal
+  enough h w l = rw (le-ltb _ _ h, eq-eqb _ _ w, le-ltb _ _ l)
+
+  pub record Sized : Type 0 where
+    pub fits : size ≤ limit
+    pub even : size % from ≡ 0
+    pub enough-room : size / from * to ≤ room
+
+  pub sized : sizeRefusal limit from to size room ≡ done → Sized
+  unfolding sizeRefusal
+  sized z =
+      cases (ltb limit size) (λ t. absurd (omega (arith, rw t at z)))
+      (λ a. cases (eqb (size % from) 0)
+      (λ b. cases (ltb room (size / from * to)) (λ t. absurd (omega (arith, rw (a, b, t) at z)))
+      (λ e. record { fits = ltb-false _ _ a; even = eqb-true _ _ b; enough-room = ltb-false _ _ e }))
+      (λ f. absurd (omega (arith, rw (a, f) at z))))

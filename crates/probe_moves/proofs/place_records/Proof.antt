@@ -1,0 +1,42 @@
+use Prim.Native.Nat.{_≤_, _-_}
+use mathlib.Core.Path.{_≡_, refl}
+use mathlib.Core.List.{_++_}
+use lib.ListN.{length, drop, length-set}
+use Rattle.laws.specs.Made.{made}
+use Rattle.laws.proofs.Rows.{made-none, made-store, made-upto}
+use Rattle.probe_moves.specs.Moves.{placedAt, placedStore}
+use borrow.Author.Needs.{needs}
+use Rattle.probe_moves.proofs.place_records.Statement.{statement}
+use Rattle.probe_moves.proofs.place_records.Tie as tie
+
+abbrev Inv-loop : tie.InvT-loop
+Inv-loop old out₀ size j₀ out j = (j ≤ size) × (out ≡ made (placedAt old) j ++ drop j out₀) × (length out ≡ length out₀)
+
+abbrev μ-loop : tie.MeasureT-loop
+μ-loop old out₀ size j₀ out j = size - j
+
+loop-holds : tie.Need-loop-holds Inv-loop μ-loop
+loop-holds c = (search needs, made-none _ _, refl)
+
+loop-again : tie.Need-loop-again Inv-loop μ-loop
+loop-again c = let i = c .before .before .loop .inv in (search needs, made-store _ _ _ _ _ _ (i .1) refl (c .placed-byte .ensures) (search needs), simp length-set (i .2))
+
+returns : tie.Need-returns Inv-loop μ-loop
+unfolding placedStore
+returns c = made-upto _ _ _ _ _ (c .before .loop .inv .1) (search needs) (search needs)
+
+pub place-records-spec : {M : Type 1} → statement M
+place-records-spec =
+    tie.close
+    (tie.spec
+    Inv-loop
+    μ-loop
+    (λ c. search needs)
+    loop-holds
+    (λ c κs. search needs)
+    (λ c. search needs)
+    (λ c. search needs)
+    (λ c. search needs)
+    loop-again
+    (λ c. search needs)
+    returns)

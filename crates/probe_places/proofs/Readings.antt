@@ -1,0 +1,135 @@
+-- Which check gives the record call its answer, what a reading and a part say, and that each call's statement admits one outcome. Assumes
+-- nothing.
+use mathlib.Core.Path.{_≡_, refl, sym, _∙_, ap, ap₂}
+use mathlib.Core.List.{List, [], _∷_}
+use Prim.Native.Nat.{ℕ, zero, suc, _+_, _*_, _%_, _≤_, _<_}
+use native.Mathlib.Omega.{arith}
+use lib.Dec.{eqb, ltb}
+use lib.ListN.{length, length-take, length-drop}
+use borrow.Author.Tests.{lt-ltb, le-ltb, eq-eqb, ne-eqb, ltb-true, ltb-false, eqb-true}
+use Rattle.laws.proofs.Tests.{cases}
+use Rattle.bc6h_spec.specs.Answers.{done, longStore, unevenStore, noRecord}
+use Rattle.bc6h_spec.specs.Bits.{blockSize}
+use Rattle.probe_places.specs.declared.Place.{Place}
+use Rattle.probe_places.specs.declared.PlacedRecord.{PlacedRecord}
+use Rattle.probe_places.specs.declared.PlacedReading.{PlacedReading}
+use Rattle.probe_places.specs.declared.PlacedReading.the-variants as reading
+use Rattle.probe_places.specs.Places.{placeSize, placeLimit, placesIn, pairAt, tileIn, formatIn, faceIn, columnIn, rowIn, placeIn, blockIn, placeRecordRefusal}
+use Rattle.probe_places.specs.Readings.{placedRefusal, Readable, valuesAt, PlacedRead, placedPart}
+
+-- ---- which check
+
+module _ (store : List ℕ) (n : ℕ) where
+  pub long : placeLimit < length store → longStore ≡ placedRefusal store n
+  unfolding placedRefusal
+  long h = rw (lt-ltb _ _ h)
+
+  pub uneven : length store ≤ placeLimit → (length store % placeSize ≡ 0 → ⊥) → unevenStore ≡ placedRefusal store n
+  unfolding placedRefusal
+  uneven h w = rw (le-ltb _ _ h, ne-eqb _ _ w)
+
+  pub past : length store ≤ placeLimit → length store % placeSize ≡ 0 → placesIn store ≤ n → noRecord ≡ placedRefusal store n
+  unfolding placedRefusal
+  past h w l = rw (le-ltb _ _ h, eq-eqb _ _ w, le-ltb _ _ l)
+
+  pub of-record : {r : ℕ} → length store ≤ placeLimit → length store % placeSize ≡ 0 → n < placesIn store → r ≡ placeRecordRefusal store n
+      → r ≡ placedRefusal store n
+  unfolding placedRefusal
+  of-record h w l e = e ∙ rw (le-ltb _ _ h, eq-eqb _ _ w, lt-ltb _ _ l)
+
+-- what a record that is not refused says of its store
+pub record Known (store : List ℕ) (n : ℕ) : Type 0 where
+  pub fits : length store ≤ placeLimit
+  pub whole : length store % placeSize ≡ 0
+  pub below : n < placesIn store
+  pub unrefused : placeRecordRefusal store n ≡ done
+
+pub known : (store : List ℕ) (n : ℕ) → Readable store n → Known store n
+unfolding placedRefusal
+known store n z =
+    cases (ltb placeLimit (length store)) (λ t. absurd (omega (arith, rw t at z)))
+    (λ a. cases (eqb (length store % placeSize) 0)
+    (λ b. cases (ltb n (placesIn store))
+    (λ d. record { fits = ltb-false _ _ a; whole = eqb-true _ _ b; below = ltb-true _ _ d; unrefused = rw (a, b, d) at z })
+    (λ t. absurd (omega (arith, rw (a, b, t) at z))))
+    (λ t. absurd (omega (arith, rw (a, t) at z))))
+
+pub known-of : {store : List ℕ} {n r : ℕ} → r ≡ placedRefusal store n → r ≡ done → Known store n
+known-of {store} {n} e z = known store n (sym e ∙ z)
+
+-- ---- the record call
+
+pub tile-pairs : (store : List ℕ) (n : ℕ) → pairAt store n 0 + pairAt store n 2 * 0x10000 ≡ tileIn store n
+unfolding tileIn
+tile-pairs store n = omega arith
+
+pub read-refused : (store : List ℕ) (n : ℕ) {r : ℕ} → r ≡ placedRefusal store n → (r ≡ done → ⊥) → PlacedRead store n (reading.Refused r)
+read-refused store n {r} e z = record { answers = e; gives = go (placedRefusal store n) e }
+  where
+    go : (a : ℕ) → r ≡ a → [] ≡ valuesAt a store n
+    go zero q = absurd (z q)
+    go (suc a) q = refl
+
+pub read-record : (store : List ℕ) (n : ℕ) {r tile : ℕ} {place : Place} → r ≡ placedRefusal store n → r ≡ done → tile ≡ tileIn store n
+    → place ≡ placeIn store n → PlacedRead store n (reading.Record (record { tile = tile; format = formatIn store n; place = place }))
+read-record store n e z t p = let u : Readable store n = sym e ∙ z in record { answers = sym u; gives = rw (u, t, p) }
+
+-- a reading that is a record: it is not refused, and it is the store's
+pub unrefused : {store : List ℕ} {n : ℕ} {x : PlacedReading} {r : PlacedRecord} → PlacedRead store n x → x ≡ reading.Record r → Readable store n
+unrefused d e = cc (d .answers)
+
+same-values : {r : PlacedRecord} {tile format face column row : ℕ} → r .tile ≡ tile → r .format ≡ format → r .place .face ≡ face → r .place .column ≡ column
+    → r .place .row ≡ row → r ≡ record { tile = tile; format = format; place = record { face = face; column = column; row = row } }
+same-values {r} {tile} {format} {face} {column} {row} t f a b e =
+    ap₂ (λ x y. record { tile = x; format = y; place = r .place }) t f
+    ∙ ap₂ (λ x y. record { tile = tile; format = format; place = record { face = x; column = y; row = r .place .row } }) a b
+    ∙ ap (λ x. record { tile = tile; format = format; place = record { face = face; column = column; row = x } }) e
+
+pub record-is : {store : List ℕ} {n : ℕ} {x : PlacedReading} {r : PlacedRecord} → PlacedRead store n x → x ≡ reading.Record r
+    → r ≡ record { tile = tileIn store n; format = formatIn store n; place = placeIn store n }
+record-is {store} {n} {x} {r} d e =
+    let v : r .tile ∷ r .format ∷ r .place .face ∷ r .place .column ∷ r .place .row ∷ []
+    ≡ tileIn store n ∷ formatIn store n ∷ faceIn store n ∷ columnIn store n ∷ rowIn store n ∷ [] = rw (e, unrefused d e) at (d .gives) in
+    same-values (cc) (cc) (cc) (cc) (cc)
+
+-- a reading that is a refusal
+refused-at : (store : List ℕ) (n a : ℕ) → [] ≡ valuesAt a store n → a ≡ done → ⊥
+refused-at store n zero v z = omega (arith, ap length v)
+refused-at store n (suc a) v z = omega arith
+
+pub refused : {store : List ℕ} {n k : ℕ} {x : PlacedReading} → PlacedRead store n x → x ≡ reading.Refused k → Readable store n → ⊥
+refused {store} {n} {k} {x} d e u = refused-at store n (placedRefusal store n) (rw e at (d .gives)) u
+
+same-reading : (a b : PlacedReading) (store : List ℕ) (n : ℕ) → PlacedRead store n a → PlacedRead store n b → a ≡ b
+same-reading (reading.Record q) (reading.Record r) store n d e = ap reading.Record (record-is d refl ∙ sym (record-is e refl))
+same-reading (reading.Record q) (reading.Refused k) store n d e = absurd (refused e refl (sym (d .answers)))
+same-reading (reading.Refused k) (reading.Record r) store n d e = absurd (refused d refl (sym (e .answers)))
+same-reading (reading.Refused j) (reading.Refused k) store n d e = ap reading.Refused (d .answers ∙ sym (e .answers))
+
+pub one-reading : {store : List ℕ} {n : ℕ} {a b : PlacedReading} → PlacedRead store n a → PlacedRead store n b → a ≡ b
+one-reading {store} {n} {a} {b} d e = same-reading a b store n d e
+
+-- ---- the block call
+
+pub part-of : (store : List ℕ) (n : ℕ) {r : ℕ} → r ≡ placedRefusal store n → r ≡ done → blockIn store n ≡ placedPart (placedRefusal store n) store n
+part-of store n e z = let u : Readable store n = sym e ∙ z in rw u
+
+pub block-length : {store : List ℕ} {n : ℕ} → Known store n → length (blockIn store n) ≡ blockSize
+unfolding blockIn
+block-length k = simp (length-take, length-drop) (omega arith)
+
+-- the part is empty exactly when the record call refuses
+pub empty-refused : (store : List ℕ) (n : ℕ) → (Readable store n → ⊥) → placedPart (placedRefusal store n) store n ≡ []
+empty-refused store n r = go (placedRefusal store n) r
+  where
+    go : (a : ℕ) → (a ≡ done → ⊥) → placedPart a store n ≡ []
+    go zero r = absurd (r refl)
+    go (suc a) r = refl
+
+pub empty-only : (store : List ℕ) (n : ℕ) → placedPart (placedRefusal store n) store n ≡ [] → Readable store n → ⊥
+empty-only store n e u =
+    omega (arith, sym (block-length (known store n u)) ∙ ap length (part-of store n refl u ∙ e))
+
+pub one-part : (store : List ℕ) (n : ℕ) {a b : List ℕ} → a ≡ placedPart (placedRefusal store n) store n
+    → b ≡ placedPart (placedRefusal store n) store n → a ≡ b
+one-part store n d e = d ∙ sym e

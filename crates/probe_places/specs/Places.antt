@@ -1,0 +1,97 @@
+-- A store of records with a place, 32 bytes each: document 02's T-11. Assumes nothing.
+use mathlib.Core.Path.{_≡_}
+use mathlib.Core.Bool.{Bool}
+use mathlib.Core.List.{List}
+use Prim.Native.Nat.{ℕ, _+_, _*_, _/_, _<_}
+use lib.Dec.{eqb, ltb}
+use lib.ListN.{length, getD, take, drop}
+use Rattle.laws.specs.Pick.{pick, both, either}
+use Rattle.laws.specs.Every.{below}
+use Rattle.bc6h_spec.specs.Answers.{done, badFormat, spareByte, badPlace}
+use Rattle.bc6h_spec.specs.Bits.{blockSize}
+use Rattle.probe_places.specs.declared.Place.{Place}
+
+-- "The new record has 32 bytes, still with no header: tile (4), format (1), face (1), column (2), row (2), six zero bytes, block (16)."
+abbrev pub placeSize : ℕ
+placeSize = 32
+
+abbrev pub placeHead : ℕ
+placeHead = 16
+
+-- "Limits 5 and 6 read 64,000 and 32 for new stores"
+abbrev pub placeLimit : ℕ
+placeLimit = 64000
+
+-- "Face is 0 to 5, or 255 for 'not placed'"
+abbrev pub faceCount : ℕ
+faceCount = 6
+
+abbrev pub noFace : ℕ
+noFace = 255
+
+abbrev pub placesIn : List ℕ → ℕ
+placesIn store = length store / placeSize
+
+-- byte k of record n
+abbrev pub byteAt : List ℕ → ℕ → ℕ → ℕ
+byteAt store n k = getD store (n * placeSize + k) 0
+
+-- two bytes of record n, low byte first
+abbrev pub pairAt : List ℕ → ℕ → ℕ → ℕ
+pairAt store n k = byteAt store n k + byteAt store n (k + 1) * 0x100
+
+unfoldable pub tileIn : List ℕ → ℕ → ℕ
+tileIn store n = byteAt store n 0 + byteAt store n 1 * 0x100 + byteAt store n 2 * 0x10000 + byteAt store n 3 * 0x1000000
+
+abbrev pub formatIn : List ℕ → ℕ → ℕ
+formatIn store n = byteAt store n 4
+
+abbrev pub faceIn : List ℕ → ℕ → ℕ
+faceIn store n = byteAt store n 5
+
+abbrev pub columnIn : List ℕ → ℕ → ℕ
+columnIn store n = pairAt store n 6
+
+abbrev pub rowIn : List ℕ → ℕ → ℕ
+rowIn store n = pairAt store n 8
+
+abbrev pub placeIn : List ℕ → ℕ → Place
+placeIn store n = record { face = faceIn store n; column = columnIn store n; row = rowIn store n }
+
+-- "six zero bytes"
+unfoldable pub zeroByte : List ℕ → ℕ → ℕ → Bool
+zeroByte store n k = eqb (byteAt store n (10 + k)) 0
+
+unfoldable pub restZero : List ℕ → ℕ → Bool
+restZero store n = below (zeroByte store n) 6
+
+unfoldable pub blockIn : List ℕ → ℕ → List ℕ
+blockIn store n = take blockSize (drop (n * placeSize + placeHead) store)
+
+-- ---- placed or not
+
+-- in words
+abbrev pub IsPlaced : List ℕ → ℕ → Type 0
+IsPlaced store n = faceIn store n < faceCount
+
+-- "255 for 'not placed', and then column and row must be 0"
+pub record IsUnplaced (store : List ℕ) (n : ℕ) : Type 0 where
+  pub no-face : faceIn store n ≡ noFace
+  pub no-column : columnIn store n ≡ 0
+  pub no-row : rowIn store n ≡ 0
+
+-- by computing
+abbrev pub placed : Place → Bool
+placed p = ltb (p .face) faceCount
+
+abbrev pub unplaced : Place → Bool
+unplaced p = both (eqb (p .face) noFace) (both (eqb (p .column) 0) (eqb (p .row) 0))
+
+-- "17, bad face or an unplaced record with a position"
+unfoldable pub placeRefusal : Place → ℕ
+placeRefusal p = pick (either (placed p) (unplaced p)) done badPlace
+
+-- "Per record the order is 1, 7, 17": of record n, whatever the store's size
+unfoldable pub placeRecordRefusal : List ℕ → ℕ → ℕ
+placeRecordRefusal store n =
+    pick (ltb 1 (formatIn store n)) badFormat (pick (restZero store n) (placeRefusal (placeIn store n)) spareByte)

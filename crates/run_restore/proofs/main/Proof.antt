@@ -1,0 +1,36 @@
+use mathlib.Core.Path.{ap, _∙_}
+use native.Mathlib.Omega.{arith}
+use Rattle.text.proofs.Texts.{begins, written-length}
+use Rattle.text_restore.specs.Restoring.{restoringOutput}
+use borrow.Author.Needs.{needs}
+use Rattle.run_restore.proofs.main.Statement.{statement}
+use Rattle.run_restore.proofs.main.Tie as tie
+
+write-restoring-requires : tie.Need-write-restoring-requires
+write-restoring-requires c κs =
+    let put = c .before .before .before .put-restoring .ensures in
+    let same = written-length (put .1) in
+    let room = put .0 in
+    record {
+      room = omega arith;
+      fits = room;
+      says = begins (put .1) (omega arith) ∙ ap restoringOutput (c .before .before .before .before .first-bytes .ensures);
+    }
+
+pub main-spec : {M : Type 1} → statement M
+main-spec =
+    tie.close
+    (tie.spec
+    (λ c. search needs)
+    (λ c κs. search needs)
+    (λ c. search needs)
+    (λ c. search needs)
+    (λ c. search needs)
+    (λ c. search needs)
+    (λ c. search needs)
+    (λ c κs. search needs)
+    (λ c κs. search needs)
+    (λ c. search needs)
+    (λ c. search needs)
+    write-restoring-requires
+    (λ c. search needs))

@@ -1,0 +1,34 @@
+-- `run_write::number_in` meets its contract. Assumes nothing.
+use borrow.Author.Needs.{needs}
+use Rattle.run_write.proofs.Bytes.{at-byte, at-endpoint, at-last}
+use Rattle.run_write.proofs.number_in.Statement.{statement}
+use Rattle.run_write.proofs.number_in.Tie as tie
+
+returns : tie.Need-returns
+returns c = at-byte _ _ (search needs) (c .two-bytes .ensures)
+
+returns-2 : tie.Need-returns-2
+returns-2 c = at-endpoint _ _ (search needs) (search needs) (c .two-bytes2 .ensures)
+
+returns-3 : tie.Need-returns-3
+returns-3 c = at-last _ _ (search needs) (search needs) (c .two-bytes3 .ensures)
+
+pub number-in-spec : {M : Type 1} → statement M
+number-in-spec =
+    tie.close
+    (tie.spec
+    (λ c. search needs)
+    (λ c κs. search needs)
+    returns
+    (λ c. search needs)
+    (λ c. search needs)
+    (λ c. search needs)
+    (λ c. search needs)
+    (λ c. search needs)
+    (λ c. search needs)
+    (λ c κs. search needs)
+    returns-2
+    (λ c. search needs)
+    (λ c. search needs)
+    (λ c κs. search needs)
+    returns-3)

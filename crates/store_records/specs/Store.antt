@@ -1,0 +1,82 @@
+-- A store is a list of bytes, a record every 24 of them. What the record call and the block call answer. Assumes nothing.
+use mathlib.Core.Path.{_≡_}
+use mathlib.Core.Bool.{Bool}
+use mathlib.Core.List.{List, [], _∷_}
+use Prim.Native.Nat.{ℕ, zero, suc, _+_, _*_, _/_, _%_}
+use lib.Dec.{eqb, ltb}
+use lib.ListN.{length, getD, take, drop}
+use Rattle.laws.specs.Pick.{pick, both}
+use Rattle.bc6h_spec.specs.Answers.{done, badFormat, longStore, unevenStore, spareByte, noRecord}
+use Rattle.bc6h_spec.specs.Bits.{blockSize}
+use Rattle.store_records.specs.declared.RecordReading.{RecordReading}
+use Rattle.store_records.specs.declared.RecordReading.the-variants.{Record, Refused}
+
+-- "Record: bytes 0 to 3 tile number, low byte first; 4 format; 5 to 7 zero; 8 to 23 block. No header."
+abbrev pub recordSize : ℕ
+recordSize = 24
+
+abbrev pub headSize : ℕ
+headSize = 8
+
+-- "store longer than 48,000 bytes (2,000 records)"
+abbrev pub storeLimit : ℕ
+storeLimit = 48000
+
+abbrev pub recordsIn : List ℕ → ℕ
+recordsIn store = length store / recordSize
+
+-- byte k of record n
+abbrev pub byteOf : List ℕ → ℕ → ℕ → ℕ
+byteOf store n k = getD store (n * recordSize + k) 0
+
+unfoldable pub tileOf : List ℕ → ℕ → ℕ
+tileOf store n = byteOf store n 0 + byteOf store n 1 * 0x100 + byteOf store n 2 * 0x10000 + byteOf store n 3 * 0x1000000
+
+abbrev pub formatOf : List ℕ → ℕ → ℕ
+formatOf store n = byteOf store n 4
+
+abbrev pub spareZero : List ℕ → ℕ → Bool
+spareZero store n = both (eqb (byteOf store n 5) 0) (both (eqb (byteOf store n 6) 0) (eqb (byteOf store n 7) 0))
+
+-- "bytes 24n+8 to 24n+23 for record n"
+unfoldable pub blockOf : List ℕ → ℕ → List ℕ
+blockOf store n = take blockSize (drop (n * recordSize + headSize) store)
+
+-- "The tile is read from the record's first four bytes, refused or not." No such record: 0.
+unfoldable pub tileAt : List ℕ → ℕ → ℕ
+tileAt store n = pick (ltb n (recordsIn store)) (tileOf store n) 0
+
+-- "record by number: 5, 6, 8, 1, 7", "first met wins"
+unfoldable pub recordRefusal : List ℕ → ℕ → ℕ
+recordRefusal store n =
+    pick (ltb storeLimit (length store)) longStore
+    (pick (eqb (length store % recordSize) 0)
+    (pick (ltb n (recordsIn store)) (pick (ltb 1 (formatOf store n)) badFormat (pick (spareZero store n) done spareByte)) noRecord)
+    unevenStore)
+
+-- the record call does not refuse n
+abbrev pub Unrefused : List ℕ → ℕ → Type 0
+Unrefused store n = recordRefusal store n ≡ done
+
+-- The number and the values that each case of a reading stands for.
+abbrev pub numberOf : RecordReading → ℕ
+numberOf (Record r) = done
+numberOf (Refused number) = number
+
+abbrev pub valuesOf : RecordReading → List ℕ
+valuesOf (Record r) = r .tile ∷ r .format ∷ []
+valuesOf (Refused number) = []
+
+abbrev pub valuesAt : ℕ → List ℕ → ℕ → List ℕ
+valuesAt zero store n = tileOf store n ∷ formatOf store n ∷ []
+valuesAt (suc number) store n = []
+
+-- "It gives a record's tile number and format, or the refusal's number alone."
+pub record Read (store : List ℕ) (n : ℕ) (r : RecordReading) : Type 0 where
+  pub answers : numberOf r ≡ recordRefusal store n
+  pub gives : valuesOf r ≡ valuesAt (recordRefusal store n) store n
+
+-- "It hands back the record's sixteen block bytes as a part of the store .. The part is empty exactly when the record call refuses."
+abbrev pub partAt : ℕ → List ℕ → ℕ → List ℕ
+partAt zero store n = blockOf store n
+partAt (suc number) store n = []

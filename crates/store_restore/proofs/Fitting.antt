@@ -1,0 +1,192 @@
+-- Laws of a receipt that fits: its checks one by one, and that its numbers rise. Assumes nothing.
+use mathlib.Core.Path.{_≡_, sym, _∙_, ap, ap₂}
+use mathlib.Core.Bool.{true, false, not}
+use mathlib.Core.List.{List}
+use Prim.Native.Nat.{ℕ, zero, suc, _+_, _-_, _*_, _%_, _≤_, _<_}
+use native.Mathlib.Nat.{add-zero, add-suc}
+use native.Mathlib.Numerals.{add-one}
+use native.Mathlib.Omega.{arith}
+use lib.Dec.{eqb, ltb}
+use lib.ListN.{length}
+use borrow.Author.Tests.{lt-ltb, le-ltb, eq-eqb, ne-eqb, ltb-true, ltb-false, eqb-true, not-true}
+use Rattle.laws.specs.Every.{below}
+use Rattle.laws.proofs.Tests.{cases, both-true, below-at}
+use Rattle.laws.proofs.Search.{holds, is-true}
+use Rattle.laws.proofs.Below.{below-all, below-fails, below-upto}
+use Rattle.bc6h_spec.specs.Answers.{done, shortOutput, longStore, unevenStore, badReceipt}
+use Rattle.store_records.specs.Store.{recordSize, storeLimit}
+use Rattle.store_spec.specs.Twins.{mostRecords}
+use Rattle.store_receipt.specs.declared.Entry.{Entry}
+use Rattle.store_receipt.specs.Receipt.{entrySize, entriesIn, numberAt, staysAt, entryAt}
+use Rattle.store_restore.specs.Restore.{totalOf, leastAt, entryFits, receiptFits, restoreRefusal}
+
+-- ---- an entry
+
+module _ (receipt : List ℕ) (total e : ℕ) where
+  pub entry-low : numberAt receipt e < leastAt receipt e → entryFits receipt total e ≡ false
+  unfolding entryFits
+  entry-low h = rw (lt-ltb _ _ h)
+
+  module _ (l : leastAt receipt e ≤ numberAt receipt e) where
+    pub entry-high : total ≤ numberAt receipt e → entryFits receipt total e ≡ false
+    unfolding entryFits
+    entry-high h = rw (le-ltb _ _ l, le-ltb _ _ h)
+
+    pub entry-last : numberAt receipt e < total → ltb (staysAt receipt e) (numberAt receipt e) ≡ entryFits receipt total e
+    unfolding entryFits
+    entry-last h = rw (le-ltb _ _ l, lt-ltb _ _ h)
+
+  pub record Fits : Type 0 where
+    pub least : leastAt receipt e ≤ numberAt receipt e
+    pub inside : numberAt receipt e < total
+    pub before : staysAt receipt e < numberAt receipt e
+
+  pub fits-means : entryFits receipt total e ≡ true → Fits
+  unfolding entryFits
+  fits-means t =
+      let a = both-true (not (ltb (numberAt receipt e) (leastAt receipt e))) _ t in
+      let b = both-true (ltb (numberAt receipt e) total) _ (a .1) in
+      record { least = ltb-false _ _ (not-true _ (a .0)); inside = ltb-true _ _ (b .0); before = ltb-true _ _ (b .1) }
+
+  pub fits-so : Fits → entryFits receipt total e ≡ true
+  unfolding entryFits
+  fits-so f = rw (le-ltb _ _ (f .least), lt-ltb _ _ (f .inside), lt-ltb _ _ (f .before))
+
+-- as the code asks them, of an entry that was read
+module _ (receipt : List ℕ) (total e least : ℕ) (x : Entry) (q : x ≡ entryAt receipt e) (p : least ≡ leastAt receipt e) where
+  number : x .number ≡ numberAt receipt e
+  number = ap (λ (y : Entry). y .number) q
+
+  stays : x .stays ≡ staysAt receipt e
+  stays = ap (λ (y : Entry). y .stays) q
+
+  pub code-low : x .number < least → false ≡ entryFits receipt total e
+  code-low h = sym (entry-low receipt total e (omega (arith, number)))
+
+  module _ (l : least ≤ x .number) where
+    pub code-high : total ≤ x .number → false ≡ entryFits receipt total e
+    code-high h = sym (entry-high receipt total e (omega (arith, number)) (omega (arith, number)))
+
+    pub code-last : x .number < total → ltb (x .stays) (x .number) ≡ entryFits receipt total e
+    code-last h = ap₂ ltb stays number ∙ entry-last receipt total e (omega (arith, number)) (omega (arith, number))
+
+-- ---- the loop over the entries
+
+pub least-next : (receipt : List ℕ) (e number : ℕ) → number ≡ numberAt receipt e → number + 1 ≡ leastAt receipt (e + 1)
+least-next receipt e number q = rw (add-one e, q)
+
+module _ (receipt : List ℕ) (total : ℕ) where
+  pub uneven-receipt : (length receipt % entrySize ≡ 0 → ⊥) → false ≡ receiptFits receipt total
+  unfolding receiptFits
+  uneven-receipt h = rw (ne-eqb _ _ h)
+
+  module _ (w : length receipt % entrySize ≡ 0) where
+    pub entry-fails : (e : ℕ) → entryFits receipt total e ≡ false → e < entriesIn receipt → false ≡ receiptFits receipt total
+    unfolding receiptFits
+    entry-fails e f h = rw (eq-eqb _ _ w) (below-fails (entryFits receipt total) (entriesIn receipt) e f h)
+
+    pub all-fit : (e : ℕ) → below (entryFits receipt total) e ≡ true → e ≤ entriesIn receipt → entriesIn receipt ≤ e → true ≡ receiptFits receipt total
+    unfolding receiptFits
+    all-fit e t h l = rw (eq-eqb _ _ w) (below-upto (entryFits receipt total) (entriesIn receipt) e t h l)
+
+    pub each-fits : ((e : ℕ) → e < entriesIn receipt → Fits receipt total e) → receiptFits receipt total ≡ true
+    unfolding receiptFits
+    each-fits f =
+        rw (eq-eqb _ _ w)
+        (is-true _ (below-all (entryFits receipt total) (entriesIn receipt) (λ e h. holds (fits-so receipt total e (f e h)))))
+
+  pub record FitReceipt : Type 0 where
+    pub even : length receipt % entrySize ≡ 0
+    pub fits : (e : ℕ) → e < entriesIn receipt → Fits receipt total e
+
+  pub whole-receipt : receiptFits receipt total ≡ true → FitReceipt
+  unfolding receiptFits
+  whole-receipt t =
+      let a = both-true (eqb (length receipt % entrySize) 0) _ t in
+      record {
+        even = eqb-true _ _ (a .0);
+        fits = λ e h. fits-means receipt total e (is-true _ (below-at (entryFits receipt total) (entriesIn receipt) e (holds (a .1)) h));
+      }
+
+  -- each number is above the one before, so that d entries on it is at least d more
+  module _ (w : FitReceipt) where
+    rises : (e : ℕ) → suc e < entriesIn receipt → numberAt receipt e + 1 ≤ numberAt receipt (suc e)
+    rises e h = w .fits (suc e) h .least
+
+    pub climbs : (d e : ℕ) → e + d < entriesIn receipt → numberAt receipt e + d ≤ numberAt receipt (e + d)
+    climbs zero e h = rw (add-zero e) (omega arith)
+    climbs (suc d) e h =
+        let s : suc (e + d) < entriesIn receipt = omega arith in
+        let a : numberAt receipt e + d ≤ numberAt receipt (e + d) = climbs d e (omega arith) in
+        let b : numberAt receipt (e + d) + 1 ≤ numberAt receipt (suc (e + d)) = rises (e + d) s in
+        let g : numberAt receipt e + suc d ≤ numberAt receipt (suc (e + d)) = omega (arith, a, b) in
+        rw (add-suc e d) g
+
+    -- the number of a later entry is at least as many more as it is later
+    pub climbs-to : (e f : ℕ) → e ≤ f → f < entriesIn receipt → numberAt receipt e + (f - e) ≤ numberAt receipt f
+    climbs-to e f l h =
+        let q : e + (f - e) ≡ f = omega arith in
+        ap-le q (climbs (f - e) e (omega arith))
+      where
+        ap-le : {x y : ℕ} → x ≡ y → numberAt receipt e + (f - e) ≤ numberAt receipt x → numberAt receipt e + (f - e) ≤ numberAt receipt y
+        ap-le q m = rw q at m
+
+-- ---- the call's checks
+
+module _ (cleaned receipt : List ℕ) (room : ℕ) where
+  pub long : storeLimit < length cleaned → restoreRefusal cleaned receipt room ≡ longStore
+  unfolding restoreRefusal
+  long h = rw (lt-ltb _ _ h)
+
+  module _ (a : length cleaned ≤ storeLimit) where
+    pub many : mostRecords < totalOf cleaned receipt → restoreRefusal cleaned receipt room ≡ longStore
+    unfolding restoreRefusal
+    many h = rw (le-ltb _ _ a, lt-ltb _ _ h)
+
+    module _ (b : totalOf cleaned receipt ≤ mostRecords) where
+      pub uneven : (length cleaned % recordSize ≡ 0 → ⊥) → restoreRefusal cleaned receipt room ≡ unevenStore
+      unfolding restoreRefusal
+      uneven h = rw (le-ltb _ _ a, le-ltb _ _ b, ne-eqb _ _ h)
+
+      module _ (d : length cleaned % recordSize ≡ 0) where
+        pub unfit : receiptFits receipt (totalOf cleaned receipt) ≡ false → restoreRefusal cleaned receipt room ≡ badReceipt
+        unfolding restoreRefusal
+        unfit f = rw (le-ltb _ _ a, le-ltb _ _ b, eq-eqb _ _ d, f)
+
+        module _ (f : receiptFits receipt (totalOf cleaned receipt) ≡ true) where
+          pub short : room < totalOf cleaned receipt * recordSize → restoreRefusal cleaned receipt room ≡ shortOutput
+          unfolding restoreRefusal
+          short h = rw (le-ltb _ _ a, le-ltb _ _ b, eq-eqb _ _ d, f, lt-ltb _ _ h)
+
+          pub fine : totalOf cleaned receipt * recordSize ≤ room → restoreRefusal cleaned receipt room ≡ done
+          unfolding restoreRefusal
+          fine h = rw (le-ltb _ _ a, le-ltb _ _ b, eq-eqb _ _ d, f, le-ltb _ _ h)
+
+  pub record Restorable : Type 0 where
+    pub fits : length cleaned ≤ storeLimit
+    pub few : totalOf cleaned receipt ≤ mostRecords
+    pub even : length cleaned % recordSize ≡ 0
+    pub whole : FitReceipt receipt (totalOf cleaned receipt)
+    pub room-for : totalOf cleaned receipt * recordSize ≤ room
+
+  pub restorable : restoreRefusal cleaned receipt room ≡ done → Restorable
+  unfolding restoreRefusal
+  restorable z =
+      cases (ltb storeLimit (length cleaned)) (λ t. absurd (omega (arith, rw t at z)))
+      (λ a. cases (ltb mostRecords (totalOf cleaned receipt)) (λ t. absurd (omega (arith, rw (a, t) at z)))
+      (λ b. cases (eqb (length cleaned % recordSize) 0)
+      (λ d. cases (receiptFits receipt (totalOf cleaned receipt))
+      (λ f. cases (ltb room (totalOf cleaned receipt * recordSize)) (λ t. absurd (omega (arith, rw (a, b, d, f, t) at z)))
+      (λ g. record {
+        fits = ltb-false _ _ a;
+        few = ltb-false _ _ b;
+        even = eqb-true _ _ d;
+        whole = whole-receipt receipt (totalOf cleaned receipt) f;
+        room-for = ltb-false _ _ g;
+      }))
+      (λ t. absurd (omega (arith, rw (a, b, d, t) at z))))
+      (λ t. absurd (omega (arith, rw (a, b, t) at z)))))
+
+pub restorable-when : {cleaned receipt : List ℕ} {room number : ℕ} → number ≡ restoreRefusal cleaned receipt room → number ≡ done
+    → Restorable cleaned receipt room
+restorable-when {cleaned} {receipt} {room} e z = restorable cleaned receipt room (sym e ∙ z)

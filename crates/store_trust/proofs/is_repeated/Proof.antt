@@ -1,0 +1,52 @@
+-- `store_trust::is_repeated` meets its contract. The loop's invariant: entry i is none of those before k. Assumes nothing.
+use mathlib.Core.Path.{_≡_}
+use mathlib.Core.Bool.{false}
+use Prim.Native.Nat.{_-_, _≤_}
+use borrow.Author.Needs.{needs}
+use borrow.Author.Tests.{eq-eqb, ne-eqb}
+use Rattle.laws.specs.Search.{some, equals}
+use Rattle.laws.proofs.Search.{some-none, some-more, some-here, some-upto}
+use Rattle.store_trust.specs.Ramp.{entry}
+use Rattle.store_trust.proofs.is_repeated.Statement.{statement}
+use Rattle.store_trust.proofs.is_repeated.Tie as tie
+
+abbrev Inv-loop : tie.InvT-loop
+Inv-loop palettes first channel i value k₀ k = (k ≤ i) × (some (equals (entry palettes first channel) i) k ≡ false)
+
+abbrev μ-loop : tie.MeasureT-loop
+μ-loop palettes first channel i value k₀ k = i - k
+
+loop-holds : tie.Need-loop-holds Inv-loop μ-loop
+loop-holds c = (search needs, some-none _)
+
+returns : tie.Need-returns Inv-loop μ-loop
+returns c = some-here _ _ _ (eq-eqb _ _ (c .if1 .taken)) (search needs)
+
+loop-again : tie.Need-loop-again Inv-loop μ-loop
+loop-again c = (search needs, some-more _ _ (c .before .before .before .loop .inv .1) (ne-eqb _ _ (c .if1 .left)))
+
+returns-2 : tie.Need-returns-2 Inv-loop μ-loop
+returns-2 c = some-upto _ _ _ (c .before .loop .inv .1) (search needs) (search needs)
+
+pub is-repeated-spec : {M : Type 1} → statement M
+is-repeated-spec =
+    tie.close
+    (tie.spec
+    Inv-loop
+    μ-loop
+    (λ c. search needs)
+    (λ c. search needs)
+    (λ c. search needs)
+    (λ c. search needs)
+    (λ c. search needs)
+    loop-holds
+    (λ c. search needs)
+    (λ c. search needs)
+    (λ c. search needs)
+    (λ c. search needs)
+    (λ c. search needs)
+    returns
+    (λ c. search needs)
+    (λ c. search needs)
+    loop-again
+    returns-2)

@@ -1,0 +1,27 @@
+-- `store_trust::ramped_two` meets its contract. Assumes nothing.
+use borrow.Author.Needs.{needs}
+use Rattle.laws.specs.Made.{made}
+use Rattle.store_trust.proofs.Ramp.{two-bytes}
+use Rattle.store_trust.proofs.ramped_two.Statement.{statement}
+use Rattle.store_trust.proofs.ramped_two.Tie as tie
+
+returns : tie.Need-returns
+unfolding made
+returns c = two-bytes _ (search needs)
+
+pub ramped-two-spec : {M : Type 1} → statement M
+ramped-two-spec =
+    tie.close
+    (tie.spec
+    (λ c. search needs)
+    (λ c. search needs)
+    (λ c. search needs)
+    (λ c. search needs)
+    (λ c. search needs)
+    (λ c. search needs)
+    (λ c. search needs)
+    (λ c. search needs)
+    (λ c. search needs)
+    (λ c. search needs)
+    (λ c. search needs)
+    returns)

@@ -1,0 +1,44 @@
+-- `store_trust::reaches` meets its contract. The loop's invariant: no pixel before k is there. Assumes nothing.
+use mathlib.Core.Path.{_≡_, sym, _∙_}
+use mathlib.Core.Bool.{false}
+use Prim.Native.Nat.{_-_, _≤_}
+use borrow.Author.Needs.{needs}
+use Rattle.laws.specs.Search.{some}
+use Rattle.laws.proofs.Search.{some-none, some-more, some-here, some-upto}
+use Rattle.store_copies.specs.Trust.{isAt, reaches}
+use Rattle.store_trust.proofs.reaches.Statement.{statement}
+use Rattle.store_trust.proofs.reaches.Tie as tie
+
+abbrev Inv-loop : tie.InvT-loop
+Inv-loop fields region n k₀ k = (k ≤ 16) × (some (isAt fields region n) k ≡ false)
+
+abbrev μ-loop : tie.MeasureT-loop
+μ-loop fields region n k₀ k = 16 - k
+
+loop-holds : tie.Need-loop-holds Inv-loop μ-loop
+loop-holds c = (search needs, some-none _)
+
+returns : tie.Need-returns Inv-loop μ-loop
+unfolding reaches
+returns c = some-here _ _ _ (sym (c .before .is-at .ensures) ∙ c .if1 .taken) (search needs)
+
+loop-again : tie.Need-loop-again Inv-loop μ-loop
+loop-again c = (search needs, some-more _ _ (c .before .before .before .loop .inv .1) (sym (c .before .is-at .ensures) ∙ c .if1 .left))
+
+returns-2 : tie.Need-returns-2 Inv-loop μ-loop
+unfolding reaches
+returns-2 c = some-upto _ _ _ (c .before .loop .inv .1) (search needs) (search needs)
+
+pub reaches-spec : {M : Type 1} → statement M
+reaches-spec =
+    tie.close
+    (tie.spec
+    Inv-loop
+    μ-loop
+    loop-holds
+    (λ c κs. search needs)
+    returns
+    (λ c. search needs)
+    (λ c. search needs)
+    loop-again
+    returns-2)

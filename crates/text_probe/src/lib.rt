@@ -1,0 +1,184 @@
+// What the program run_probe writes of its question: whether a store is a probe of an edge, as a line; or a face of it as a Portable
+// Float Map, each block in the format of its own record.
+
+ghost use mathlib.Core.Path.{_≡_};
+ghost use Prim.Native.Nat.{_+_, _*_, _<_, _≤_};
+ghost use lib.ListN.{length};
+ghost use Rattle.probe.specs.Probe.{ofRecord};
+ghost use Rattle.text.specs.Text.{Written};
+ghost use Rattle.text_probe.specs.Image.{pixelUp, imageBody, imageFile, AllNumbers};
+ghost use Rattle.text_probe.specs.Output.{wordAt, faultyPart, faultLine, probeLine, checkOutput, faceOutput, probeOutput, outputRoom};
+use bc6h_spec::Answer;
+use pfm_floats::Rgb;
+use pfm_floats::put_rgb;
+use pfm_header::put_header;
+use probe::probe_check;
+use probe_faces::probe_face;
+use probe_places::Fault;
+use probe_places::Place;
+use text::put;
+use text::put_count;
+
+pub struct Question {
+    pub end: usize,
+}
+
+impl Question {
+    // The bytes before the store: a byte, 0 to be told and another for a face; the edge and the face, low byte first.
+    const HEAD: usize = 9;
+
+    // One byte more than the largest question has: enough to tell that a store is too long.
+    pub const ROOM: usize = Question::HEAD + Place::STORE + 1;
+
+    // The values of the largest face.
+    const VALUES: usize = 12288;
+
+    // The most bytes of an answer: a header, and twelve for each pixel of that face.
+    pub const OUTPUT: usize = 18 + 12 * 4096;
+}
+
+// ---- the question
+
+fn wide(byte: u8) -> usize
+    ensures { λ r. ⌜ (r ≡ byte) × (r < 256) ⌝ }
+{
+    byte as usize
+}
+
+// Four bytes, low byte first.
+fn word_at(input: &[u8], at: usize) -> usize
+    requires { ⌜ at + 4 ≤ length (now input) ⌝ }
+    ensures { λ r. ⌜ r ≡ wordAt (now (input .entry)) at ⌝ }
+{
+    wide(input[at])
+        + wide(input[at + 1]) * 0x100
+        + wide(input[at + 2]) * 0x10000
+        + wide(input[at + 3]) * 0x1000000
+}
+
+// ---- the lines
+
+// A refusal that a record is why.
+fn is_of_record(answer: u8) -> bool
+    ensures { λ r. ⌜ r ≡ ofRecord answer ⌝ }
+{
+    (answer == Answer::BAD_FORMAT)
+        | ((answer == Answer::SPARE_BYTE)
+            | ((answer == Answer::BAD_PLACE)
+                | ((answer == Answer::UNPLACED_RECORD)
+                    | ((answer == Answer::PAST_EDGE) | (answer == Answer::TAKEN_PLACE)))))
+}
+
+// The faulty record, where one is.
+fn put_faulty(out: &mut [u8], at: usize, fault: Fault) -> usize
+    requires { ⌜ at + 28 ≤ length (now out) ⌝ }
+    ensures { λ r. ⌜ r ≤ at + 28 ⌝ }
+    ensures { λ r. ⌜ Written (now (out .entry)) at (faultyPart fault) r (now (out .exit)) ⌝ }
+{
+    if !is_of_record(fault.answer) {
+        return at;
+    }
+    put_count(out, at, b" record ", fault.faulty as u64)
+}
+
+fn put_fault(out: &mut [u8], fault: Fault) -> usize
+    requires { ⌜ 128 ≤ length (now out) ⌝ }
+    ensures { λ r. ⌜ r ≤ 128 ⌝ }
+    ensures { λ r. ⌜ Written (now (out .entry)) 0 (faultLine fault) r (now (out .exit)) ⌝ }
+{
+    let mut end = put_count(out, 0, b"store refused ", fault.answer as u64);
+    end = put_faulty(out, end, fault);
+    put(out, end, b"\n")
+}
+
+fn put_edge(out: &mut [u8], edge: usize, records: usize) -> usize
+    requires { ⌜ 128 ≤ length (now out) ⌝ }
+    ensures { λ r. ⌜ r ≤ 128 ⌝ }
+    ensures { λ r. ⌜ Written (now (out .entry)) 0 (probeLine edge records) r (now (out .exit)) ⌝ }
+{
+    let mut end = put_count(out, 0, b"probe edge ", edge as u64);
+    end = put_count(out, end, b" records ", records as u64);
+    put(out, end, b"\n")
+}
+
+// Whether a store is a probe.
+fn put_check(store: &[u8], edge: usize, out: &mut [u8]) -> usize
+    requires { ⌜ 128 ≤ length (now out) ⌝ }
+    ensures { λ r. ⌜ r ≤ 128 ⌝ }
+    ensures { λ r. ⌜ Written (now (out .entry)) 0 (checkOutput (now (store .entry)) edge) r (now (out .exit)) ⌝ }
+{
+    let fault = probe_check(store, edge);
+    if fault.answer != Answer::DONE {
+        return put_fault(out, fault);
+    }
+    put_edge(out, edge, store.len() / Place::SIZE)
+}
+
+// ---- a face
+
+// Which pixel of a picture is pixel j of its file.
+fn pixel_up(side: usize, j: usize) -> usize
+    requires { ⌜ (1 ≤ side) × (side ≤ 64) × (j < side * side) ⌝ }
+    ensures { λ r. ⌜ (r ≡ pixelUp side j) × (r < side * side) ⌝ }
+{
+    (side - 1 - j / side) * side + j % side
+}
+
+// The pixels of a picture from the lowest row up, twelve bytes each, from `at` on; answers the place behind them.
+fn put_pixels(values: &[u16], side: usize, out: &mut [u8], at: usize) -> usize
+    requires { ⌜ (1 ≤ side) × (side ≤ 64) × (3 * (side * side) ≤ length (now values)) × (at + 12 * (side * side) ≤ length (now out)) ⌝ }
+    requires { ⌜ AllNumbers (now values) (side * side) ⌝ }
+    ensures { λ r. ⌜ Written (now (out .entry)) at (imageBody (now (values .entry)) side) r (now (out .exit)) ⌝ }
+{
+    let count = side * side;
+    for j in 0..count {
+        let k = 3 * pixel_up(side, j);
+        put_rgb(
+            Rgb::of(values[k], values[k + 1], values[k + 2]),
+            out,
+            at + 12 * j,
+        );
+    }
+    at + 12 * count
+}
+
+// The file of a picture.
+fn put_image(values: &[u16], side: usize, out: &mut [u8]) -> usize
+    requires { ⌜ (1 ≤ side) × (side ≤ 64) × (3 * (side * side) ≤ length (now values)) × (outputRoom ≤ length (now out)) ⌝ }
+    requires { ⌜ AllNumbers (now values) (side * side) ⌝ }
+    ensures { λ r. ⌜ r ≤ outputRoom ⌝ }
+    ensures { λ r. ⌜ Written (now (out .entry)) 0 (imageFile (now (values .entry)) side) r (now (out .exit)) ⌝ }
+{
+    let at = put_header(side as u32, side as u32, out);
+    put_pixels(values, side, out, at)
+}
+
+fn put_face(store: &[u8], edge: usize, face: usize, out: &mut [u8]) -> usize
+    requires { ⌜ outputRoom ≤ length (now out) ⌝ }
+    ensures { λ r. ⌜ r ≤ outputRoom ⌝ }
+    ensures { λ r. ⌜ Written (now (out .entry)) 0 (faceOutput (now (store .entry)) edge face) r (now (out .exit)) ⌝ }
+{
+    let mut values = [0u16; Question::VALUES];
+    let fault = probe_face(store, edge, face, &mut values);
+    if fault.answer != Answer::DONE {
+        return put_fault(out, fault);
+    }
+    put_image(&values, 4 * edge, out)
+}
+
+// What is written of a question, at the start of `out`; answers how many bytes it has.
+pub fn put_probe(input: &[u8], out: &mut [u8]) -> usize
+    requires { ⌜ outputRoom ≤ length (now out) ⌝ }
+    ensures { λ r. ⌜ r ≤ length (now (out .exit)) ⌝ }
+    ensures { λ r. ⌜ Written (now (out .entry)) 0 (probeOutput (now (input .entry))) r (now (out .exit)) ⌝ }
+{
+    if input.len() < Question::HEAD {
+        return 0;
+    }
+    let edge = word_at(input, 1);
+    let store = &input[Question::HEAD..];
+    if input[0] == 0 {
+        return put_check(store, edge, out);
+    }
+    put_face(store, edge, word_at(input, 5), out)
+}

@@ -26,7 +26,7 @@ def identity():
 def audited(name, store):
     """What the audit tells of a store: the program's text, and the same facts by their names."""
     import hashlib
-    text = house.over_store("audit", store, ENDS).decode()
+    text = house.over_store("run_audit", store, ENDS).decode()
     _, *rows, last = [line.split() for line in text.splitlines()]
     twins = [
         {"record": int(record), "tile": int(tile), "stays": int(stays), "stays_tile": int(stays_tile), "verdict": verdict, "covered": cover == "covered"}

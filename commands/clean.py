@@ -41,7 +41,7 @@ def cleaned(store):
         return (found is not None and found[1].count(b"\n") == removed and len(output) == found.end() + stays * house.RECORD
                 and len(store) == (stays + removed) * house.RECORD)
 
-    output = house.ask("cleaning", store, is_whole)
+    output = house.ask("run_clean", store, is_whole)
     refused = re.fullmatch(rb"store refused ([0-9]+)\n", output)
     if refused:
         raise house.Refused(int(refused[1]), output)

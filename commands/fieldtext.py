@@ -11,7 +11,7 @@ FORMATS = ["unsigned", "signed"]
 CHANNELS = ["red", "green", "blue"]
 # The most bytes of a text: some thirty times what a text has.
 TEXT = 16_384
-# An answer of run_write, a number and the block; one of show_fields, a number and the 48 values.
+# An answer of run_write, a number and the block; one of run_show, a number and the 48 values.
 ANSWER, PICTURE = 17, 97
 
 NUMBER = "([0-9]{1,9})"
@@ -160,7 +160,7 @@ def block_of(said, name=None):
 def picture_of(fields):
     """The text of what the 44 bytes of a record show, before any block is written of them: a line a pixel, its three patterns in hex."""
     numbers = [*fields[:2], *struct.unpack("<12H", fields[2:26]), *fields[26:]]
-    shown = house.ask("show_fields", struct.pack("<32H", *numbers), lambda answer: len(answer) == PICTURE)
+    shown = house.ask("run_show", struct.pack("<32H", *numbers), lambda answer: len(answer) == PICTURE)
     if shown[0] != 0:
         raise house.Refused(shown[0], f"block refused {shown[0]}\n")
     values = struct.unpack("<48H", shown[1:])

@@ -19,7 +19,7 @@ def facts_of(text):
 
 
 def run(asked):
-    text = house.over_store("infinities", kinds.store_to_show(asked.store, asked.as_store), ENDS)
+    text = house.over_store("run_infinities", kinds.store_to_show(asked.store, asked.as_store), ENDS)
     if asked.json:
         house.put_json({"name": house.read_last, **facts_of(text)})
     else:

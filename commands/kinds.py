@@ -35,7 +35,7 @@ class Reading:
         self.records = self.refused = self.damaged = 0
         self.places = [place for place in (data[at + 5:at + 10] for at in range(0, len(data), PLACED)) if place != NO_PLACE]
         try:
-            *rows, counts = house.over_store("checking", bytes([form]) + data, CHECKING, size=form).split(b"\n")[:-1]
+            *rows, counts = house.over_store("run_check", bytes([form]) + data, CHECKING, size=form).split(b"\n")[:-1]
         except house.Refused as error:
             self.bad_length = error.number
             return

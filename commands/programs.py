@@ -176,4 +176,4 @@ LISTING = Text(8, "kept twins bad", rows=lambda *counts: sum(counts), records=la
 
 def listed(store, strict=False):
     """The listing of a store, whole."""
-    return over_store("listing", store, LISTING, ["--strict"] if strict else [])
+    return over_store("run_list", store, LISTING, ["--strict"] if strict else [])

@@ -270,7 +270,7 @@ def removed_list(facts):
 
 def infinities_list(facts):
     rows = []
-    for line in house.over_store("infinities", facts.store, infinities.ENDS).decode().splitlines()[:-1]:
+    for line in house.over_store("run_infinities", facts.store, infinities.ENDS).decode().splitlines()[:-1]:
         n, tile, many, pixel, channel = line.split()
         rows.append((link(n), tile, many, f"{pixel}, {channel}"))
     return table(["record", "tile", "values", "first pixel"], rows, "Minus infinity", "list four") if rows else "<p>No value is minus infinity.</p>"

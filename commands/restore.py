@@ -33,7 +33,7 @@ def restored_of(cleaned, receipt):
     def is_whole(answer):
         return len(answer) == 1 + size if answer[:1] == b"\0" else len(answer) == 1
 
-    answer = house.ask("restoring", len(cleaned).to_bytes(4, "little") + cleaned + receipts.packed(receipt), is_whole)
+    answer = house.ask("run_restore", len(cleaned).to_bytes(4, "little") + cleaned + receipts.packed(receipt), is_whole)
     if answer[0] != 0:
         raise house.Refused(answer[0], f"receipt refused {answer[0]}\n")
     if receipts.sha256(answer[1:]) != receipt.before:

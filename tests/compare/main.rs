@@ -6,7 +6,7 @@
 //!                                                   that answer as they do
 //!     compare runs PROGRAM [SEED]                   through a program over the call for a run of blocks
 //!     compare decode                                writes what run_pixels must write for its standard input
-//!     compare entries SEED                          writes the list that the program replay reads
+//!     compare entries SEED                          writes the list that the program check_replay reads
 //!     compare emit COUNT FORMAT SEED                writes 17-byte records, COUNT of them random, for other drivers
 mod blocks;
 mod programs;

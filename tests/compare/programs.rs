@@ -160,7 +160,7 @@ pub fn emit(count: u64, format: u64, seed: u64) -> ExitCode {
     ExitCode::SUCCESS
 }
 
-/// The list that the program replay reads: each entry is a record of 17 bytes and the Rust's 100 bytes for it. Both formats of
+/// The list that the program check_replay reads: each entry is a record of 17 bytes and the Rust's 100 bytes for it. Both formats of
 /// B1 to B11 and, for each code, no bit and every bit above it, random blocks and a run through the extreme endpoints.
 pub fn entries(seed: u64) -> ExitCode {
     let mut blocks = NAMED.to_vec();

@@ -46,7 +46,7 @@ if mode == "killed":
 sys.exit(7 if mode == "fails" else 0)
 """
 # The programs that the commands run.
-NAMES = {path.parent.parent.name for path in (ROOT / "crates").glob("*/src/main.rt")} - {"replay", "check_pixels", "check_store", "check_floats", "decode_bc7"} | {"checking"}
+NAMES = {path.parent.parent.name for path in (ROOT / "crates").glob("run_*/src/main.rt")}
 # How an answer is spoiled: each way at the first command that runs a program, the first three at every other one.
 SPOILED = ["nothing", "half", "fails", "lost", "more", "killed"]
 

@@ -271,7 +271,7 @@ def test_trusted():
 
 
 def test_stored_bc7():
-    pieces = stored("decode_bc7", 16, 66)
+    pieces = stored("check_bc7", 16, 66)
     for piece, wrote in pieces[:200]:
         values, mode = knotpasture.show_bc7(piece)
         assert (0, mode, values.tobytes()) == (wrote[0], wrote[1], wrote[2:])

@@ -13,6 +13,8 @@ import subprocess
 import sys
 
 ROOT = pathlib.Path(__file__).resolve().parent.parent.parent
+# The programs by their names in the package, and their crates.
+CRATES = {"listing": "run_list", "audit": "run_audit", "infinities": "run_infinities", "cleaning": "run_clean"}
 RUNS = [("listing",), ("listing", "--strict"), ("audit",), ("infinities",), ("cleaning",)]
 
 
@@ -30,13 +32,13 @@ def stores(count, chance):
 
 
 def printed(program, words, store):
-    ran = subprocess.run([ROOT / "tools/run", ROOT / "target/built" / program, *words], input=store, capture_output=True, check=True)
+    ran = subprocess.run([ROOT / "tools/run", ROOT / "target/built" / CRATES[program], *words], input=store, capture_output=True, check=True)
     return [base64.b64encode(ran.stdout).decode(), ran.stderr.decode()]
 
 
 def main(count, seed):
-    for program in sorted({run[0] for run in RUNS}):
-        subprocess.run([ROOT / "tools/prove", program], stdout=subprocess.DEVNULL, check=True)
+    for crate in CRATES.values():
+        subprocess.run([ROOT / "tools/prove", crate], stdout=subprocess.DEVNULL, check=True)
     rows = [{"store": base64.b64encode(store).decode(), "printed": [printed(program, words, store) for program, *words in RUNS]} for store in stores(int(count), random.Random(int(seed)))]
     json.dump({"runs": RUNS, "rows": rows}, sys.stdout)
 

@@ -9,8 +9,8 @@ use lib.ListN.{length, getD, drop, replicate}
 use Rattle.laws.specs.Pick.{pick}
 use Rattle.laws.specs.Made.{made, countOf}
 use Rattle.laws.specs.Packed.{before, unpacked}
-use Rattle.bc6h_spec.specs.Answers.{done}
-use Rattle.bc6h_spec.specs.Bits.{blockSize}
+use Rattle.bcn_spec.specs.Answers.{done}
+use Rattle.bcn_spec.specs.Bits.{blockSize}
 use Rattle.bc6h_spec.specs.Layout.{transformed, rows, row11, row13}
 use Rattle.bc6h_spec.specs.Regions.{regionOf}
 use Rattle.bc6h_spec.specs.Fields.{modeIn, modeOf, gathered, fieldsAt, fieldsOf}

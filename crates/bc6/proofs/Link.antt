@@ -16,10 +16,13 @@ use Rattle.laws.specs.Ranges.{InBits}
 use Rattle.laws.proofs.Rows.{made-same, getD-made, length-made}
 use Rattle.bc6h_spec.specs.declared.Fields.{Fields}
 use Rattle.bc6h_spec.specs.Layout.{row, twoRegions, precision, ownWidth, transformed}
-use Rattle.bc6h_spec.specs.Regions.{mapOf, regionOf, fixupOf}
-use Rattle.bc6h_spec.specs.Fields.{modeIn, gathered, stored, indexOf, indexIn, fieldsAt, Valid}
+use Rattle.bcn_spec.specs.Regions.{mapOf, fixupOf}
+use Rattle.bc6h_spec.specs.Regions.{regionOf}
+use Rattle.bcn_spec.specs.Indices.{indexIn}
+use Rattle.bc6h_spec.specs.Fields.{modeIn, gathered, stored, indexOf, fieldsAt, Valid}
 use Rattle.bc6h_spec.specs.Half.{keep, unquantized, minusInfinity}
-use Rattle.bc6h_spec.specs.Picture.{firstEnd, otherEnd, endpoint, weights8, weights16, weights, between, palette, value, pictureAs}
+use Rattle.bcn_spec.specs.Weights.{weights8, weights16}
+use Rattle.bc6h_spec.specs.Picture.{firstEnd, otherEnd, endpoint, weights, between, palette, value, pictureAs}
 use Rattle.bc6h_spec.proofs.Ranges.{unquantized-in}
 use Rattle.bc6h_spec.proofs.Reading.{at-endpoint, at-index, read-valid}
 use Rattle.bc6h_spec.proofs.Modes.{mode-range}

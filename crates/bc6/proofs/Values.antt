@@ -11,7 +11,7 @@ use lib.Dec.{lit≤, lit<}
 use lib.ListN.{length, getD, drop, List·getD-append, getD-replicate}
 use Rattle.laws.specs.Ranges.{InBits}
 use Rattle.laws.proofs.Rows.{getD-made}
-use Rattle.bc6h_spec.specs.Answers.{done}
+use Rattle.bcn_spec.specs.Answers.{done}
 use Rattle.bc6h_spec.specs.Fields.{modeOf, indexOf}
 use Rattle.bc6h_spec.specs.Regions.{regionOf}
 use Rattle.bc6h_spec.specs.Half.{highestPattern, minusInfinity, finished}

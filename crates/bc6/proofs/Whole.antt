@@ -7,7 +7,7 @@ use native.Mathlib.Decide.{ℕ-discrete}
 use native.Mathlib.Omega.{arith}
 use borrow.Author.Tests.{ne-eqb}
 use lib.ListN.{getD, drop, replicate}
-use Rattle.bc6h_spec.specs.Bits.{numberOf}
+use Rattle.bcn_spec.specs.Bits.{numberOf}
 use Rattle.bc6h_spec.specs.Fields.{modeIn, modeOf, fieldsAt}
 use Rattle.bc6h_spec.specs.Picture.{pictureAs}
 use Rattle.bc6h_spec.specs.Block.{formatNumber, pixelsOf}

@@ -6,8 +6,9 @@ use Prim.Native.Nat.{ℕ, _/_, _%_, _^_, _<_}
 use lib.Dec.{eqb}
 use lib.ListN.{replicate}
 use Rattle.laws.specs.Pick.{pick}
-use Rattle.bc6h_spec.specs.Regions.{mapOf, fixupOf}
-use Rattle.bc6h_spec.specs.Fields.{modeIn, indexIn, fieldsAt}
+use Rattle.bcn_spec.specs.Regions.{mapOf, fixupOf}
+use Rattle.bcn_spec.specs.Indices.{indexIn}
+use Rattle.bc6h_spec.specs.Fields.{modeIn, fieldsAt}
 use Rattle.bc6h_spec.specs.Picture.{pictureAs, valueCount}
 use Rattle.bc6h_spec.specs.Block.{formatNumber}
 use Rattle.bc6_paint.specs.Values.{digit}

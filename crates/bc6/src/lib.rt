@@ -4,9 +4,10 @@
 // compiler then works them out with the format known, and they never go through memory.
 use bc6_colour::Colour;
 use bc6_mode::extract_mode;
-use bc6h_spec::Answer;
-use bc6h_spec::Block;
+use bc6h_spec::Picture;
 use bcn_data::Subset2Map;
+use bcn_spec::Answer;
+use bcn_spec::Block;
 use bcn_util::BitStream;
 use bcn_util::Indexes;
 ghost use mathlib.Core.Path.{_≡_};
@@ -132,7 +133,7 @@ pub fn block_pixels(block: &[u8], format: u8, out: &mut [u16]) -> Pixels
     if block.len() != Block::SIZE {
         return Pixels::refused(Answer::BAD_BLOCK);
     }
-    if out.len() < Block::VALUES {
+    if out.len() < Picture::VALUES {
         return Pixels::refused(Answer::SHORT_OUTPUT);
     }
     let stream = BitStream::new(block);

@@ -6,7 +6,7 @@ use lib.ListN.{length, take, drop}
 use lib.Seq.{take-at}
 use borrow.Author.Tests.{lt-ltb, le-ltb, eq-eqb, ne-eqb}
 use Rattle.laws.specs.Made.{made, total}
-use Rattle.bc6h_spec.specs.Answers.{done, badFormat, shortOutput, unevenBlocks}
+use Rattle.bcn_spec.specs.Answers.{done, badFormat, shortOutput, unevenBlocks}
 use Rattle.bc6h_spec.specs.Block.{pixelsOf, infinitiesOf}
 use Rattle.bc6h_spec.proofs.Values.{length-pixels}
 use Rattle.bc6.specs.declared.Pixels.{Pixels}
@@ -14,7 +14,8 @@ use Rattle.bc6h_spec.specs.Picture.{isSigned}
 use Rattle.bc6.specs.Call.{refusalOf, Painted}
 use Rattle.bc6.proofs.Calls.{written}
 use Rattle.bc6_blocks.specs.declared.BlocksPixels.{BlocksPixels}
-use Rattle.bc6_blocks.specs.Run.{blocksIn, blockAt, shownAt, runOf, runRefusal, runAnswer, runValues, RunWritten, RunPainted}
+use Rattle.bcn_spec.specs.Bits.{blocksIn, blockAt}
+use Rattle.bc6_blocks.specs.Run.{shownAt, runOf, runRefusal, runAnswer, runValues, RunWritten, RunPainted}
 use Rattle.bc6_blocks.proofs.Runs.{run-at, run-infinities}
 
 -- ---- the checks

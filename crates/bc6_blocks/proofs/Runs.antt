@@ -13,7 +13,7 @@ use borrow.Rule.Slice.PartMut.{midOf, putMid, post-is}
 use Rattle.laws.specs.Made.{made, countOf, total}
 use Rattle.laws.proofs.Rows.{join-last, count-le}
 use Rattle.laws.proofs.Counts.{count-append, count-join}
-use Rattle.bc6h_spec.specs.Bits.{numberOf}
+use Rattle.bcn_spec.specs.Bits.{numberOf}
 use Rattle.bc6h_spec.specs.Half.{minusInfinity}
 use Rattle.bc6h_spec.specs.Picture.{valueCount}
 use Rattle.bc6h_spec.specs.Block.{pixelsOf, infinitiesOf}
@@ -21,7 +21,8 @@ use Rattle.bc6h_spec.proofs.Values.{length-pixels}
 use Rattle.bc6_paint.specs.Values.{PaintedAs}
 use Rattle.bc6.specs.Shown.{shownOf}
 use Rattle.bc6.proofs.Whole.{block-shown}
-use Rattle.bc6_blocks.specs.Run.{blockAt, shownAt, runOf, RunWritten}
+use Rattle.bcn_spec.specs.Bits.{blockAt}
+use Rattle.bc6_blocks.specs.Run.{shownAt, runOf, RunWritten}
 
 -- what is painted into the part that was lent, and what is counted of it
 module _ (signed : Bool) (n size : ℕ) (blocks out : List ℕ) (number infinite : ℕ) (after : List ℕ)

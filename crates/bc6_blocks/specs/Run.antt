@@ -7,19 +7,12 @@ use lib.Dec.{eqb, ltb}
 use lib.ListN.{length, take, drop}
 use Rattle.laws.specs.Pick.{pick}
 use Rattle.laws.specs.Made.{made, countOf, join}
-use Rattle.bc6h_spec.specs.Answers.{done, badFormat, shortOutput, unevenBlocks}
-use Rattle.bc6h_spec.specs.Bits.{blockSize}
+use Rattle.bcn_spec.specs.Answers.{done, badFormat, shortOutput, unevenBlocks}
+use Rattle.bcn_spec.specs.Bits.{blockSize, blocksIn, blockAt}
 use Rattle.bc6h_spec.specs.Half.{minusInfinity}
 use Rattle.bc6h_spec.specs.Picture.{valueCount, isSigned}
 use Rattle.bc6h_spec.specs.Block.{pixelsOf}
 use Rattle.bc6_blocks.specs.declared.BlocksPixels.{BlocksPixels}
-
--- how many blocks the bytes hold, and block n of them
-abbrev pub blocksIn : List ℕ → ℕ
-blocksIn blocks = length blocks / blockSize
-
-abbrev pub blockAt : List ℕ → ℕ → List ℕ
-blockAt blocks n = take blockSize (drop (blockSize * n) blocks)
 
 -- "The values are what the block call writes for each in turn": block n's, and those of the first n blocks
 unfoldable pub shownAt : Bool → List ℕ → ℕ → List ℕ

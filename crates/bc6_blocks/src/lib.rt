@@ -1,7 +1,8 @@
 // The pixels of a run of blocks of one format.
 use bc6_mode::extract_mode;
-use bc6h_spec::Answer;
-use bc6h_spec::Block;
+use bc6h_spec::Picture;
+use bcn_spec::Answer;
+use bcn_spec::Block;
 use bcn_util::BitStream;
 ghost use mathlib.Core.Path.{_≡_};
 ghost use Prim.Native.Nat.{_*_, _≤_};
@@ -36,7 +37,7 @@ fn paint_run(blocks: &[u8], signed: bool, count: usize, out: &mut [u16]) -> usiz
     for n in 0..count {
         let start = Block::SIZE * n;
         let end = start + Block::SIZE;
-        let place = Block::VALUES * n;
+        let place = Picture::VALUES * n;
         let stream = BitStream::new(&blocks[start..end]);
         let mode = extract_mode(stream) as u8;
         let shown = bc6::show(mode, stream.lo, stream.hi, signed, &mut out[place..]);
@@ -56,7 +57,7 @@ pub fn blocks_pixels(blocks: &[u8], format: u8, out: &mut [u16]) -> BlocksPixels
         return BlocksPixels::refused(Answer::UNEVEN_BLOCKS);
     }
     let count = blocks.len() / Block::SIZE;
-    if out.len() / Block::VALUES < count {
+    if out.len() / Picture::VALUES < count {
         return BlocksPixels::refused(Answer::SHORT_OUTPUT);
     }
     let infinite = paint_run(blocks, format == 1, count, out);

@@ -1,10 +1,10 @@
 // From a block's bits to its fields.
 use bc6_mode::extract_mode;
 use bc6_table::read_places;
-use bc6h_spec::Answer;
-use bc6h_spec::Block;
 use bc6h_spec::Fields;
 use bcn_data::Subset2Map;
+use bcn_spec::Answer;
+use bcn_spec::Block;
 use bcn_util::BitStream;
 use bcn_util::Indexes;
 ghost use mathlib.Core.Path.{_≡_};

@@ -4,7 +4,7 @@ use Prim.Native.Nat.{ℕ, _+_, _*_, _/_, _<_}
 use lib.Dec.{eqb, eqb→eq}
 use lib.ListN.{getD}
 use Rattle.laws.proofs.Tests.{below-at}
-use Rattle.bc6h_spec.specs.Picture.{weights8, weights16}
+use Rattle.bcn_spec.specs.Weights.{weights8, weights16}
 
 pub three : (i : ℕ) → i < 8 → 37 * i / 4 ≡ getD weights8 i 0
 three i h = eqb→eq _ _ (below-at (λ i. eqb (37 * i / 4) (getD weights8 i 0)) 8 i tt h)

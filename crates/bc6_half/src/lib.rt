@@ -8,7 +8,7 @@ ghost use lib.ListN.{getD};
 ghost use Rattle.laws.specs.Pick.{pick};
 ghost use Rattle.laws.specs.Ranges.{Below, Within, InBits};
 ghost use Rattle.bc6h_spec.specs.Half.{signExtend, keep, interpolated, finishS};
-ghost use Rattle.bc6h_spec.specs.Picture.{weights8, weights16};
+ghost use Rattle.bcn_spec.specs.Weights.{weights8, weights16};
 ghost use Rattle.bc6_half.specs.Halves.{halfOf};
 
 // The number that `bits` bits with the value `x` stand for in two's complement.

@@ -9,11 +9,12 @@ use lib.ListN.{length, getD, take, drop, length-append, length-drop}
 use lib.Seq.{getD-take, getD-drop, getD-append-add}
 use borrow.Author.Tests.{lt-ltb, ltb-true, ltb-false}
 use Rattle.laws.proofs.Tests.{cases}
-use Rattle.bc6h_spec.specs.Answers.{done}
+use Rattle.bcn_spec.specs.Answers.{done}
 use Rattle.bc6h_spec.specs.Picture.{isSigned}
 use Rattle.bc6h_spec.specs.Block.{pixelsOf}
 use Rattle.bc6_blocks.specs.declared.BlocksPixels.{BlocksPixels}
-use Rattle.bc6_blocks.specs.Run.{blocksIn, blockAt, shownAt, runOf, runRefusal, RunPainted}
+use Rattle.bcn_spec.specs.Bits.{blocksIn, blockAt}
+use Rattle.bc6_blocks.specs.Run.{shownAt, runOf, runRefusal, RunPainted}
 use Rattle.bc6_blocks.proofs.Runs.{length-run, run-at}
 use Rattle.bc6_blocks.proofs.Calls.{done-when}
 use Rattle.bc6_image.specs.declared.FacePixels.{FacePixels}

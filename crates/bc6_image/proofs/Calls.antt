@@ -11,8 +11,8 @@ use lib.Seq.{getD-take, getD-drop}
 use borrow.Author.Tests.{lt-ltb, le-ltb, le-leb, lt-leb, eq-eqb, ne-eqb, ltb-true, ltb-false, leb-true, eqb-true, eqb-false}
 use Rattle.laws.specs.Pick.{pick, both}
 use Rattle.laws.proofs.Tests.{cases, both-true}
-use Rattle.bc6h_spec.specs.Answers.{done, badFormat, shortOutput, badBlocks}
-use Rattle.bc6h_spec.specs.Bits.{blockSize}
+use Rattle.bcn_spec.specs.Answers.{done, badFormat, shortOutput, badBlocks}
+use Rattle.bcn_spec.specs.Bits.{blockSize}
 use Rattle.bc6h_spec.specs.Picture.{isSigned}
 use Rattle.bc6h_spec.specs.Block.{pixelsOf}
 use Rattle.bc6h_spec.proofs.Values.{length-pixels}
@@ -20,7 +20,8 @@ use Rattle.bc6.specs.declared.Pixels.{Pixels}
 use Rattle.bc6.specs.Call.{refusalOf, Painted}
 use Rattle.bc6.proofs.Calls.{written}
 use Rattle.bc6_blocks.specs.declared.BlocksPixels.{BlocksPixels}
-use Rattle.bc6_blocks.specs.Run.{blocksIn, blockAt, runRefusal, runAnswer, RunPainted}
+use Rattle.bcn_spec.specs.Bits.{blocksIn, blockAt}
+use Rattle.bc6_blocks.specs.Run.{runRefusal, runAnswer, RunPainted}
 use Rattle.bc6_blocks.proofs.Calls.{block-by-block}
 use Rattle.bc6_image.specs.declared.FacePixels.{FacePixels}
 use Rattle.bc6_image.specs.Face.{lanes, opaque, laneOf, laneAt, rowSize, FaceShown, faceIn, roomy, faceRefusal, faceAnswer, faceValues, FacePainted}

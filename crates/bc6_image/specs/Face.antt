@@ -7,11 +7,12 @@ use lib.Dec.{eqb, leb, ltb}
 use lib.ListN.{length, getD}
 use Rattle.laws.specs.Pick.{pick, both, either}
 use Rattle.laws.specs.Made.{made}
-use Rattle.bc6h_spec.specs.Answers.{done, badFormat, shortOutput, badBlocks}
-use Rattle.bc6h_spec.specs.Bits.{blockSize}
+use Rattle.bcn_spec.specs.Answers.{done, badFormat, shortOutput, badBlocks}
+use Rattle.bcn_spec.specs.Bits.{blockSize}
 use Rattle.bc6h_spec.specs.Picture.{isSigned}
 use Rattle.bc6h_spec.specs.Block.{pixelsOf}
-use Rattle.bc6_blocks.specs.Run.{blockAt, runInfinities}
+use Rattle.bcn_spec.specs.Bits.{blockAt}
+use Rattle.bc6_blocks.specs.Run.{runInfinities}
 use Rattle.bc6_image.specs.declared.FacePixels.{FacePixels}
 
 -- ---- the layouts: red, green and blue; and the same with alpha behind them

@@ -7,7 +7,7 @@ use lib.ListN.{length, getD}
 use lib.Seq.{sets}
 use Rattle.laws.specs.Pick.{pick}
 use Rattle.laws.specs.Made.{made, countOf, join}
-use Rattle.bc6h_spec.specs.Bits.{blockSize}
+use Rattle.bcn_spec.specs.Bits.{blockSize}
 use Rattle.bc6h_spec.specs.Half.{minusInfinity}
 use Rattle.bc6_blocks.specs.Run.{shownAt, runOf}
 use Rattle.bc6_image.specs.Face.{lanes, opaque, rowSize}

@@ -1,16 +1,16 @@
 // A face of blocks as rows of pixels, a pitch apart, with three values a pixel or, with alpha, four. Each block is decoded once.
 use bc6::block_pixels;
-use bc6h_spec::Answer;
-use bc6h_spec::Block;
+use bcn_spec::Answer;
+use bcn_spec::Block;
 ghost use mathlib.Core.Path.{_≡_};
 ghost use mathlib.Core.Bool.{true, false};
 ghost use Prim.Native.Nat.{_+_, _*_, _<_, _≤_};
 ghost use lib.Dec.{eqb};
 ghost use lib.ListN.{length};
 ghost use lib.Seq.{sets};
-ghost use Rattle.bc6h_spec.specs.Bits.{blockSize};
+ghost use Rattle.bcn_spec.specs.Bits.{blockSize};
 ghost use Rattle.bc6h_spec.specs.Picture.{isSigned};
-ghost use Rattle.bc6_blocks.specs.Run.{blocksIn};
+ghost use Rattle.bcn_spec.specs.Bits.{blocksIn};
 ghost use Rattle.bc6_image.specs.Face.{lanes, faceRefusal, FacePainted};
 ghost use Rattle.bc6_image.specs.Stores.{pixelOf, rowOf, blockPut, FaceWritten, Fitting};
 

@@ -11,7 +11,7 @@ use Rattle.laws.specs.Pick.{pick}
 use Rattle.laws.specs.Bit.{bit}
 use Rattle.laws.specs.Made.{countOf}
 use Rattle.bc6h_spec.specs.Half.{keep, minusInfinity, interpolated, finished}
-use Rattle.bc6h_spec.specs.Picture.{weights8, weights16}
+use Rattle.bcn_spec.specs.Weights.{weights8, weights16}
 use Rattle.bc6_half.specs.Halves.{numberAt}
 use Rattle.bc6_paint.specs.declared.Turn.{Turn}
 use Rattle.bc6_paint.specs.declared.Ends.{Ends}

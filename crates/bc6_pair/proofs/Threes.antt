@@ -18,7 +18,7 @@ use Rattle.bc6_runs.specs.Ends.{fourOf as numbersOf, placesOf}
 use Rattle.bcn_util.specs.Runs.{Run, sum}
 use Rattle.bc6_pair.specs.Threes.{lane, fourOf, threeOf, ten, turnedBit, extraBits}
 use Rattle.bc6_pair.specs.Ends.{twoOf, PairBy}
-use Rattle.bcn_util.proofs.Runs.{runs, run-law}
+use Rattle.bc6_runs.proofs.Gathering.{runs, run-law}
 
 -- ---- three numbers in one word
 

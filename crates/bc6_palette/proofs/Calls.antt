@@ -8,7 +8,7 @@ use borrow.Author.Tests.{lt-ltb, le-ltb}
 use Rattle.laws.proofs.Search.{is-true}
 use Rattle.laws.proofs.Rows.{length-made}
 use Rattle.bc6h_spec.specs.declared.Fields.{Fields}
-use Rattle.bc6h_spec.specs.Answers.{done, badFormat, shortOutput, invalidRecord}
+use Rattle.bcn_spec.specs.Answers.{done, badFormat, shortOutput, invalidRecord}
 use Rattle.bc6h_spec.specs.Fields.{Valid}
 use Rattle.bc6h_spec.specs.Picture.{valueCount, isSigned, value, pictureAs, picture}
 use Rattle.bc6_half.specs.declared.Half.{Half}

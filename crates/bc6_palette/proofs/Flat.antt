@@ -13,9 +13,11 @@ use Rattle.laws.specs.Made.{made}
 use Rattle.laws.proofs.Rows.{made-same, made-each, getD-made}
 use Rattle.bc6h_spec.specs.declared.Fields.{Fields}
 use Rattle.bc6h_spec.specs.Layout.{twoRegions, precision}
-use Rattle.bc6h_spec.specs.Regions.{regionOf, mapOf}
+use Rattle.bcn_spec.specs.Regions.{mapOf}
+use Rattle.bc6h_spec.specs.Regions.{regionOf}
 use Rattle.bc6h_spec.specs.Fields.{indexOf, Valid}
-use Rattle.bc6h_spec.specs.Picture.{weights8, weights16, weights, between, palette, pictureAs}
+use Rattle.bcn_spec.specs.Weights.{weights8, weights16}
+use Rattle.bc6h_spec.specs.Picture.{weights, between, palette, pictureAs}
 use Rattle.bc6h_spec.proofs.Pixel.{pixel-shows}
 use Rattle.bc6_half.specs.declared.Half.{Half}
 use Rattle.bc6_colour.specs.declared.Colour.{Colour}

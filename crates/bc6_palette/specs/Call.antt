@@ -6,7 +6,7 @@ use lib.Dec.{ltb}
 use lib.ListN.{length, drop}
 use Rattle.laws.specs.Pick.{pick}
 use Rattle.bc6h_spec.specs.declared.Fields.{Fields}
-use Rattle.bc6h_spec.specs.Answers.{done, badFormat, shortOutput, invalidRecord}
+use Rattle.bcn_spec.specs.Answers.{done, badFormat, shortOutput, invalidRecord}
 use Rattle.bc6h_spec.specs.Picture.{valueCount, picture}
 use Rattle.bc6_valid.specs.Validity.{valid}
 

@@ -8,10 +8,10 @@ use bc6_half::weight_3;
 use bc6_half::weight_4;
 use bc6_mode::ModeBits;
 use bc6_valid::is_valid;
-use bc6h_spec::Answer;
-use bc6h_spec::Block;
 use bc6h_spec::Fields;
+use bc6h_spec::Picture;
 use bcn_data::Subset2Map;
+use bcn_spec::Answer;
 ghost use mathlib.Core.Path.{_≡_};
 ghost use mathlib.Core.Bool.{true, false};
 ghost use mathlib.Core.List.{_++_};
@@ -23,7 +23,8 @@ ghost use Rattle.laws.specs.Ranges.{InBits};
 ghost use Rattle.bc6h_spec.specs.Layout.{twoRegions};
 ghost use Rattle.bc6h_spec.specs.Fields.{Valid};
 ghost use Rattle.bc6h_spec.specs.Half.{interpolated, finished};
-ghost use Rattle.bc6h_spec.specs.Picture.{weights8, weights16, pictureAs, picture};
+ghost use Rattle.bcn_spec.specs.Weights.{weights8, weights16};
+ghost use Rattle.bc6h_spec.specs.Picture.{pictureAs, picture};
 ghost use Rattle.bc6_half.specs.Halves.{marked};
 ghost use Rattle.bc6_colour.specs.Colours.{unquantizedOf, OfBits};
 ghost use Rattle.bc6_palette.specs.Palettes.{tripleOf, entryOf};
@@ -188,7 +189,7 @@ pub fn fields_pixels(fields: Fields, out: &mut [u16]) -> u8
     if !is_valid(fields) {
         return Answer::INVALID_RECORD;
     }
-    if out.len() < Block::VALUES {
+    if out.len() < Picture::VALUES {
         return Answer::SHORT_OUTPUT;
     }
     write_values(picture_of(fields), out);

@@ -1,2 +1,3 @@
 pub mod Partition
 pub mod Tables
+pub mod Gathering

@@ -11,7 +11,7 @@ use Rattle.laws.proofs.Tests.{both-left, both-right, upto-at}
 use Rattle.bc6h_spec.specs.Layout.{row, rows, row1, row2, row3, row4, row5, row6, row7, row8, row9, row10}
 use Rattle.bc6h_spec.specs.Fields.{gathered}
 use Rattle.bcn_util.specs.Runs.{Run, sum}
-use Rattle.bcn_util.proofs.Runs.{runs, run-law}
+use Rattle.bc6_runs.proofs.Gathering.{runs, run-law}
 
 -- one run: five bits, from bit 77 on
 abbrev alone : List Run → Bool

@@ -24,7 +24,7 @@ use Rattle.bc6h_spec.specs.Fields.{gathered}
 use Rattle.bc6_runs.specs.declared.Channels.{Channels}
 use Rattle.bcn_util.specs.Runs.{Run, part, sum, readable, most}
 use Rattle.bc6_runs.specs.Ends.{runIn, endOf, runsOf, sumAt, fits, fourOf, placesOf, ChannelsRead}
-use Rattle.bcn_util.proofs.Runs.{runs, run-law}
+use Rattle.bc6_runs.proofs.Gathering.{runs, run-law}
 
 -- ---- one run
 

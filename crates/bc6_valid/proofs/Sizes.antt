@@ -14,8 +14,10 @@ use Rattle.laws.specs.Bit.{bit}
 use Rattle.laws.specs.Made.{made, countOf}
 use Rattle.laws.proofs.Rows.{made-cong}
 use Rattle.bc6h_spec.specs.Layout.{ownWidth, width, twoRegions}
-use Rattle.bc6h_spec.specs.Regions.{mapOf, fixupOf, regionOf, region1Of}
-use Rattle.bc6h_spec.specs.Fields.{indexBits, fixups, has, storedBits}
+use Rattle.bcn_spec.specs.Regions.{mapOf, fixupOf}
+use Rattle.bc6h_spec.specs.Regions.{regionOf, region1Of}
+use Rattle.bcn_spec.specs.Indices.{has, storedBits}
+use Rattle.bc6h_spec.specs.Fields.{indexBits, fixups}
 use Rattle.bc6h_spec.proofs.Once.{row-once}
 use Rattle.bc6h_spec.proofs.Partitions.{counted-one}
 use Rattle.bcn_data.specs.declared.Subset2Map.{Subset2Map}

@@ -15,7 +15,8 @@ use Rattle.laws.proofs.Search.{holds, both-hold}
 use Rattle.bc6h_spec.specs.declared.Fields.{Fields}
 use Rattle.bc6h_spec.specs.Layout.{width, twoRegions}
 use Rattle.bc6h_spec.specs.Regions.{region1Of}
-use Rattle.bc6h_spec.specs.Fields.{indexBits, fixups, has, storedBits, stored, indexOf, Valid}
+use Rattle.bcn_spec.specs.Indices.{has, storedBits}
+use Rattle.bc6h_spec.specs.Fields.{indexBits, fixups, stored, indexOf, Valid}
 use Rattle.bc6h_spec.proofs.Modes.{partition-width}
 use Rattle.bc6h_spec.proofs.Reading.{width-last, width-partition, stored-le}
 use Rattle.bc6_valid.specs.Validity.{endpointFits, indexFits, valid}

@@ -3,7 +3,7 @@ use Prim.Native.Nat.{ℕ, _-_}
 use lib.Dec.{eqb}
 use Rattle.laws.specs.Pick.{pick, either}
 use Rattle.bc6h_spec.specs.Layout.{twoRegions}
-use Rattle.bc6h_spec.specs.Regions.{fixupOf}
+use Rattle.bcn_spec.specs.Regions.{fixupOf}
 use Rattle.bc6h_spec.specs.Fields.{indexBits}
 
 -- the fix-up pixel of region 1, and pixel 0 where there is one region

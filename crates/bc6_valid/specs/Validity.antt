@@ -9,7 +9,8 @@ use Rattle.laws.specs.Every.{below}
 use Rattle.bc6h_spec.specs.declared.Fields.{Fields}
 use Rattle.bc6h_spec.specs.Layout.{partitionPlace, width}
 use Rattle.bc6h_spec.specs.Regions.{region1Of}
-use Rattle.bc6h_spec.specs.Fields.{indexBits, fixups, storedBits, indexOf}
+use Rattle.bcn_spec.specs.Indices.{storedBits}
+use Rattle.bc6h_spec.specs.Fields.{indexBits, fixups, indexOf}
 
 -- "each endpoint fits its width, the last two endpoints are 0 in one-region modes": there they have no bits
 unfoldable pub endpointFits : Fields → ℕ → Bool

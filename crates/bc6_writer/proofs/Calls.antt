@@ -6,9 +6,10 @@ use Prim.Native.Nat.{ℕ, _≤_, _<_}
 use lib.ListN.{length}
 use borrow.Author.Tests.{lt-ltb, le-ltb, eq-eqb, ne-eqb}
 use Rattle.bc6h_spec.specs.declared.Fields.{Fields}
-use Rattle.bc6h_spec.specs.Answers.{done, badFormat, invalidRecord, badBuffer}
-use Rattle.bc6h_spec.specs.Bits.{blockSize}
-use Rattle.bc6h_spec.specs.Writer.{numberFrom, bytesOf, blockOf}
+use Rattle.bcn_spec.specs.Answers.{done, badFormat, invalidRecord, badBuffer}
+use Rattle.bcn_spec.specs.Bits.{blockSize}
+use Rattle.bcn_spec.specs.Bits.{bytesOf}
+use Rattle.bc6h_spec.specs.Writer.{numberFrom, blockOf}
 use Rattle.bc6_valid.specs.Validity.{valid}
 use Rattle.bc6_writer.specs.Call.{Written}
 

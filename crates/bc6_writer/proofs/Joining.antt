@@ -12,7 +12,8 @@ use Rattle.laws.proofs.Rows.{made-front, made-cong}
 use Rattle.bc6h_spec.specs.declared.Fields.{Fields}
 use Rattle.bc6h_spec.specs.Layout.{row, tableBits}
 use Rattle.bc6h_spec.specs.Fields.{indexOf, Valid}
-use Rattle.bc6h_spec.specs.Writer.{scattered, placed, numberFrom, bytesOf}
+use Rattle.bcn_spec.specs.Bits.{bytesOf}
+use Rattle.bc6h_spec.specs.Writer.{scattered, placed, numberFrom}
 use Rattle.bc6h_spec.proofs.Once.{row-once}
 use Rattle.bc6h_spec.proofs.Gather.{scattered-lt}
 use Rattle.bc6h_spec.proofs.Undo.{bits-128}

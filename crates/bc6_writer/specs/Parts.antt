@@ -3,7 +3,8 @@ use mathlib.Core.List.{List}
 use Prim.Native.Nat.{ℕ, _*_, _/_, _%_, _^_, _<_}
 use lib.ListN.{length, getD}
 use Rattle.bc6h_spec.specs.declared.Fields.{Fields}
-use Rattle.bc6h_spec.specs.Fields.{indexBits, fixups, storedBits}
+use Rattle.bcn_spec.specs.Indices.{storedBits}
+use Rattle.bc6h_spec.specs.Fields.{indexBits, fixups}
 
 -- every code names one of the fourteen places
 abbrev pub InPlaces : List ℕ → Type 0

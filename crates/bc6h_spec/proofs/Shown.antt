@@ -19,10 +19,12 @@ use Rattle.laws.proofs.Tests.{below-at}
 use Rattle.laws.proofs.Counts.{count-never}
 use Rattle.bc6h_spec.specs.declared.Fields.{Fields}
 use Rattle.bc6h_spec.specs.Layout.{precision, ownWidth, transformed, twoRegions}
-use Rattle.bc6h_spec.specs.Regions.{regionOf, mapOf}
+use Rattle.bcn_spec.specs.Regions.{mapOf}
+use Rattle.bc6h_spec.specs.Regions.{regionOf}
 use Rattle.bc6h_spec.specs.Fields.{stored, indexOf, Valid}
 use Rattle.bc6h_spec.specs.Half.{unquantized, interpolated, highestPattern, minusInfinity, finished}
-use Rattle.bc6h_spec.specs.Picture.{firstEnd, otherEnd, endpoint, weights8, weights16, weights, between, palette, value, valueCount, pictureAs}
+use Rattle.bcn_spec.specs.Weights.{weights8, weights16}
+use Rattle.bc6h_spec.specs.Picture.{firstEnd, otherEnd, endpoint, weights, between, palette, value, valueCount, pictureAs}
 use Rattle.bc6h_spec.proofs.Ranges.{first-in, other-in, unquantized-in, interpolated-in}
 use Rattle.bc6h_spec.proofs.Highest.{unsigned-top, signed-top, exception, no-minus-zero}
 use Rattle.bc6h_spec.proofs.Widths.{Mode, known, first-fits, other-fits}

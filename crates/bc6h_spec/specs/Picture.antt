@@ -8,6 +8,7 @@ use lib.ListN.{getD}
 use Rattle.laws.specs.Pick.{pick, either}
 use Rattle.laws.specs.Made.{made}
 use Rattle.bc6h_spec.specs.declared.Fields.{Fields}
+use Rattle.bcn_spec.specs.Weights.{weights8, weights16}
 use Rattle.bc6h_spec.specs.Layout.{twoRegions, precision, ownWidth, transformed}
 use Rattle.bc6h_spec.specs.Regions.{regionOf}
 use Rattle.bc6h_spec.specs.Fields.{stored, indexOf}
@@ -31,13 +32,6 @@ endpoint signed f e c =
     let p = precision (f .mode) in
     let first = firstEnd signed p (stored f 0 c) in
     pick (eqb e 0) first (otherEnd signed (transformed (f .mode)) p (ownWidth (f .mode) c) first (stored f e c))
-
--- "Weights 0, 9, 18, 27, 37, 46, 55, 64, or 0, 4, 9, 13, 17, 21, 26, 30, 34, 38, 43, 47, 51, 55, 60, 64."
-abbrev pub weights8 : List ℕ
-weights8 = 0 ∷ 9 ∷ 18 ∷ 27 ∷ 37 ∷ 46 ∷ 55 ∷ 64 ∷ []
-
-abbrev pub weights16 : List ℕ
-weights16 = 0 ∷ 4 ∷ 9 ∷ 13 ∷ 17 ∷ 21 ∷ 26 ∷ 30 ∷ 34 ∷ 38 ∷ 43 ∷ 47 ∷ 51 ∷ 55 ∷ 60 ∷ 64 ∷ []
 
 abbrev pub weights : ℕ → List ℕ
 weights mode = pick (twoRegions mode) weights8 weights16

@@ -4,8 +4,8 @@ use mathlib.Core.List.{List, _++_}
 use Prim.Native.Nat.{ℕ, zero, suc, _≤_, _<_}
 use lib.ListN.{length, drop}
 use borrow.Author.Tests.{lt-ltb, le-ltb, eq-eqb, ne-eqb}
-use Rattle.bc6h_spec.specs.Answers.{done, badBlock, shortOutput}
-use Rattle.bc6h_spec.specs.Bits.{blockSize, numberOf}
+use Rattle.bcn_spec.specs.Answers.{done, badBlock, shortOutput}
+use Rattle.bcn_spec.specs.Bits.{blockSize, numberOf}
 use Rattle.bc7_spec.specs.Fields.{modeIn, modeOf}
 use Rattle.bc7_spec.specs.Block.{byteCount, bytesOf}
 use Rattle.bc7_picture.specs.Shown.{shownOf}

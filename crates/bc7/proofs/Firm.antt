@@ -8,9 +8,10 @@ use lib.ListN.{length, getD, drop, replicate, List·getD-append}
 use Rattle.laws.specs.Made.{made}
 use Rattle.laws.specs.First.{firstBelow}
 use Rattle.laws.specs.Packed.{before, unpacked}
-use Rattle.bc6h_spec.specs.Answers.{done}
-use Rattle.bc6h_spec.specs.Bits.{blockSize}
-use Rattle.bc7_spec.specs.Rows.{partitionSet3, regionOf, fixupsOf}
+use Rattle.bcn_spec.specs.Answers.{done}
+use Rattle.bcn_spec.specs.Bits.{blockSize}
+use Rattle.bcn_spec.specs.Rows.{partitionSet3, fixupsOf}
+use Rattle.bc7_spec.specs.Rows.{regionOf}
 use Rattle.bc7_spec.specs.Modes.{modes, modeAt}
 use Rattle.bc7_spec.specs.Layout.{runBits, runIn}
 use Rattle.bc7_spec.specs.Fields.{modeIn, modeOf, partitionIn, rotationIn, selectionIn, storedIn, pbitIn, firstIndexIn, secondIndexIn}

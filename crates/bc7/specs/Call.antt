@@ -5,8 +5,8 @@ use Prim.Native.Nat.{ℕ, zero, suc}
 use lib.Dec.{eqb, ltb}
 use lib.ListN.{length, drop}
 use Rattle.laws.specs.Pick.{pick}
-use Rattle.bc6h_spec.specs.Answers.{done, badBlock, shortOutput}
-use Rattle.bc6h_spec.specs.Bits.{blockSize}
+use Rattle.bcn_spec.specs.Answers.{done, badBlock, shortOutput}
+use Rattle.bcn_spec.specs.Bits.{blockSize}
 use Rattle.bc7_spec.specs.Fields.{modeOf}
 use Rattle.bc7_spec.specs.Block.{byteCount, bytesOf}
 use Rattle.bc7.specs.declared.Bc7Pixels.{Bc7Pixels}

@@ -1,6 +1,6 @@
 // The pixels call of BC7: a block as sixteen RGBA quadruples of bytes.
-use bc6h_spec::Answer;
-use bc6h_spec::Block;
+use bcn_spec::Answer;
+use bcn_spec::Block;
 use bcn_util::BitStream;
 ghost use mathlib.Core.Path.{_≡_};
 ghost use Rattle.bc7_spec.specs.Fields.{modeIn};

@@ -6,8 +6,8 @@ use lib.ListN.{length, take, drop}
 use lib.Seq.{take-at}
 use borrow.Author.Tests.{lt-ltb, le-ltb, eq-eqb, ne-eqb}
 use Rattle.laws.proofs.Joined.{run-at}
-use Rattle.bc6h_spec.specs.Answers.{done, shortOutput, unevenBlocks}
-use Rattle.bc6_blocks.specs.Run.{blocksIn, blockAt}
+use Rattle.bcn_spec.specs.Answers.{done, shortOutput, unevenBlocks}
+use Rattle.bcn_spec.specs.Bits.{blocksIn, blockAt}
 use Rattle.bc7_spec.specs.Block.{byteCount, bytesOf}
 use Rattle.bc7_spec.proofs.Lengths.{length-bytes}
 use Rattle.bc7.specs.declared.Bc7Pixels.{Bc7Pixels}

@@ -6,9 +6,9 @@ use lib.Dec.{eqb, ltb}
 use lib.ListN.{length, drop}
 use Rattle.laws.specs.Pick.{pick}
 use Rattle.laws.specs.Made.{made, join}
-use Rattle.bc6h_spec.specs.Answers.{done, shortOutput, unevenBlocks}
-use Rattle.bc6h_spec.specs.Bits.{blockSize}
-use Rattle.bc6_blocks.specs.Run.{blocksIn, blockAt}
+use Rattle.bcn_spec.specs.Answers.{done, shortOutput, unevenBlocks}
+use Rattle.bcn_spec.specs.Bits.{blockSize}
+use Rattle.bcn_spec.specs.Bits.{blocksIn, blockAt}
 use Rattle.bc7_spec.specs.Block.{byteCount, bytesOf}
 use Rattle.bc7_blocks.specs.declared.Bc7BlocksPixels.{Bc7BlocksPixels}
 

@@ -1,7 +1,7 @@
 // The pixels of a run of BC7 blocks.
-use bc6h_spec::Answer;
-use bc6h_spec::Block;
 use bc7::Bc7Pixels;
+use bcn_spec::Answer;
+use bcn_spec::Block;
 ghost use mathlib.Core.Path.{_≡_};
 ghost use mathlib.Core.List.{_++_};
 ghost use Prim.Native.Nat.{_*_, _≤_};

@@ -9,7 +9,8 @@ use lib.ListN.{getD}
 use Rattle.laws.specs.Pick.{pick, both}
 use Rattle.laws.specs.Every.{below, same}
 use Rattle.laws.proofs.Tests.{both-left, both-right, below-at, same-eq}
-use Rattle.bc7_spec.specs.Rows.{partitionSet3, regionOf, fixupsOf}
+use Rattle.bcn_spec.specs.Rows.{partitionSet3, fixupsOf}
+use Rattle.bc7_spec.specs.Rows.{regionOf}
 use Rattle.bcn_util.proofs.Indexing.{Rising}
 use Rattle.bcn_data.specs.declared.Subset2Map.{Subset2Map}
 use Rattle.bcn_data.specs.declared.Subset3Map.{Subset3Map}

@@ -8,7 +8,7 @@ use lib.ListN.{length, replicate, length-replicate}
 use Rattle.laws.specs.Pick.{pick}
 use Rattle.laws.specs.Made.{made}
 use Rattle.laws.proofs.Rows.{length-made}
-use Rattle.bc6h_spec.specs.Bits.{numberOf}
+use Rattle.bcn_spec.specs.Bits.{numberOf}
 use Rattle.bc7_spec.specs.Fields.{reserved, modeOf}
 use Rattle.bc7_spec.specs.Block.{byteIn, byteCount, bytesOf}
 

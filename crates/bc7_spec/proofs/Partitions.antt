@@ -9,8 +9,9 @@ use lib.ListN.{length, getD}
 use Rattle.laws.specs.Pick.{pick, both}
 use Rattle.laws.specs.Every.{below}
 use Rattle.laws.proofs.Tests.{both-left, both-right, below-at}
-use Rattle.bc6h_spec.specs.Regions.{regionsIn}
-use Rattle.bc7_spec.specs.Rows.{partitionSet3, rowOf, regionOf, fixupsOf}
+use Rattle.bcn_spec.specs.Regions.{regionsIn}
+use Rattle.bcn_spec.specs.Rows.{partitionSet3, rowOf, fixupsOf}
+use Rattle.bc7_spec.specs.Rows.{regionOf}
 
 -- the first pixel of a list that lies in region r
 abbrev pub fixupAmong : (ℕ → ℕ) → ℕ → List ℕ → ℕ

@@ -6,8 +6,9 @@ use lib.Dec.{T, eqb}
 use lib.ListN.{getD}
 use Rattle.laws.specs.Pick.{both}
 use Rattle.laws.specs.Every.{below}
-use Rattle.bc6h_spec.specs.Regions.{regionsIn}
-use Rattle.bc7_spec.specs.Rows.{partitionSet3, rowOf, regionOf, fixupsOf}
+use Rattle.bcn_spec.specs.Regions.{regionsIn}
+use Rattle.bcn_spec.specs.Rows.{partitionSet3, rowOf, fixupsOf}
+use Rattle.bc7_spec.specs.Rows.{regionOf}
 use Rattle.bc7_spec.proofs.Partitions.{fixupIn}
 
 -- digits in a base, the first the lowest

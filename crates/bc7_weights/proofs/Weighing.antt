@@ -15,7 +15,7 @@ use Rattle.laws.specs.Packed.{before, unpacked}
 use Rattle.laws.proofs.Opening.{unpacked-low}
 use Rattle.laws.proofs.Rows.{made-same}
 use Rattle.laws.proofs.Tests.{both-left, both-right, below-at, cases}
-use Rattle.bc6h_spec.specs.Picture.{weights8, weights16}
+use Rattle.bcn_spec.specs.Weights.{weights8, weights16}
 use Rattle.bcn_util.specs.declared.Indexes.{Indexes}
 use Rattle.bcn_util.specs.Indexed.{indexAt, indexesOf}
 use Rattle.bcn_util.proofs.Indexing.{Rising, index-read}

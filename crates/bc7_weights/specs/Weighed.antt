@@ -4,7 +4,7 @@ use mathlib.Core.List.{List, [], _∷_}
 use Prim.Native.Nat.{ℕ}
 use lib.ListN.{getD}
 use Rattle.laws.specs.Made.{made}
-use Rattle.bc6h_spec.specs.Fields.{indexIn}
+use Rattle.bcn_spec.specs.Indices.{indexIn}
 use Rattle.bcn_util.specs.declared.Indexes.{Indexes}
 use Rattle.bcn_util.specs.Indexed.{indexAt}
 use Rattle.bc7_spec.specs.Bytes.{weightOf}

@@ -2,8 +2,8 @@
 use mathlib.Core.Path.{_≡_, ap}
 use Prim.Native.Nat.{ℕ, _<_, _≤_}
 use native.Mathlib.Omega.{arith}
-use Rattle.bc6h_spec.specs.Regions.{fixupOf}
-use Rattle.bc6h_spec.proofs.Partitions.{rule, fixup-positive}
+use Rattle.bcn_spec.specs.Regions.{fixupOf}
+use Rattle.bcn_spec.proofs.Partitions.{rule, fixup-positive}
 use Rattle.bcn_data.specs.declared.Subset2Map.{Subset2Map}
 use Rattle.bcn_data.specs.Subsets.{subset2}
 

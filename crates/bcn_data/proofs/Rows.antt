@@ -8,8 +8,8 @@ use lib.Dec.{T, eqb, ltb, eqb→eq, ltb→lt}
 use Rattle.laws.specs.Pick.{both}
 use Rattle.laws.specs.Every.{below}
 use Rattle.laws.proofs.Tests.{both-left, both-right, below-at}
-use Rattle.bc6h_spec.specs.Regions.{partitions, mapOf, fixupOf}
-use Rattle.bc7_spec.specs.Rows.{partitionSet3, fixupsOf}
+use Rattle.bcn_spec.specs.Regions.{partitions, mapOf, fixupOf}
+use Rattle.bcn_spec.specs.Rows.{partitionSet3, fixupsOf}
 use Rattle.bcn_data.specs.declared.Subset2Map.{Subset2Map}
 use Rattle.bcn_data.specs.declared.Subset3Map.{Subset3Map}
 use Rattle.bcn_data.specs.Subsets.{subset2, maskOf, fixupAt, row2, row3, packedRow2, threeRow}

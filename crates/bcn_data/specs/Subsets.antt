@@ -5,8 +5,8 @@ use lib.Dec.{eqb}
 use lib.ListN.{getD}
 use Rattle.laws.specs.Pick.{pick}
 use Rattle.laws.specs.Bit.{ofBits}
-use Rattle.bc6h_spec.specs.Regions.{regionsIn, mapOf, fixupOf}
-use Rattle.bc7_spec.specs.Rows.{rowOf, fixupsOf}
+use Rattle.bcn_spec.specs.Regions.{regionsIn, mapOf, fixupOf}
+use Rattle.bcn_spec.specs.Rows.{rowOf, fixupsOf}
 use Rattle.bcn_data.specs.declared.Subset2Map.{Subset2Map}
 use Rattle.bcn_data.specs.declared.Subset3Map.{Subset3Map}
 

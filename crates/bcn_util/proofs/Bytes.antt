@@ -7,7 +7,7 @@ use native.Mathlib.Numerals.{add-one}
 use native.Mathlib.Omega.{arith}
 use lib.ListN.{length, getD, drop}
 use lib.Seq.{drop-cons, drop-length}
-use Rattle.bc6h_spec.specs.Bits.{numberOf}
+use Rattle.bcn_spec.specs.Bits.{numberOf}
 use Rattle.bcn_util.specs.Stream.{LowBytes}
 
 byte : (l : List ℕ) (k : ℕ) → k < length l → numberOf (drop k l) ≡ getD l k 0 + 256 * numberOf (drop (k + 1) l)

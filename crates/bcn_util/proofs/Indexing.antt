@@ -10,7 +10,7 @@ use borrow.Author.Tests.{eq-eqb, ne-eqb}
 use Rattle.laws.specs.Pick.{pick, either}
 use Rattle.laws.specs.Packed.{before, unpacked, opened}
 use Rattle.laws.proofs.Opening.{unpacked-low, before-mono, Wider, before-more, opened-read}
-use Rattle.bc6h_spec.specs.Fields.{has, storedBits, indexIn}
+use Rattle.bcn_spec.specs.Indices.{has, storedBits, indexIn}
 use Rattle.bcn_util.specs.Indexed.{storedCount, expanded, indexesOf, indexAt}
 
 -- the fix-up pixels go up, from `low` on, and stay below `high`

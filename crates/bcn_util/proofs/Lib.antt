@@ -3,4 +3,3 @@ pub mod Bytes
 pub mod Expand
 pub mod Indexing
 pub mod Listed
-pub mod Runs

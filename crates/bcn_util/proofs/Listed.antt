@@ -5,8 +5,8 @@ use Prim.Native.Nat.{ℕ, _-_, _≤_}
 use lib.ListN.{take, drop}
 use Rattle.laws.specs.Bit.{bitsOf, ofBits}
 use Rattle.laws.proofs.Digits.{first, rest}
-use Rattle.bc6h_spec.specs.Bits.{IsBlock, blockBits, numberOf}
-use Rattle.bc6h_spec.proofs.Bytes.{bits-of-block}
+use Rattle.bcn_spec.specs.Bits.{IsBlock, blockBits, numberOf}
+use Rattle.bcn_spec.proofs.Bytes.{bits-of-block}
 use Rattle.bcn_util.specs.Stream.{Read}
 
 -- the stream of a block starts as the list of its 128 bits

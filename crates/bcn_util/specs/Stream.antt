@@ -3,7 +3,7 @@ use mathlib.Core.Path.{_≡_}
 use mathlib.Core.List.{List}
 use Prim.Native.Nat.{ℕ, _+_, _*_, _/_, _%_, _^_, _<_}
 use lib.ListN.{drop}
-use Rattle.bc6h_spec.specs.Bits.{numberOf}
+use Rattle.bcn_spec.specs.Bits.{numberOf}
 use Rattle.bcn_util.specs.declared.BitStream.{BitStream}
 
 -- "two 64-bit words, moved as one": the number that they make

@@ -4,7 +4,7 @@ ghost use mathlib.Core.List.{[], _∷_};
 ghost use Prim.Native.Nat.{_+_, _-_, _*_, _/_, _%_, _^_, _≤_, _<_};
 ghost use lib.ListN.{length};
 ghost use Rattle.laws.specs.Packed.{opened};
-ghost use Rattle.bc6h_spec.specs.Bits.{numberOf};
+ghost use Rattle.bcn_spec.specs.Bits.{numberOf};
 ghost use Rattle.bcn_util.specs.Stream.{number, LowBytes, Read};
 ghost use Rattle.bcn_util.specs.Indexed.{indexesOf, indexAt};
 

@@ -1,6 +1,6 @@
 // Standard input is a run of BC7 blocks, sixteen bytes each. For each it writes 66 bytes: the answer, the mode, and 64 bytes, four for each
 // pixel, all zero on a refusal. A last piece below sixteen bytes goes to the call as it is, which answers 2.
-use bc6h_spec::Block;
+use bcn_spec::Block;
 use libc::STDIN_FILENO;
 use libc::STDOUT_FILENO;
 ghost use mathlib.Core.Path.{_≡_};

@@ -7,7 +7,7 @@ use lib.ListN.{length, getD, take, drop, replicate}
 use Rattle.laws.specs.Pick.{pick, both}
 use Rattle.laws.specs.Every.{same}
 use Rattle.laws.specs.Made.{made}
-use Rattle.bc6h_spec.specs.Bits.{blockSize}
+use Rattle.bcn_spec.specs.Bits.{blockSize}
 use Rattle.bc6h_spec.specs.Picture.{valueCount}
 use Rattle.bc6.specs.Call.{refusalOf, answerAt, valuesAt}
 

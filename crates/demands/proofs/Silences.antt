@@ -5,7 +5,7 @@ use mathlib.Core.List.{List, [], _∷_}
 use Prim.Native.Nat.{ℕ, zero, suc}
 use lib.ListN.{length, getD, replicate}
 use Rattle.laws.specs.Made.{made}
-use Rattle.bc6h_spec.specs.Answers.{done}
+use Rattle.bcn_spec.specs.Answers.{done}
 use Rattle.bc6h_spec.specs.Fields.{noFields, modeOf}
 use Rattle.bc6_numbers.specs.Numbers.{numberAt, numbersOf}
 use Rattle.bc6.specs.declared.Pixels.{Pixels}

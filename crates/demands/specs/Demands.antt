@@ -8,8 +8,8 @@ use Prim.Native.Nat.{ℕ, _+_, _-_, _*_, _/_, _%_, _≤_, _<_}
 use lib.ListN.{length, take, drop}
 use Rattle.laws.specs.Order.{Reordered}
 use Rattle.bc6h_spec.specs.declared.Fields.{Fields}
-use Rattle.bc6h_spec.specs.Answers.{done}
-use Rattle.bc6h_spec.specs.Bits.{blockSize, IsBlock}
+use Rattle.bcn_spec.specs.Answers.{done}
+use Rattle.bcn_spec.specs.Bits.{blockSize, IsBlock}
 use Rattle.bc6h_spec.specs.Fields.{modeOf, Valid}
 use Rattle.bc6h_spec.specs.Picture.{isSigned, valueCount}
 use Rattle.bc6h_spec.specs.Block.{pixelsOf}
@@ -18,7 +18,8 @@ use Rattle.store_copies.specs.Wide.{Suited, Matched}
 use Rattle.bc6.specs.declared.Pixels.{Pixels}
 use Rattle.bc6.specs.Call.{Painted}
 use Rattle.bc6_blocks.specs.declared.BlocksPixels.{BlocksPixels}
-use Rattle.bc6_blocks.specs.Run.{blocksIn, blockAt, RunPainted}
+use Rattle.bcn_spec.specs.Bits.{blocksIn, blockAt}
+use Rattle.bc6_blocks.specs.Run.{RunPainted}
 use Rattle.bc6_fields.specs.declared.FieldsRead.{FieldsRead}
 use Rattle.bc6_fields.specs.Call.{Extracted}
 use Rattle.bc6_writer.specs.Call.{Written}

@@ -8,8 +8,8 @@ use borrow.Author.Tests.{le-ltb, eq-eqb}
 use Rattle.laws.specs.Pick.{pick}
 use Rattle.laws.proofs.Search.{is-true}
 use Rattle.bc6h_spec.specs.declared.Fields.{Fields}
-use Rattle.bc6h_spec.specs.Answers.{done, shortOutput}
-use Rattle.bc6h_spec.specs.Bits.{blockSize}
+use Rattle.bcn_spec.specs.Answers.{done, shortOutput}
+use Rattle.bcn_spec.specs.Bits.{blockSize}
 use Rattle.bc6h_spec.specs.Fields.{modeOf, fieldsOf, Valid}
 use Rattle.bc6h_spec.specs.Picture.{valueCount, isSigned, picture}
 use Rattle.bc6h_spec.specs.Block.{pixelsOf}

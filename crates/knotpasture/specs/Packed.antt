@@ -5,7 +5,7 @@ use Prim.Native.Nat.{ℕ, zero, suc, _+_, _-_, _*_}
 use lib.Dec.{ltb}
 use lib.ListN.{length, drop}
 use Rattle.laws.specs.Pick.{pick}
-use Rattle.bc6h_spec.specs.Answers.{done, shortOutput}
+use Rattle.bcn_spec.specs.Answers.{done, shortOutput}
 use Rattle.bc6h_spec.specs.Fields.{modeOf, fieldsOf}
 use Rattle.bc6_fields.specs.Call as fields
 use Rattle.bc6_numbers.specs.Numbers.{numberCount, numbersOf}

@@ -1,5 +1,5 @@
 // The calls over DDS files.
-use bc6h_spec::Answer;
+use bcn_spec::Answer;
 use dds::DdsRead;
 ghost use mathlib.Core.Path.{_≡_};
 ghost use Prim.Native.Nat.{_+_, _*_, _^_, _<_, _≤_};

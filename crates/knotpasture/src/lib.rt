@@ -9,7 +9,7 @@ pub mod shown;
 pub mod stores;
 
 use bc6_numbers::Numbers;
-use bc6h_spec::Answer;
+use bcn_spec::Answer;
 use store_records::Record;
 use store_records::RecordReading;
 use store_spec::TwinList;

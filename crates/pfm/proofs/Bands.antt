@@ -14,7 +14,7 @@ use Rattle.bc6h_spec.specs.Block.{pixelsOf}
 use Rattle.bc6.specs.declared.Pixels.{Pixels}
 use Rattle.bc6.specs.Call.{Painted}
 use Rattle.bc6.proofs.Values.{unsigned-highest, signed-highest}
-use Rattle.bc6_blocks.specs.Run.{blockAt}
+use Rattle.bcn_spec.specs.Bits.{blockAt}
 use Rattle.bc6_blocks.proofs.Decoded.{decoding-done}
 use Rattle.pfm_floats.specs.declared.Rgb.{Rgb}
 use Rattle.pfm_floats.specs.Half.{IsNumber}

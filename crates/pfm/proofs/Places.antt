@@ -7,10 +7,10 @@ use native.Mathlib.Omega.{arith}
 use lib.ListN.{length, take, drop}
 use lib.Seq.{drop-drop, drop-at, take-take}
 use Rattle.laws.specs.Made.{made, join}
-use Rattle.bc6h_spec.specs.Answers.{done}
+use Rattle.bcn_spec.specs.Answers.{done}
 use Rattle.bc6h_spec.specs.Picture.{isSigned}
 use Rattle.bc6h_spec.specs.Block.{pixelsOf}
-use Rattle.bc6_blocks.specs.Run.{blockAt}
+use Rattle.bcn_spec.specs.Bits.{blockAt}
 use Rattle.pfm_header.specs.Header.{headerOf, headerLength}
 use Rattle.pfm_header.proofs.Text.{length-header}
 use Rattle.pfm.specs.declared.PfmWritten.{PfmWritten}

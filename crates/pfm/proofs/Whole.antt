@@ -9,7 +9,7 @@ use Rattle.laws.specs.Made.{join}
 use Rattle.laws.proofs.Rows.{made-same}
 use Rattle.bc6h_spec.specs.Picture.{isSigned}
 use Rattle.bc6h_spec.specs.Block.{pixelsOf}
-use Rattle.bc6_blocks.specs.Run.{blockAt}
+use Rattle.bcn_spec.specs.Bits.{blockAt}
 use Rattle.pfm.specs.File.{pixelBytes, pixelAt, rowAt, rowUp, bodyOf}
 use Rattle.pfm.specs.Bands.{cellAt, lineAt, bandAt, bandUp, bandsOf}
 use Rattle.laws.proofs.Joined.{run-fours, run-length}

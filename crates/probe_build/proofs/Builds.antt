@@ -12,8 +12,8 @@ use Rattle.laws.specs.Pick.{both}
 use Rattle.laws.specs.Made.{made, join}
 use Rattle.laws.proofs.Tests.{cases, both-true}
 use Rattle.laws.proofs.Joined.{run-length}
-use Rattle.bc6h_spec.specs.Answers.{done, badFormat, shortOutput, badBlocks, badEdge}
-use Rattle.bc6h_spec.specs.Bits.{blockSize}
+use Rattle.bcn_spec.specs.Answers.{done, badFormat, shortOutput, badBlocks, badEdge}
+use Rattle.bcn_spec.specs.Bits.{blockSize}
 use Rattle.probe_places.specs.declared.Place.{Place}
 use Rattle.probe_places.specs.Places.{placeSize}
 use Rattle.probe.specs.Probe.{edgeLimit}

@@ -8,8 +8,8 @@ use lib.Dec.{lit<}
 use lib.ListN.{length, getD, take, drop, length-take, length-drop}
 use lib.Seq.{ext-getD, getD-take, getD-drop}
 use Rattle.laws.proofs.Joined.{run-value}
-use Rattle.bc6h_spec.specs.Answers.{done}
-use Rattle.bc6h_spec.specs.Bits.{blockSize}
+use Rattle.bcn_spec.specs.Answers.{done}
+use Rattle.bcn_spec.specs.Bits.{blockSize}
 use Rattle.probe_places.specs.declared.Fault.{Fault}
 use Rattle.probe_places.specs.Places.{placeSize, faceCount, placesIn, byteAt, tileIn, formatIn, faceIn, columnIn, rowIn, placeIn, blockIn}
 use Rattle.probe_places.proofs.Checks.{Fine, fine-so, on-face}

@@ -6,8 +6,8 @@ use lib.Dec.{eqb, ltb}
 use lib.ListN.{length, getD, drop}
 use Rattle.laws.specs.Pick.{pick, both}
 use Rattle.laws.specs.Made.{made, join}
-use Rattle.bc6h_spec.specs.Answers.{done, badFormat, shortOutput, badBlocks, badEdge}
-use Rattle.bc6h_spec.specs.Bits.{blockSize}
+use Rattle.bcn_spec.specs.Answers.{done, badFormat, shortOutput, badBlocks, badEdge}
+use Rattle.bcn_spec.specs.Bits.{blockSize}
 use Rattle.probe_places.specs.declared.Place.{Place}
 use Rattle.probe_places.specs.Places.{placeSize}
 use Rattle.probe.specs.Probe.{edgeLimit, placeOf}

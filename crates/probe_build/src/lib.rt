@@ -4,13 +4,13 @@ ghost use mathlib.Core.Path.{_≡_};
 ghost use mathlib.Core.List.{_++_};
 ghost use Prim.Native.Nat.{_+_, _*_, _%_, _≤_, _<_};
 ghost use lib.ListN.{length, getD, drop};
-ghost use Rattle.bc6h_spec.specs.Bits.{blockSize};
+ghost use Rattle.bcn_spec.specs.Bits.{blockSize};
 ghost use Rattle.probe_places.specs.Places.{placeSize};
 ghost use Rattle.probe.specs.Probe.{edgeLimit};
 ghost use Rattle.probe_build.specs.Building.{recordCount, placeFor, tileFor, headOf, recordWith, builtOf, buildRefusal, builtAt, BuiltTo};
 ghost use Rattle.probe_build.specs.Edges.{edgeOf};
-use bc6h_spec::Answer;
-use bc6h_spec::Block;
+use bcn_spec::Answer;
+use bcn_spec::Block;
 use probe::ProbePixel;
 use probe_places::Place;
 

@@ -10,7 +10,7 @@ use borrow.Author.Tests.{lt-ltb, le-ltb, ltb-true, ltb-false}
 use Rattle.laws.specs.Made.{made, join}
 use Rattle.laws.proofs.Tests.{cases}
 use Rattle.laws.proofs.Rows.{getD-made}
-use Rattle.bc6h_spec.specs.Answers.{done, shortOutput, noPixel}
+use Rattle.bcn_spec.specs.Answers.{done, shortOutput, noPixel}
 use Rattle.probe_places.specs.declared.Fault.{Fault}
 use Rattle.probe_places.specs.Faults.{noFault, faultAlone}
 use Rattle.probe_places.specs.Places.{faceCount}

@@ -6,7 +6,7 @@ use lib.Dec.{ltb}
 use lib.ListN.{length, getD, drop}
 use Rattle.laws.specs.Pick.{pick}
 use Rattle.laws.specs.Made.{made, join}
-use Rattle.bc6h_spec.specs.Answers.{done, shortOutput, noPixel}
+use Rattle.bcn_spec.specs.Answers.{done, shortOutput, noPixel}
 use Rattle.probe_places.specs.declared.Fault.{Fault}
 use Rattle.probe_places.specs.Places.{faceCount}
 use Rattle.probe.specs.Probe.{thenAlone, probeFault, tripleFor}

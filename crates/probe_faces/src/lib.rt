@@ -10,8 +10,8 @@ ghost use Rattle.probe.specs.Probe.{IsProbe};
 ghost use Rattle.probe.specs.Held.{Held};
 ghost use Rattle.probe_faces.specs.Face.{faceOf, faceRefusal, FacePainted};
 ghost use Rattle.probe_faces.specs.Strip.{stripOf, pieceValue, stripRow};
-use bc6h_spec::Answer;
-use bc6h_spec::Block;
+use bc6h_spec::Picture;
+use bcn_spec::Answer;
 use probe::ProbePixel;
 use probe::check_places;
 use probe::held_record;
@@ -34,7 +34,7 @@ fn hold_strip(
 {
     for column in 0..edge {
         let n = held_record(store, edge, holders, face, column, row);
-        let at = Block::VALUES * column;
+        let at = Picture::VALUES * column;
         show_block(store, n, &mut strip[at..]);
     }
 }

@@ -8,7 +8,7 @@ use lib.ListN.{length, take, drop}
 use lib.Seq.{take-at, drop-at}
 use borrow.Author.Tests.{eqb-true, eqb-false, ltb-true, ltb-false}
 use Rattle.laws.proofs.Tests.{cases}
-use Rattle.bc6h_spec.specs.Answers.{done, placedRecord}
+use Rattle.bcn_spec.specs.Answers.{done, placedRecord}
 use Rattle.store_records.specs.Store.{recordSize, storeLimit, recordsIn, tileOf, formatOf, blockOf, recordRefusal, Unrefused}
 use Rattle.store_records.proofs.Refusals.{known}
 use Rattle.probe_places.specs.declared.Fault.{Fault}

@@ -7,7 +7,7 @@ use lib.Dec.{eqb, ltb}
 use borrow.Author.Tests.{lt-ltb, le-ltb, eq-eqb, ne-eqb, ltb-false, eqb-true}
 use Rattle.laws.specs.Pick.{pick}
 use Rattle.laws.proofs.Tests.{cases}
-use Rattle.bc6h_spec.specs.Answers.{done, shortOutput, longStore, unevenStore, placedRecord}
+use Rattle.bcn_spec.specs.Answers.{done, shortOutput, longStore, unevenStore, placedRecord}
 use Rattle.probe_places.specs.declared.Place.{Place}
 use Rattle.probe_places.specs.Faults.{orNext}
 use Rattle.probe_places.specs.Places.{faceCount, faceIn, placeIn, placed, placeRecordRefusal}

@@ -6,7 +6,7 @@ use native.Mathlib.Omega.{arith}
 use lib.ListN.{length, drop}
 use borrow.Author.Tests.{lt-ltb, le-ltb, ne-eqb}
 use Rattle.laws.proofs.Rows.{length-made}
-use Rattle.bc6h_spec.specs.Answers.{done}
+use Rattle.bcn_spec.specs.Answers.{done}
 use Rattle.store_records.specs.Store.{recordSize, storeLimit, recordsIn, byteOf}
 use Rattle.probe_places.specs.Places.{placeSize, placeHead, placeLimit, noFace, placesIn, byteAt}
 use Rattle.probe_places.specs.declared.Fault.{Fault}

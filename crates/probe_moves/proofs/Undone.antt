@@ -11,7 +11,7 @@ use borrow.Author.Tests.{ltb-true, ltb-false, eqb-true, eqb-false}
 use Rattle.laws.specs.Pick.{pick}
 use Rattle.laws.proofs.Tests.{cases, both-true}
 use Rattle.laws.proofs.Rows.{getD-made}
-use Rattle.bc6h_spec.specs.Answers.{done, placedRecord}
+use Rattle.bcn_spec.specs.Answers.{done, placedRecord}
 use Rattle.store_records.specs.Store.{recordsIn, byteOf, formatOf, tileOf, blockOf, Unrefused}
 use Rattle.store_records.proofs.Refusals.{known, spare-is}
 use Rattle.store_records.proofs.Refusals as checks

@@ -6,7 +6,7 @@ use lib.Dec.{eqb, ltb}
 use lib.ListN.{length, drop}
 use Rattle.laws.specs.Pick.{pick}
 use Rattle.laws.specs.Made.{made}
-use Rattle.bc6h_spec.specs.Answers.{done, shortOutput, longStore, unevenStore, placedRecord}
+use Rattle.bcn_spec.specs.Answers.{done, shortOutput, longStore, unevenStore, placedRecord}
 use Rattle.store_records.specs.Store.{recordSize, headSize, storeLimit, recordsIn, byteOf, recordRefusal}
 use Rattle.probe_places.specs.declared.Fault.{Fault}
 use Rattle.probe_places.specs.Faults.{orNext, firstFault, wholeFirst}

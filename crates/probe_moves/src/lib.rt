@@ -8,7 +8,7 @@ ghost use Rattle.store_records.specs.Store.{recordSize, recordsIn, recordRefusa
 ghost use Rattle.probe_places.specs.Faults.{firstFault};
 ghost use Rattle.probe_places.specs.Places.{placeSize, placesIn};
 ghost use Rattle.probe_moves.specs.Moves.{placedAt, placedStore, oldAt, oldStore, backRefusal, placingFault, unplacingFault, movedAt, PlacedStore, UnplacedStore};
-use bc6h_spec::Answer;
+use bcn_spec::Answer;
 use probe_places::Fault;
 use probe_places::Place;
 use probe_places::place_at;

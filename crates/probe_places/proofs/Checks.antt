@@ -10,7 +10,7 @@ use Rattle.laws.specs.Every.{below}
 use Rattle.laws.proofs.Tests.{cases, below-at}
 use Rattle.laws.proofs.Search.{holds, is-true}
 use Rattle.laws.proofs.Below.{below-all, below-more, below-fails, below-upto}
-use Rattle.bc6h_spec.specs.Answers.{done, badFormat, spareByte, badPlace}
+use Rattle.bcn_spec.specs.Answers.{done, badFormat, spareByte, badPlace}
 use Rattle.probe_places.specs.declared.Place.{Place}
 use Rattle.probe_places.specs.Places.{faceCount, noFace, byteAt, formatIn, faceIn, columnIn, rowIn, placeIn, zeroByte, restZero, placeRefusal, placeRecordRefusal}
 

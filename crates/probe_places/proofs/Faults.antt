@@ -9,7 +9,7 @@ use Rattle.laws.specs.First.{firstBelow}
 use Rattle.laws.proofs.Tests.{cases}
 use Rattle.laws.proofs.Firsts.{first-end, first-at, first-passes, first-least}
 use Rattle.laws.proofs.Sameness.{true-false}
-use Rattle.bc6h_spec.specs.Answers.{done}
+use Rattle.bcn_spec.specs.Answers.{done}
 use Rattle.probe_places.specs.declared.Fault.{Fault}
 use Rattle.probe_places.specs.Faults.{noFault, isFaulty, firstFault, faultAlone, wholeFirst}
 

@@ -8,8 +8,8 @@ use lib.Dec.{eqb, ltb}
 use lib.ListN.{length, length-take, length-drop}
 use borrow.Author.Tests.{lt-ltb, le-ltb, eq-eqb, ne-eqb, ltb-true, ltb-false, eqb-true}
 use Rattle.laws.proofs.Tests.{cases}
-use Rattle.bc6h_spec.specs.Answers.{done, longStore, unevenStore, noRecord}
-use Rattle.bc6h_spec.specs.Bits.{blockSize}
+use Rattle.bcn_spec.specs.Answers.{done, longStore, unevenStore, noRecord}
+use Rattle.bcn_spec.specs.Bits.{blockSize}
 use Rattle.probe_places.specs.declared.Place.{Place}
 use Rattle.probe_places.specs.declared.PlacedRecord.{PlacedRecord}
 use Rattle.probe_places.specs.declared.PlacedReading.{PlacedReading}

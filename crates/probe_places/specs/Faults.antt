@@ -4,7 +4,7 @@ use Prim.Native.Nat.{ℕ, zero, suc}
 use lib.Dec.{eqb, ltb}
 use Rattle.laws.specs.Pick.{pick}
 use Rattle.laws.specs.First.{firstBelow}
-use Rattle.bc6h_spec.specs.Answers.{done}
+use Rattle.bcn_spec.specs.Answers.{done}
 use Rattle.probe_places.specs.declared.Fault.{Fault}
 
 -- the second check where the first is not met

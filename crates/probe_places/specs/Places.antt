@@ -7,8 +7,8 @@ use lib.Dec.{eqb, ltb}
 use lib.ListN.{length, getD, take, drop}
 use Rattle.laws.specs.Pick.{pick, both, either}
 use Rattle.laws.specs.Every.{below}
-use Rattle.bc6h_spec.specs.Answers.{done, badFormat, spareByte, badPlace}
-use Rattle.bc6h_spec.specs.Bits.{blockSize}
+use Rattle.bcn_spec.specs.Answers.{done, badFormat, spareByte, badPlace}
+use Rattle.bcn_spec.specs.Bits.{blockSize}
 use Rattle.probe_places.specs.declared.Place.{Place}
 
 -- "The new record has 32 bytes, still with no header: tile (4), format (1), face (1), column (2), row (2), six zero bytes, block (16)."

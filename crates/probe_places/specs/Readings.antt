@@ -5,7 +5,7 @@ use Prim.Native.Nat.{ℕ, zero, suc, _%_}
 use lib.Dec.{eqb, ltb}
 use lib.ListN.{length}
 use Rattle.laws.specs.Pick.{pick}
-use Rattle.bc6h_spec.specs.Answers.{done, longStore, unevenStore, noRecord}
+use Rattle.bcn_spec.specs.Answers.{done, longStore, unevenStore, noRecord}
 use Rattle.probe_places.specs.declared.PlacedReading.{PlacedReading}
 use Rattle.probe_places.specs.declared.PlacedReading.the-variants.{Record, Refused}
 use Rattle.probe_places.specs.Places.{placeSize, placeLimit, placesIn, tileIn, formatIn, faceIn, columnIn, rowIn, blockIn, placeRecordRefusal}

@@ -6,8 +6,8 @@ ghost use Prim.Native.Nat.{_<_};
 ghost use Rattle.probe_places.specs.Faults.{noFault, faultAlone};
 ghost use Rattle.probe_places.specs.Places.{placeSize, placeHead, placeLimit, faceCount, noFace, placesIn, placeIn, pairAt, tileIn, restZero, placeRefusal, placeRecordRefusal};
 ghost use Rattle.probe_places.specs.Readings.{placedRefusal, numberOf, placedPart, PlacedRead};
-use bc6h_spec::Answer;
-use bc6h_spec::Block;
+use bcn_spec::Answer;
+use bcn_spec::Block;
 
 // Where a record stands: face 0 to 5, or 255 where it is not placed.
 pub struct Place {

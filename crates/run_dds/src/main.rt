@@ -5,7 +5,7 @@
 // byte first. The number goes out, and where it is 0 the 148 bytes that stand before the blocks.
 //
 // Only the first bytes of the input are held, the others are counted: a file may have 16 MiB, and a program has its stack alone.
-use bc6h_spec::Answer;
+use bcn_spec::Answer;
 use dds::DdsRead;
 use libc::STDIN_FILENO;
 use libc::STDOUT_FILENO;

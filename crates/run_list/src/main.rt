@@ -4,11 +4,11 @@
 ghost use mathlib.Core.Path.{_≡_};
 ghost use Prim.Native.Nat.{_+_, _*_, _≤_};
 ghost use lib.ListN.{length};
-ghost use Rattle.bc6h_spec.specs.Answers.{done};
+ghost use Rattle.bcn_spec.specs.Answers.{done};
 ghost use Rattle.store_spec.specs.Twins.{mostRecords, Listed};
 ghost use Rattle.text.specs.Text.{Written};
 ghost use Rattle.run_list.specs.Listing.{listingRefusal, listingOf};
-use bc6h_spec::Answer;
+use bcn_spec::Answer;
 use run_streams::Input;
 use run_streams::StoreInput;
 use run_streams::first_bytes;

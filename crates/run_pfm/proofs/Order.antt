@@ -10,7 +10,7 @@ use lib.ListN.{length, drop}
 use borrow.Author.Tests.{eq-eqb, ne-eqb, le-ltb, ltb-false}
 use Rattle.laws.specs.Pick.{both}
 use Rattle.laws.proofs.Tests.{cases}
-use Rattle.bc6h_spec.specs.Answers.{done, badSize, badBlocks}
+use Rattle.bcn_spec.specs.Answers.{done, badSize, badBlocks}
 use Rattle.dds.specs.declared.DdsRead.{DdsRead}
 use Rattle.dds.specs.Dds.{headerSize, headerOurs, sizeOurs, blocksAlong, widthOf, heightOf, formatOf, headRefusal, HeadRead, FileRead, BlocksRead}
 use Rattle.dds.specs.Dds as dds

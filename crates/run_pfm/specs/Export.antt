@@ -6,7 +6,7 @@ use Prim.Native.Nat.{ℕ, _+_}
 use lib.Dec.{eqb, leb, ltb}
 use lib.ListN.{length, drop}
 use Rattle.laws.specs.Pick.{pick, both}
-use Rattle.bc6h_spec.specs.Answers.{done, shortOutput, foreignHeader, badSize, badBlocks, unevenSize}
+use Rattle.bcn_spec.specs.Answers.{done, shortOutput, foreignHeader, badSize, badBlocks, unevenSize}
 use Rattle.dds.specs.Dds.{headerSize, headerOurs, sizeOurs, blockBytes, widthOf, heightOf, formatOf}
 use Rattle.pfm.specs.declared.PfmWritten.{PfmWritten}
 use Rattle.pfm.specs.File.{sizeEven, fileLength, writtenAt, leftAt}

@@ -1,6 +1,6 @@
 // Standard input is a DDS file of at most 64 by 64 pixels. A number goes out, one byte, and where it is 0 the picture as a Portable Float
 // Map.
-use bc6h_spec::Answer;
+use bcn_spec::Answer;
 use dds::dds_blocks;
 use dds::dds_head;
 use dds::dds_read;

@@ -3,8 +3,8 @@
 // holds no record.
 
 use bc6_numbers::Numbers;
-use bc6h_spec::Block;
 use bc6h_spec::Fields;
+use bc6h_spec::Picture;
 use run_streams::Input;
 use run_streams::first_bytes;
 use run_streams::read_input;
@@ -61,7 +61,7 @@ fn half_of(value: u16, low: bool) -> u8
 }
 
 // Byte k of what is written: the answer, then each value's low byte and its high byte.
-fn byte_of(answer: u8, values: [u16; Block::VALUES], k: usize) -> u8
+fn byte_of(answer: u8, values: [u16; Picture::VALUES], k: usize) -> u8
     requires { ⌜ k < outputSize ⌝ }
     ensures { λ r. ⌜ r ≡ byteOf answer values k ⌝ }
 {
@@ -71,7 +71,7 @@ fn byte_of(answer: u8, values: [u16; Block::VALUES], k: usize) -> u8
     half_of(values[(k - 1) / 2], k % 2 == 1)
 }
 
-fn put_answer(answer: u8, values: [u16; Block::VALUES], out: &mut [u8])
+fn put_answer(answer: u8, values: [u16; Picture::VALUES], out: &mut [u8])
     requires { ⌜ outputSize ≤ length (now out) ⌝ }
     ensures { λ _. ⌜ now (out .exit) ≡ made (byteOf answer values) outputSize ++ drop outputSize (now (out .entry)) ⌝ }
 {
@@ -85,7 +85,7 @@ fn show(input: &[u8], out: &mut [u8])
     ensures { λ _. ⌜ now (out .exit) ≡ pictureBytes (now (input .entry)) ++ drop outputSize (now (out .entry)) ⌝ }
 {
     let fields = fields_in(input);
-    let mut values = [0u16; Block::VALUES];
+    let mut values = [0u16; Picture::VALUES];
     let answer = bc6_palette::fields_pixels(fields, &mut values);
     put_answer(answer, values, out);
 }

@@ -7,7 +7,7 @@ use native.Mathlib.Omega.{arith}
 use lib.ListN.{length, take, drop}
 use lib.Seq.{take-all, take-at, drop-at, paste, length-paste}
 use Rattle.laws.proofs.Pasting.{pasted}
-use Rattle.bc6h_spec.specs.Answers.{done}
+use Rattle.bcn_spec.specs.Answers.{done}
 use Rattle.store_records.specs.Store.{recordSize, recordsIn}
 use Rattle.store_spec.proofs.Listing as listing
 use Rattle.store_clean.specs.declared.Cleaned.{Cleaned}

@@ -14,7 +14,7 @@ use borrow.Author.Count.{below-none, below-more}
 use borrow.Author.Tests.{eq-eqb, ne-eqb, eqb-true, eqb-false, ltb-true, ltb-false}
 use Rattle.laws.proofs.Tests.{cases, both-true}
 use Rattle.laws.proofs.Sameness.{true-false, not-so}
-use Rattle.bc6h_spec.specs.Bits.{blockSize}
+use Rattle.bcn_spec.specs.Bits.{blockSize}
 use Rattle.store_records.specs.Store.{recordsIn, formatOf, blockOf, Unrefused}
 use Rattle.store_spec.specs.Shown.{Reserved, isRecord}
 use Rattle.store_spec.proofs.Shown.{is-record, is-refused}

@@ -12,8 +12,8 @@ use borrow.Author.Tests.{lt-ltb, le-ltb, eq-eqb, ltb-true, ltb-false}
 use Rattle.laws.specs.Pick.{pick}
 use Rattle.laws.proofs.Tests.{cases}
 use Rattle.laws.proofs.Sameness.{true-false, not-so}
-use Rattle.bc6h_spec.specs.Answers.{done, badFormat, spareByte}
-use Rattle.bc6h_spec.specs.Bits.{blockSize}
+use Rattle.bcn_spec.specs.Answers.{done, badFormat, spareByte}
+use Rattle.bcn_spec.specs.Bits.{blockSize}
 use Rattle.bc6h_spec.specs.Fields.{modeOf}
 use Rattle.store_records.specs.Store.{recordSize, headSize, storeLimit, recordsIn, byteOf, formatOf, spareZero, blockOf, recordRefusal}
 use Rattle.store_clean.specs.Clean.{Repeats, firstOf, goes, recordOf, cleanedOf, stayCount}

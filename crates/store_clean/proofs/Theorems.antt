@@ -9,7 +9,7 @@ use borrow.Author.Tests.{eqb-true, eqb-false}
 use Rattle.laws.proofs.Tests.{cases}
 use Rattle.laws.proofs.Rows.{length-made}
 use Rattle.laws.proofs.Sameness.{true-false, not-so}
-use Rattle.bc6h_spec.specs.Answers.{done}
+use Rattle.bcn_spec.specs.Answers.{done}
 use Rattle.bc6h_spec.specs.Picture.{isSigned}
 use Rattle.bc6h_spec.specs.Block.{pixelsOf}
 use Rattle.store_records.specs.Store.{recordSize, recordsIn}

@@ -8,7 +8,7 @@ use lib.ListN.{length, take, drop}
 use Rattle.laws.specs.Pick.{pick, both}
 use Rattle.laws.specs.Every.{same}
 use Rattle.laws.specs.First.{firstBelow}
-use Rattle.bc6h_spec.specs.Answers.{done}
+use Rattle.bcn_spec.specs.Answers.{done}
 use Rattle.store_records.specs.Store.{recordSize, recordsIn, formatOf, blockOf, Unrefused}
 use Rattle.store_spec.specs.Shown.{Reserved, isRecord, isReserved}
 use Rattle.store_spec.specs.Twins.{listRefusal}

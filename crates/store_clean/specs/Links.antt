@@ -7,7 +7,7 @@ use Prim.Native.Nat.{ℕ, zero, suc, _+_, _*_, _/_, _%_, _≤_, _<_}
 use lib.Dec.{eqb}
 use lib.ListN.{getD}
 use Rattle.laws.specs.Pick.{pick, both}
-use Rattle.bc6h_spec.specs.Bits.{blockSize}
+use Rattle.bcn_spec.specs.Bits.{blockSize}
 use Rattle.store_records.specs.Store.{formatOf, blockOf, Unrefused}
 use Rattle.store_spec.specs.Shown.{isRecord}
 use Rattle.store_clean.specs.Clean.{repeats, goes}

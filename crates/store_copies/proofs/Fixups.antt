@@ -8,8 +8,9 @@ use lib.Dec.{eqb, eqb·suc-zero, lit≤}
 use Rattle.laws.specs.Pick.{pick}
 use Rattle.laws.specs.Bit.{bit}
 use Rattle.bc6h_spec.specs.Layout.{twoRegions}
-use Rattle.bc6h_spec.specs.Regions.{mapOf, fixupOf, regionOf}
-use Rattle.bc6h_spec.proofs.Partitions.{Rule, rule}
+use Rattle.bcn_spec.specs.Regions.{mapOf, fixupOf}
+use Rattle.bc6h_spec.specs.Regions.{regionOf}
+use Rattle.bcn_spec.proofs.Partitions.{Rule, rule}
 use Rattle.store_copies.specs.Wide.{regions}
 
 -- the fix-up pixel of region r

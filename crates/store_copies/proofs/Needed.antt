@@ -14,9 +14,10 @@ use Rattle.laws.specs.Packed.{before, unpacked}
 use Rattle.laws.specs.Search.{some, distinct}
 use Rattle.laws.proofs.Tests.{both-left, both-right}
 use Rattle.laws.proofs.Search.{either-cases, Found, some-found, distinct-apart}
-use Rattle.bc6h_spec.specs.Bits.{IsBlock}
+use Rattle.bcn_spec.specs.Bits.{IsBlock}
 use Rattle.bc6h_spec.specs.Layout.{transformed, rows, row1, row2, row3, row4, row5, row6, row7, row8, row9, row10, row11, row12, row13, row14}
-use Rattle.bc6h_spec.specs.Regions.{partitions, regionOf, region1Of}
+use Rattle.bcn_spec.specs.Regions.{partitions}
+use Rattle.bc6h_spec.specs.Regions.{regionOf, region1Of}
 use Rattle.bc6h_spec.specs.Fields.{modeIn, modeOf, gathered, fieldsAt, fieldsOf, indexOf}
 use Rattle.bc6h_spec.specs.Half.{signExtend, keep, transform, unquantizeU, unquantizeM, unquantized, interpolated, finishU, scaled, finishS, finished}
 use Rattle.bc6h_spec.specs.Picture.{firstEnd, delta, otherEnd, endpoint, between, palette, value, isSigned, pictureAs, picture}

@@ -15,7 +15,7 @@ use Rattle.laws.proofs.Off.{Off, off-inj, off-pos, off-neg, off-raise, off-same
 use Rattle.bc6h_spec.specs.Half.{unquantizeU, unquantizeM, unquantized, interpolated, scaled, pattern, finishU, finishS, finished}
 use Rattle.bc6h_spec.specs.Picture.{between}
 use Rattle.bc6h_spec.proofs.Ranges.{uM-le}
-use Rattle.bc6h_spec.proofs.Weights.{Weights}
+use Rattle.bcn_spec.proofs.Weights.{Weights}
 use Rattle.store_copies.proofs.Region.{Palette}
 use Rattle.store_copies.proofs.Staircase.{unsigned-gap, signed-gap}
 use Rattle.store_copies.proofs.Mixing.{mixed, mixed-first, mixed-last, mixed-turned, mixed-above, mixed-below, off-mixed}

@@ -16,8 +16,10 @@ use Rattle.laws.specs.Pick.{pick}
 use Rattle.laws.proofs.Search.{is-true, either-other}
 use Rattle.bc6h_spec.specs.declared.Fields.{Fields}
 use Rattle.bc6h_spec.specs.Layout.{twoRegions, precision, ownWidth, transformed}
-use Rattle.bc6h_spec.specs.Regions.{regionOf, fixupOf}
-use Rattle.bc6h_spec.specs.Fields.{stored, indexOf, fixups, has, Valid}
+use Rattle.bcn_spec.specs.Regions.{fixupOf}
+use Rattle.bc6h_spec.specs.Regions.{regionOf}
+use Rattle.bcn_spec.specs.Indices.{has}
+use Rattle.bc6h_spec.specs.Fields.{stored, indexOf, fixups, Valid}
 use Rattle.bc6h_spec.specs.Picture.{firstEnd, otherEnd, endpoint, weights, palette, pictureAs}
 use Rattle.bc6h_spec.proofs.Pixel.{pixel-shows}
 use Rattle.bc6h_spec.proofs.Weights.{weights-even}

@@ -18,7 +18,7 @@ use Rattle.laws.proofs.Tests.{both-left, both-right, below-at}
 use Rattle.laws.proofs.Below.{below-all}
 use Rattle.laws.proofs.Search.{holds, both-hold, every-at, every-all, Found, some-found, some-at, distinct-apart, apart-distinct}
 use Rattle.bc6h_spec.specs.declared.Fields.{Fields}
-use Rattle.bc6h_spec.specs.Bits.{blockSize, IsBlock}
+use Rattle.bcn_spec.specs.Bits.{blockSize, IsBlock}
 use Rattle.bc6h_spec.specs.Layout.{twoRegions, precision}
 use Rattle.bc6h_spec.specs.Regions.{regionOf}
 use Rattle.bc6h_spec.specs.Fields.{modeOf, fieldsOf, indexOf}

@@ -16,7 +16,8 @@ use Rattle.laws.proofs.Tests.{both-left, both-right, below-at}
 use Rattle.laws.proofs.Search.{either-cases}
 use Rattle.bc6h_spec.specs.declared.Fields.{Fields}
 use Rattle.bc6h_spec.specs.Layout.{transformed, rows, row1, row2, row3, row4, row5, row6, row7, row8, row9, row10, row11, row12, row13, row14}
-use Rattle.bc6h_spec.specs.Regions.{partitions, regionOf, region1Of}
+use Rattle.bcn_spec.specs.Regions.{partitions}
+use Rattle.bc6h_spec.specs.Regions.{regionOf, region1Of}
 use Rattle.bc6h_spec.specs.Fields.{modeIn, modeOf, gathered, fieldsAt, fieldsOf}
 use Rattle.bc6h_spec.specs.Half.{signExtend, keep, transform, unquantizeU, unquantizeM, unquantized, interpolated, finishU, scaled, finishS, finished}
 use Rattle.bc6h_spec.specs.Picture.{firstEnd, delta, otherEnd, endpoint, between, palette, value, isSigned, pictureAs, picture}

@@ -12,7 +12,7 @@ use Rattle.laws.specs.Pick.{both}
 use Rattle.laws.specs.Every.{below, every}
 use Rattle.laws.specs.Search.{some, distinct}
 use Rattle.bc6h_spec.specs.declared.Fields.{Fields}
-use Rattle.bc6h_spec.specs.Bits.{blockSize}
+use Rattle.bcn_spec.specs.Bits.{blockSize}
 use Rattle.bc6h_spec.specs.Layout.{precision}
 use Rattle.bc6h_spec.specs.Regions.{regionOf}
 use Rattle.bc6h_spec.specs.Fields.{modeOf, fieldsOf, indexOf}

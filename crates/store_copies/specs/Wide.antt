@@ -7,7 +7,7 @@ use Prim.Native.Nat.{ℕ, _-_, _*_, _^_, _≤_, _<_}
 use lib.IntN.{pos, negℤ}
 use Rattle.laws.specs.Pick.{pick}
 use Rattle.bc6h_spec.specs.declared.Fields.{Fields}
-use Rattle.bc6h_spec.specs.Bits.{IsBlock}
+use Rattle.bcn_spec.specs.Bits.{IsBlock}
 use Rattle.bc6h_spec.specs.Layout.{twoRegions, precision}
 use Rattle.bc6h_spec.specs.Regions.{regionOf}
 use Rattle.bc6h_spec.specs.Fields.{modeOf, fieldsOf, indexOf}

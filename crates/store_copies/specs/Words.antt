@@ -4,7 +4,7 @@ use mathlib.Core.Logic.{_⊎_}
 use mathlib.Core.Bool.{Bool, false}
 use mathlib.Core.List.{List}
 use Prim.Native.Nat.{ℕ, _≤_, _<_}
-use Rattle.bc6h_spec.specs.Bits.{IsBlock}
+use Rattle.bcn_spec.specs.Bits.{IsBlock}
 use Rattle.bc6h_spec.specs.Fields.{modeOf, fieldsOf, indexOf}
 use Rattle.bc6h_spec.specs.Picture.{palette}
 use Rattle.bc6h_spec.specs.Block.{fieldsIn, pixelsOf}

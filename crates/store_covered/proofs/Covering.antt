@@ -11,8 +11,8 @@ use Rattle.laws.specs.Pick.{both}
 use Rattle.laws.proofs.Tests.{both-left, both-right}
 use Rattle.laws.proofs.Search.{holds, is-true}
 use Rattle.bc6h_spec.specs.declared.Fields.{Fields}
-use Rattle.bc6h_spec.specs.Answers.{done}
-use Rattle.bc6h_spec.specs.Bits.{blockSize}
+use Rattle.bcn_spec.specs.Answers.{done}
+use Rattle.bcn_spec.specs.Bits.{blockSize}
 use Rattle.bc6h_spec.specs.Fields.{modeOf, fieldsOf}
 use Rattle.bc6h_spec.proofs.Reading.{fields-mode}
 use Rattle.store_copies.specs.Trust.{Trusted, trusted}

@@ -7,7 +7,7 @@ use Prim.Native.Nat.{ℕ, _<_}
 use lib.Dec.{eqb, leb}
 use lib.ListN.{getD}
 use Rattle.laws.specs.Pick.{both}
-use Rattle.bc6h_spec.specs.Answers.{done}
+use Rattle.bcn_spec.specs.Answers.{done}
 use Rattle.bc6h_spec.specs.Fields.{modeOf, fieldsOf}
 use Rattle.store_copies.specs.Words.{Eligible, ChannelDiffers}
 use Rattle.store_copies.specs.Wide.{Suited, Matched}

@@ -9,7 +9,7 @@ use borrow.Author.Tests.{lt-ltb, le-ltb, eq-eqb}
 use Rattle.laws.specs.Pick.{either}
 use Rattle.laws.proofs.Tests.{cases}
 use Rattle.laws.proofs.Sameness.{true-false}
-use Rattle.bc6h_spec.specs.Answers.{done, badFormat, spareByte, reservedBlock, badPlace}
+use Rattle.bcn_spec.specs.Answers.{done, badFormat, spareByte, reservedBlock, badPlace}
 use Rattle.store_records.specs.Store.{recordsIn, formatOf, spareZero, recordRefusal}
 use Rattle.probe_places.specs.Places.{placesIn, formatIn, restZero, placeIn, placed, unplaced, placeRefusal, placeRecordRefusal}
 use Rattle.probe_places.specs.Readings.{placedRefusal}

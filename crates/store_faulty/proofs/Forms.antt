@@ -10,8 +10,8 @@ use lib.ListN.{length}
 use borrow.Author.Tests.{lt-ltb, le-ltb, eq-eqb, ne-eqb, eqb-true, ltb-false}
 use Rattle.laws.specs.Pick.{pick}
 use Rattle.laws.proofs.Tests.{cases}
-use Rattle.bc6h_spec.specs.Answers.{done, longStore, unevenStore, reservedBlock}
-use Rattle.bc6h_spec.specs.Bits.{blockSize, numberOf}
+use Rattle.bcn_spec.specs.Answers.{done, longStore, unevenStore, reservedBlock}
+use Rattle.bcn_spec.specs.Bits.{blockSize, numberOf}
 use Rattle.bc6h_spec.specs.Fields.{modeIn, modeOf}
 use Rattle.store_records.specs.Store.{recordRefusal, partAt}
 use Rattle.store_records.proofs.Refusals as plain

@@ -6,7 +6,7 @@ use Prim.Native.Nat.{ℕ, zero, suc, _+_, _/_, _%_, _≤_}
 use lib.Dec.{eqb, ltb}
 use lib.ListN.{length}
 use Rattle.laws.specs.Pick.{pick, both}
-use Rattle.bc6h_spec.specs.Answers.{done, longStore, unevenStore, reservedBlock}
+use Rattle.bcn_spec.specs.Answers.{done, longStore, unevenStore, reservedBlock}
 use Rattle.bc6h_spec.specs.Fields.{modeOf}
 use Rattle.store_records.specs.Store.{recordSize, storeLimit, recordRefusal, tileAt, blockOf}
 use Rattle.probe_places.specs.Places.{placeSize, placeLimit, tileIn, blockIn}

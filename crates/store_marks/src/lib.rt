@@ -11,8 +11,8 @@ ghost use Rattle.store_records.specs.Store.{recordsIn, formatOf, Unrefused};
 ghost use Rattle.store_spec.specs.Shown.{Reserved};
 ghost use Rattle.store_spec.specs.Scratch.{entrySize, Pictured, Kept};
 ghost use Rattle.store_spec.specs.Twins.{holding, alike, marksOf, listRefusal, scratchRefusal};
-use bc6h_spec::Answer;
-use bc6h_spec::Block;
+use bc6h_spec::Picture;
+use bcn_spec::Answer;
 use store_records::Record;
 use store_records::RecordReading;
 use store_records::record_at;
@@ -25,7 +25,7 @@ pub fn same_picture(a: &[u16], b: &[u16]) -> bool
     requires { ⌜ (length (now a) ≡ valueCount) × (length (now b) ≡ valueCount) ⌝ }
     ensures { λ r. ⌜ r ≡ same (now (a .entry)) (now (b .entry)) ⌝ }
 {
-    for k in 0..Block::VALUES {
+    for k in 0..Picture::VALUES {
         if a[k] != b[k] {
             return false;
         }

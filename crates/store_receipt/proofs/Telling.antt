@@ -7,7 +7,7 @@ use native.Mathlib.Omega.{arith}
 use lib.ListN.{length, take, drop, set, replicate, length-set, length-replicate}
 use lib.Seq.{take-at, paste, length-paste}
 use Rattle.laws.proofs.Pasting.{pasted}
-use Rattle.bc6h_spec.specs.Answers.{done}
+use Rattle.bcn_spec.specs.Answers.{done}
 use Rattle.store_records.specs.Store.{recordSize, storeLimit, recordsIn}
 use Rattle.store_spec.specs.Twins.{mostRecords, listRefusal}
 use Rattle.store_spec.proofs.Listing.{Whole, whole-when, fine}

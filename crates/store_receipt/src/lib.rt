@@ -7,7 +7,7 @@ ghost use lib.ListN.{length};
 ghost use lib.Seq.{paste};
 ghost use Rattle.store_clean.specs.Clean.{firstOf};
 ghost use Rattle.store_receipt.specs.Receipt.{entriesIn, entrySize, entryOf, entryAt, receiptRefusal, ReceiptInto, Walk, Tells};
-use bc6h_spec::Answer;
+use bcn_spec::Answer;
 use raw_bytes::copy_part;
 use store_clean::Cleaned;
 use store_clean::copy_record;

@@ -6,8 +6,8 @@ use Prim.Native.Nat.{ℕ, zero, suc, _≤_, _<_}
 use native.Mathlib.Omega.{arith}
 use lib.ListN.{length}
 use borrow.Author.Tests.{lt-ltb, le-ltb}
-use Rattle.bc6h_spec.specs.Answers.{done}
-use Rattle.bc6h_spec.specs.Bits.{blockSize}
+use Rattle.bcn_spec.specs.Answers.{done}
+use Rattle.bcn_spec.specs.Bits.{blockSize}
 use Rattle.store_records.specs.declared.Record.{Record}
 use Rattle.store_records.specs.declared.RecordReading.{RecordReading}
 use Rattle.store_records.specs.declared.RecordReading.the-variants as reading

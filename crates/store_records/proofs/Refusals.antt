@@ -8,8 +8,8 @@ use lib.Dec.{eqb, ltb}
 use lib.ListN.{length, getD, length-take, length-drop}
 use borrow.Author.Tests.{lt-ltb, le-ltb, eq-eqb, ne-eqb, ltb-true, ltb-false, eqb-true, eqb-false}
 use Rattle.laws.proofs.Tests.{cases, both-true}
-use Rattle.bc6h_spec.specs.Answers.{done, badFormat, longStore, unevenStore, spareByte, noRecord}
-use Rattle.bc6h_spec.specs.Bits.{IsBlock, blockSize}
+use Rattle.bcn_spec.specs.Answers.{done, badFormat, longStore, unevenStore, spareByte, noRecord}
+use Rattle.bcn_spec.specs.Bits.{IsBlock, blockSize}
 use Rattle.store_records.specs.Store.{recordSize, storeLimit, recordsIn, byteOf, formatOf, spareZero, blockOf, recordRefusal, Unrefused}
 
 module _ (store : List ℕ) (n : ℕ) where

@@ -6,8 +6,8 @@ use Prim.Native.Nat.{ℕ, zero, suc, _+_, _*_, _/_, _%_}
 use lib.Dec.{eqb, ltb}
 use lib.ListN.{length, getD, take, drop}
 use Rattle.laws.specs.Pick.{pick, both}
-use Rattle.bc6h_spec.specs.Answers.{done, badFormat, longStore, unevenStore, spareByte, noRecord}
-use Rattle.bc6h_spec.specs.Bits.{blockSize}
+use Rattle.bcn_spec.specs.Answers.{done, badFormat, longStore, unevenStore, spareByte, noRecord}
+use Rattle.bcn_spec.specs.Bits.{blockSize}
 use Rattle.store_records.specs.declared.RecordReading.{RecordReading}
 use Rattle.store_records.specs.declared.RecordReading.the-variants.{Record, Refused}
 

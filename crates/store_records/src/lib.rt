@@ -4,8 +4,8 @@ ghost use mathlib.Core.Path.{_≡_};
 ghost use mathlib.Core.List.{[], _∷_};
 ghost use Prim.Native.Nat.{_<_};
 ghost use Rattle.store_records.specs.Store.{recordSize, headSize, storeLimit, tileAt, numberOf, partAt, recordRefusal, Read};
-use bc6h_spec::Answer;
-use bc6h_spec::Block;
+use bcn_spec::Answer;
+use bcn_spec::Block;
 
 pub struct Record {
     pub tile: u32,

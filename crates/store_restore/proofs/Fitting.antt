@@ -13,7 +13,7 @@ use Rattle.laws.specs.Every.{below}
 use Rattle.laws.proofs.Tests.{cases, both-true, below-at}
 use Rattle.laws.proofs.Search.{holds, is-true}
 use Rattle.laws.proofs.Below.{below-all, below-fails, below-upto}
-use Rattle.bc6h_spec.specs.Answers.{done, shortOutput, longStore, unevenStore, badReceipt}
+use Rattle.bcn_spec.specs.Answers.{done, shortOutput, longStore, unevenStore, badReceipt}
 use Rattle.store_records.specs.Store.{recordSize, storeLimit}
 use Rattle.store_spec.specs.Twins.{mostRecords}
 use Rattle.store_receipt.specs.declared.Entry.{Entry}

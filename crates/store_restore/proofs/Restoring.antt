@@ -17,7 +17,7 @@ use Rattle.laws.specs.First.{firstBelow}
 use Rattle.laws.proofs.Tests.{cases, both-true}
 use Rattle.laws.proofs.Firsts.{first-passes, first-least}
 use Rattle.laws.proofs.Sameness.{true-false, not-so}
-use Rattle.bc6h_spec.specs.Answers.{done}
+use Rattle.bcn_spec.specs.Answers.{done}
 use Rattle.store_records.specs.Store.{recordSize, recordsIn}
 use Rattle.store_clean.specs.Clean.{recordOf, staying}
 use Rattle.store_clean.proofs.Leaving.{record-length, staying-none, staying-gone, staying-more}

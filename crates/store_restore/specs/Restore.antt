@@ -9,7 +9,7 @@ use lib.Seq.{paste}
 use Rattle.laws.specs.Pick.{pick, both}
 use Rattle.laws.specs.Every.{below}
 use Rattle.laws.specs.First.{firstBelow}
-use Rattle.bc6h_spec.specs.Answers.{done, shortOutput, longStore, unevenStore, badReceipt}
+use Rattle.bcn_spec.specs.Answers.{done, shortOutput, longStore, unevenStore, badReceipt}
 use Rattle.store_records.specs.Store.{recordSize, storeLimit, recordsIn}
 use Rattle.store_spec.specs.Twins.{mostRecords}
 use Rattle.store_clean.specs.Clean.{recordOf, staying}

@@ -7,7 +7,7 @@ ghost use lib.ListN.{length};
 ghost use Rattle.laws.specs.Pick.{both};
 ghost use Rattle.store_receipt.specs.Receipt.{entriesIn, numberAt};
 ghost use Rattle.store_restore.specs.Restore.{leastAt, entryFits, receiptFits, restoreRefusal, putInto, PutBack, RestoredInto};
-use bc6h_spec::Answer;
+use bcn_spec::Answer;
 use raw_bytes::copy_part;
 use raw_bytes::copy_within;
 use store_clean::copy_record;

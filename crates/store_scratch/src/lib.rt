@@ -11,7 +11,7 @@ ghost use Rattle.bc6h_spec.specs.Picture.{valueCount};
 ghost use Rattle.store_records.specs.Store.{recordsIn, formatOf, blockOf, Unrefused};
 ghost use Rattle.store_spec.specs.Scratch.{entrySize, kindAt, mixedUpto, printOf, printAt, pictureIn, Pictured};
 use bc6_mode::extract_mode;
-use bc6h_spec::Block;
+use bc6h_spec::Picture;
 use bcn_util::BitStream;
 use store_records::Record;
 use store_records::RecordReading;
@@ -53,8 +53,8 @@ pub fn picture_in(scratch: &[u16], count: usize, n: usize) -> &[u16]
     requires { ⌜ count + (valueCount * n + valueCount) ≤ length (now scratch) ⌝ }
     ensures { λ r. ⌜ now r ≡ pictureIn (now (scratch .entry)) count n ⌝ }
 {
-    let start = count + Block::VALUES * n;
-    let end = start + Block::VALUES;
+    let start = count + Picture::VALUES * n;
+    let end = start + Picture::VALUES;
     &scratch[start..end]
 }
 

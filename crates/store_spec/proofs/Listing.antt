@@ -13,7 +13,7 @@ use Rattle.laws.specs.Made.{made, countOf}
 use Rattle.laws.proofs.Tests.{cases}
 use Rattle.laws.proofs.Rows.{length-made, getD-made}
 use Rattle.laws.proofs.Counts.{count-three}
-use Rattle.bc6h_spec.specs.Answers.{done, shortOutput, longStore, unevenStore}
+use Rattle.bcn_spec.specs.Answers.{done, shortOutput, longStore, unevenStore}
 use Rattle.store_records.specs.Store.{recordSize, storeLimit, recordsIn}
 use Rattle.store_spec.specs.declared.TwinList.{TwinList}
 use Rattle.store_spec.specs.Scratch.{entrySize, scratchOf}

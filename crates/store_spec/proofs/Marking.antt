@@ -13,7 +13,7 @@ use Rattle.laws.specs.First.{firstBelow}
 use Rattle.laws.proofs.Tests.{cases, both-true}
 use Rattle.laws.proofs.Firsts.{first-end, first-at, first-passes, first-least, first-never}
 use Rattle.laws.proofs.Sameness.{true-false, not-so, same-so, same-means}
-use Rattle.bc6h_spec.specs.Answers.{done}
+use Rattle.bcn_spec.specs.Answers.{done}
 use Rattle.bc6h_spec.specs.Fields.{modeOf}
 use Rattle.bc6h_spec.specs.Picture.{valueCount}
 use Rattle.store_records.specs.Store.{recordsIn, formatOf, blockOf, recordRefusal, Unrefused}

@@ -7,7 +7,7 @@ use native.Mathlib.Omega.{arith}
 use lib.ListN.{length, take}
 use lib.Seq.{take-all, take-at}
 use borrow.Author.Tests.{eq-eqb, ne-eqb}
-use Rattle.bc6h_spec.specs.Bits.{blockSize, numberOf}
+use Rattle.bcn_spec.specs.Bits.{blockSize, numberOf}
 use Rattle.bc6h_spec.specs.Fields.{modeIn, modeOf}
 use Rattle.bc6h_spec.specs.Picture.{valueCount, isSigned}
 use Rattle.bc6h_spec.specs.Block.{pixelsOf}

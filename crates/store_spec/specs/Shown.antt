@@ -4,7 +4,7 @@ use mathlib.Core.Bool.{Bool}
 use mathlib.Core.List.{List}
 use Prim.Native.Nat.{ℕ}
 use lib.Dec.{eqb}
-use Rattle.bc6h_spec.specs.Answers.{done}
+use Rattle.bcn_spec.specs.Answers.{done}
 use Rattle.bc6h_spec.specs.Fields.{modeOf}
 use Rattle.bc6h_spec.specs.Picture.{isSigned}
 use Rattle.bc6h_spec.specs.Block.{pixelsOf}

@@ -9,7 +9,7 @@ use Rattle.laws.specs.Pick.{pick, both}
 use Rattle.laws.specs.Every.{same}
 use Rattle.laws.specs.Made.{made, countOf}
 use Rattle.laws.specs.First.{firstBelow}
-use Rattle.bc6h_spec.specs.Answers.{done, shortOutput, longStore, unevenStore}
+use Rattle.bcn_spec.specs.Answers.{done, shortOutput, longStore, unevenStore}
 use Rattle.store_records.specs.Store.{recordSize, storeLimit, recordsIn, formatOf, Unrefused}
 use Rattle.store_spec.specs.Shown.{pictureAt, Reserved, isRecord, isReserved}
 use Rattle.store_spec.specs.Scratch.{entrySize, scratchOf}

@@ -2,7 +2,7 @@
 
 ghost use mathlib.Core.Path.{_≡_};
 ghost use Rattle.store_spec.specs.Twins.{marks, refusal};
-use bc6h_spec::Block;
+use bc6h_spec::Picture;
 use store_records::Record;
 
 // What a record is marked with.
@@ -58,7 +58,7 @@ pub struct Scratch {
 
 impl Scratch {
     // How many values a record takes: its fingerprint and its picture.
-    pub const ENTRY: usize = 1 + Block::VALUES;
+    pub const ENTRY: usize = 1 + Picture::VALUES;
 
     // The kind of a record that holds no picture; that of another is its format.
     pub const NO_PICTURE: u64 = 2;

@@ -10,7 +10,7 @@ use lib.ListN.{length}
 use borrow.Author.Tests.{lt-ltb, le-ltb, eq-eqb, ltb-true, eqb-true}
 use Rattle.laws.proofs.Tests.{cases, both-true}
 use Rattle.laws.proofs.Firsts.{first-most, first-passes, first-least, first-never}
-use Rattle.bc6h_spec.specs.Answers.{done, unevenStore, reservedBlock}
+use Rattle.bcn_spec.specs.Answers.{done, unevenStore, reservedBlock}
 use Rattle.bc6h_spec.specs.Fields.{modeOf}
 use Rattle.store_records.specs.Store.{storeLimit, recordsIn, blockOf, Unrefused}
 use Rattle.store_records.proofs.Refusals.{known}

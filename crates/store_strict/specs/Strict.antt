@@ -7,7 +7,7 @@ use lib.Dec.{ltb}
 use lib.ListN.{length}
 use Rattle.laws.specs.Pick.{pick, both}
 use Rattle.laws.specs.First.{firstBelow}
-use Rattle.bc6h_spec.specs.Answers.{done, reservedBlock}
+use Rattle.bcn_spec.specs.Answers.{done, reservedBlock}
 use Rattle.store_records.specs.Store.{recordsIn, Unrefused}
 use Rattle.store_spec.specs.declared.TwinList.{TwinList}
 use Rattle.store_spec.specs.Shown.{Reserved, isRecord, isReserved}

@@ -2,7 +2,7 @@
 
 ghost use mathlib.Core.Path.{_≡_};
 ghost use Rattle.store_strict.specs.Strict.{damaged, firstDamaged, StrictlyListed};
-use bc6h_spec::Answer;
+use bcn_spec::Answer;
 use store_marks::list_refusal;
 use store_records::Record;
 use store_records::RecordReading;

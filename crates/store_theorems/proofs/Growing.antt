@@ -7,7 +7,7 @@ use lib.Dec.{ltb}
 use lib.ListN.{length, length-append}
 use Rattle.store_records.specs.Store.{recordsIn}
 use Rattle.laws.proofs.Firsts.{first-same}
-use Rattle.bc6h_spec.specs.Answers.{done}
+use Rattle.bcn_spec.specs.Answers.{done}
 use Rattle.store_spec.specs.declared.TwinList.{TwinList}
 use Rattle.store_spec.specs.Twins.{alike, firstTwin, markAt, Listed}
 use Rattle.store_spec.proofs.Listing as listing

@@ -3,7 +3,7 @@ use mathlib.Core.Path.{_≡_}
 use mathlib.Core.List.{List, _++_}
 use Prim.Native.Nat.{ℕ, _*_, _%_, _≤_, _<_}
 use lib.ListN.{length, getD, take}
-use Rattle.bc6h_spec.specs.Answers.{done}
+use Rattle.bcn_spec.specs.Answers.{done}
 use Rattle.store_records.specs.Store.{recordSize, storeLimit, recordsIn}
 use Rattle.store_spec.specs.declared.TwinList.{TwinList}
 use Rattle.store_spec.specs.Twins.{firstTwin, markAt, Listed}

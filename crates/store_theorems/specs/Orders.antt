@@ -4,7 +4,7 @@ use mathlib.Core.List.{List}
 use Prim.Native.Nat.{ℕ, _<_}
 use lib.ListN.{getD}
 use Rattle.laws.specs.Order.{Reordered}
-use Rattle.bc6h_spec.specs.Answers.{done}
+use Rattle.bcn_spec.specs.Answers.{done}
 use Rattle.store_records.specs.Store.{recordSize, recordsIn, formatOf, blockOf, Unrefused}
 use Rattle.store_spec.specs.declared.TwinList.{TwinList}
 use Rattle.store_spec.specs.Shown.{pictureAt, Reserved}

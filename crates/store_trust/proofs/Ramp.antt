@@ -18,15 +18,17 @@ use Rattle.laws.proofs.Tests.{both-left, both-right, below-at}
 use Rattle.laws.proofs.Rows.{made-same}
 use Rattle.laws.proofs.Taken.{made-taken}
 use Rattle.bc6h_spec.specs.declared.Fields.{Fields}
-use Rattle.bc6h_spec.specs.Bits.{IsBlock, numberOf}
+use Rattle.bcn_spec.specs.Bits.{IsBlock, numberOf}
 use Rattle.bc6h_spec.specs.Layout.{row, twoRegions}
-use Rattle.bc6h_spec.specs.Regions.{partitions, mapOf, regionOf}
-use Rattle.bc6h_spec.specs.Fields.{modeIn, modeOf, gathered, indexIn, fieldsAt, fieldsOf, indexOf}
+use Rattle.bcn_spec.specs.Regions.{partitions, mapOf}
+use Rattle.bc6h_spec.specs.Regions.{regionOf}
+use Rattle.bcn_spec.specs.Indices.{indexIn}
+use Rattle.bc6h_spec.specs.Fields.{modeIn, modeOf, gathered, fieldsAt, fieldsOf, indexOf}
 use Rattle.bc6h_spec.specs.Picture.{palette}
 use Rattle.bc6h_spec.specs.Block.{formatNumber, pixelsOf}
-use Rattle.bc6h_spec.proofs.Bytes.{number-lt}
+use Rattle.bcn_spec.proofs.Bytes.{number-lt}
 use Rattle.bc6h_spec.proofs.Gather.{low-only}
-use Rattle.bc6h_spec.proofs.Joined.{number-joined}
+use Rattle.bcn_spec.proofs.Joined.{number-joined}
 use Rattle.bc6h_spec.proofs.Modes.{low-mode}
 use Rattle.bc6h_spec.proofs.Once.{row-once}
 use Rattle.bc6h_spec.proofs.Pixel.{shows-as, pixel-shows, same-palette}

@@ -13,7 +13,7 @@ use Rattle.laws.specs.Search.{distinct}
 use Rattle.laws.proofs.Tests.{cases}
 use Rattle.laws.proofs.Search.{holds, is-true, is-false, some-same, distinct-same, distinct-turned}
 use Rattle.bc6h_spec.specs.declared.Fields.{Fields}
-use Rattle.bc6h_spec.specs.Bits.{IsBlock}
+use Rattle.bcn_spec.specs.Bits.{IsBlock}
 use Rattle.bc6h_spec.specs.Layout.{twoRegions}
 use Rattle.bc6h_spec.specs.Fields.{modeOf, fieldsOf, Valid}
 use Rattle.bc6h_spec.specs.Picture.{isSigned, palette}

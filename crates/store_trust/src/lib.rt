@@ -2,9 +2,9 @@
 // format, mode and partition shows its picture.
 use bc6_colour::Colour;
 use bc6_mode::ModeBits;
-use bc6h_spec::Block;
 use bc6h_spec::Fields;
 use bcn_data::Subset2Map;
+use bcn_spec::Block;
 ghost use mathlib.Core.Path.{_≡_};
 ghost use mathlib.Core.Bool.{true, false};
 ghost use Prim.Native.Nat.{_+_, _<_, _≤_};

@@ -3,7 +3,7 @@ use mathlib.Core.Path.{_≡_}
 use mathlib.Core.List.{List}
 use Prim.Native.Nat.{ℕ, _<_}
 use lib.ListN.{getD}
-use Rattle.bc6h_spec.specs.Answers.{done}
+use Rattle.bcn_spec.specs.Answers.{done}
 use Rattle.store_records.specs.Store.{recordsIn, Unrefused}
 use Rattle.store_spec.specs.Shown.{Reserved}
 use Rattle.store_spec.specs.declared.TwinList.{TwinList}

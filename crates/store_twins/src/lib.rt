@@ -10,8 +10,8 @@ ghost use Rattle.store_spec.specs.Shown.{pictureAt};
 ghost use Rattle.store_spec.specs.Scratch.{entrySize, picturesOf, scratchOf};
 ghost use Rattle.store_spec.specs.Twins.{showing, firstTwin, Listed, ListedIn};
 use bc6::block_pixels;
-use bc6h_spec::Answer;
-use bc6h_spec::Block;
+use bc6h_spec::Picture;
+use bcn_spec::Answer;
 use store_marks::count_of;
 use store_marks::holds_picture;
 use store_marks::mark_records;
@@ -46,7 +46,7 @@ fn keep_pictures(store: &[u8], pictures: &mut [u16])
         let RecordReading::Record(found) = record_at(store, n) else {
             continue;
         };
-        let start = Block::VALUES * n;
+        let start = Picture::VALUES * n;
         decode_record(store, n, found.format, &mut pictures[start..]);
     }
 }
@@ -96,7 +96,7 @@ fn shows(store: &[u8], n: usize, format: u8, picture: &[u16]) -> bool
     if !holds_picture(store, n, format) {
         return false;
     }
-    let mut shown = [0u16; Block::VALUES];
+    let mut shown = [0u16; Picture::VALUES];
     decode_record(store, n, format, &mut shown);
     same_picture(&shown, picture)
 }
@@ -111,7 +111,7 @@ pub fn first_twin(store: &[u8], n: usize) -> usize
     if mode_at(store, n) == 0 {
         return n;
     }
-    let mut picture = [0u16; Block::VALUES];
+    let mut picture = [0u16; Picture::VALUES];
     decode_record(store, n, found.format, &mut picture);
     for earlier in 0..n {
         if shows(store, earlier, found.format, &picture) {

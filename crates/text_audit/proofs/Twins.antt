@@ -11,7 +11,7 @@ use borrow.Author.Tests.{eq-eqb, ne-eqb, lt-ltb, le-ltb}
 use Rattle.laws.specs.Pick.{pick, both}
 use Rattle.laws.specs.Made.{made}
 use Rattle.laws.proofs.Joined.{run-more}
-use Rattle.bc6h_spec.specs.Answers.{done}
+use Rattle.bcn_spec.specs.Answers.{done}
 use Rattle.store_records.specs.Store.{recordsIn, tileAt}
 use Rattle.store_covered.specs.CleanUp.{covered, byDemand3}
 use Rattle.store_clean.specs.Clean.{firstOf, goes}

@@ -10,7 +10,7 @@ use Rattle.laws.specs.Pick.{pick, both}
 use Rattle.laws.proofs.Tests.{cases}
 use Rattle.laws.proofs.Rows.{length-made}
 use Rattle.laws.proofs.Sameness.{true-false, not-so}
-use Rattle.bc6h_spec.specs.Answers.{done}
+use Rattle.bcn_spec.specs.Answers.{done}
 use Rattle.store_records.specs.Store.{recordsIn}
 use Rattle.store_spec.specs.Twins.{twinMark, firstTwin, markAt, marksOf, listRefusal, answerAt, marksAt, Listed, mostRecords}
 use Rattle.store_spec.proofs.Marking as marking

@@ -5,7 +5,7 @@ use mathlib.Core.List.{List}
 use Prim.Native.Nat.{ℕ, _<_}
 use lib.ListN.{length}
 use Rattle.laws.specs.Pick.{both}
-use Rattle.bc6h_spec.specs.Answers.{done}
+use Rattle.bcn_spec.specs.Answers.{done}
 use Rattle.store_records.specs.Store.{recordsIn}
 use Rattle.store_spec.specs.Twins.{listRefusal, mostRecords}
 use Rattle.store_clean.specs.declared.Cleaned.{Cleaned}

@@ -11,7 +11,7 @@ ghost use Rattle.store_records.specs.Store.{recordsIn};
 ghost use Rattle.store_spec.specs.Twins.{firstTwin, mostRecords, Marks};
 ghost use Rattle.text.specs.Text.{Written};
 ghost use Rattle.text_audit.specs.Audit.{findingOf, pairOf, verdictWord, coverWord, twinLine, auditLines, faultWords, tallyLine, tallyOf, auditOf};
-use bc6h_spec::Answer;
+use bcn_spec::Answer;
 use store_clean::first_of;
 use store_covered::is_by_demand_3;
 use store_covered::is_covered;

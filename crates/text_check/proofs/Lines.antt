@@ -8,7 +8,7 @@ use lib.Seq.{take-all}
 use borrow.Author.Tests.{eq-eqb, ne-eqb}
 use Rattle.laws.specs.Made.{made}
 use Rattle.laws.proofs.Joined.{run-more}
-use Rattle.bc6h_spec.specs.Answers.{done}
+use Rattle.bcn_spec.specs.Answers.{done}
 use Rattle.text.specs.Text.{field, decimal, lineFeed, refusalLine, Written}
 use Rattle.text.proofs.Texts.{then, said}
 use Rattle.store_faulty.specs.declared.FaultCounts.{FaultCounts}

@@ -6,7 +6,7 @@ use lib.Dec.{eqb}
 use lib.ListN.{length, getD, drop}
 use Rattle.laws.specs.Pick.{pick}
 use Rattle.laws.specs.Made.{made, join}
-use Rattle.bc6h_spec.specs.Answers.{done}
+use Rattle.bcn_spec.specs.Answers.{done}
 use Rattle.text.specs.Text.{lineFeed, decimal, field, refusalLine}
 use Rattle.store_faulty.specs.declared.FaultCounts.{FaultCounts}
 use Rattle.store_faulty.specs.Faulty.{RecordForm, formOf, countIn, storeRefusal, causeOf, countsOf}

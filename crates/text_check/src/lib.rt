@@ -7,7 +7,7 @@ ghost use lib.ListN.{length};
 ghost use Rattle.text.specs.Text.{Written};
 ghost use Rattle.store_faulty.specs.Faulty.{formOf, countIn, mostRecords};
 ghost use Rattle.text_check.specs.Checking.{faultLine, checkLines, countsLine, checkingText, checkingOf};
-use bc6h_spec::Answer;
+use bcn_spec::Answer;
 use probe_places::Place;
 use store_faulty::FaultCounts;
 use store_faulty::Form;

@@ -10,7 +10,7 @@ use borrow.Author.Tests.{lt-ltb, le-ltb, eqb-true, eqb-false}
 use Rattle.laws.specs.Made.{made}
 use Rattle.laws.proofs.Joined.{run-more}
 use Rattle.laws.proofs.Tests.{cases}
-use Rattle.bc6h_spec.specs.Answers.{done}
+use Rattle.bcn_spec.specs.Answers.{done}
 use Rattle.store_records.specs.Store.{recordSize, storeLimit, recordsIn, tileAt}
 use Rattle.store_spec.specs.Twins.{listRefusal, mostRecords}
 use Rattle.store_clean.specs.declared.Cleaned.{Cleaned}

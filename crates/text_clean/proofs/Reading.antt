@@ -8,7 +8,7 @@ use lib.ListN.{length, take}
 use lib.Seq.{length-take-le, take-all}
 use borrow.Author.Tests.{lt-ltb, ltb-true, ltb-false}
 use Rattle.laws.proofs.Tests.{cases}
-use Rattle.bc6h_spec.specs.Answers.{longStore}
+use Rattle.bcn_spec.specs.Answers.{longStore}
 use Rattle.store_records.specs.Store.{storeLimit}
 use Rattle.store_spec.specs.Twins.{listRefusal, mostRecords}
 use Rattle.text.specs.Text.{refusalLine}

@@ -9,7 +9,7 @@ ghost use Rattle.store_spec.specs.Twins.{listRefusal, mostRecords};
 ghost use Rattle.store_clean.specs.Clean.{answerAt};
 ghost use Rattle.text.specs.Text.{Written};
 ghost use Rattle.text_clean.specs.CleanText.{removedLine, removedLines, countsLine, cleaningText, cleaningOutput};
-use bc6h_spec::Answer;
+use bcn_spec::Answer;
 use store_clean::Cleaned;
 use store_clean::clean_store;
 use store_clean::first_of;

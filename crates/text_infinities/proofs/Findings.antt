@@ -10,7 +10,7 @@ use borrow.Author.Tests.{eq-eqb, ne-eqb}
 use Rattle.laws.specs.First.{firstBelow}
 use Rattle.laws.specs.Made.{made}
 use Rattle.laws.proofs.Joined.{run-more}
-use Rattle.bc6h_spec.specs.Answers.{done}
+use Rattle.bcn_spec.specs.Answers.{done}
 use Rattle.bc6h_spec.specs.Picture.{valueCount, isSigned}
 use Rattle.bc6h_spec.specs.Block.{infinitiesOf}
 use Rattle.bc6.specs.declared.Pixels.{Pixels}

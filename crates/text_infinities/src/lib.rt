@@ -12,8 +12,8 @@ ghost use Rattle.text.specs.Text.{Written};
 ghost use Rattle.store_spec.specs.Twins.{mostRecords};
 ghost use Rattle.text_infinities.specs.Infinities.{infiniteAt, findingOf, channelWord, findingLine, infiniteLines, countsLine, countsOf, infinitiesText};
 use bc6::block_pixels;
-use bc6h_spec::Answer;
-use bc6h_spec::Block;
+use bc6h_spec::Picture;
+use bcn_spec::Answer;
 use store_marks::list_refusal;
 use store_records::Record;
 use store_records::RecordReading;
@@ -44,12 +44,12 @@ fn first_infinite(values: &[u16]) -> usize
     requires { ⌜ length (now values) ≡ valueCount ⌝ }
     ensures { λ r. ⌜ r ≡ firstBelow (infiniteAt (now (values .entry))) valueCount ⌝ }
 {
-    for j in 0..Block::VALUES {
+    for j in 0..Picture::VALUES {
         if values[j] == MINUS_INFINITY {
             return j;
         }
     }
-    Block::VALUES
+    Picture::VALUES
 }
 
 // How many values of a record are minus infinity, and the first of them.
@@ -73,10 +73,10 @@ fn examine(store: &[u8], n: usize) -> Finding
     let RecordReading::Record(found) = record_at(store, n) else {
         return Finding {
             infinite: 0,
-            first: Block::VALUES,
+            first: Picture::VALUES,
         };
     };
-    let mut values = [0u16; Block::VALUES];
+    let mut values = [0u16; Picture::VALUES];
     let pixels = block_pixels(record_block(store, n), found.format, &mut values);
     Finding {
         infinite: wide(pixels.infinite),

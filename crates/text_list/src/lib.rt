@@ -9,7 +9,7 @@ ghost use Rattle.store_spec.specs.Twins.{markAt, Marks};
 ghost use Rattle.text.specs.Text.{Written};
 ghost use Rattle.text_list.specs.Lines.{tripleOf, shownRest, refusedRest, lineOf, linesOf, countsLine};
 use bc6::block_pixels;
-use bc6h_spec::Block;
+use bc6h_spec::Picture;
 use store_records::Record;
 use store_records::RecordReading;
 use store_records::record_at;
@@ -23,12 +23,12 @@ use text::put_field;
 use text::put_hex;
 
 // The 48 values of record n, which is not refused.
-fn picture_of(store: &[u8], n: usize, format: u8) -> [u16; Block::VALUES]
+fn picture_of(store: &[u8], n: usize, format: u8) -> [u16; Picture::VALUES]
     requires { ⌜ Unrefused (now store) n ⌝ }
     requires { ⌜ format ≡ formatOf (now store) n ⌝ }
     ensures { λ r. ⌜ r ≡ pictureAt (now (store .entry)) n ⌝ }
 {
-    let mut values = [0u16; Block::VALUES];
+    let mut values = [0u16; Picture::VALUES];
     block_pixels(record_block(store, n), format, &mut values);
     values
 }

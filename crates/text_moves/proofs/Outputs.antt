@@ -9,7 +9,7 @@ use lib.Dec.{ltb}
 use borrow.Author.Tests.{ltb-true, ltb-false}
 use borrow.Rule.Slice.PartMut.{midOf, putMid, mid-len}
 use Rattle.laws.proofs.Tests.{cases}
-use Rattle.bc6h_spec.specs.Answers.{done, longStore}
+use Rattle.bcn_spec.specs.Answers.{done, longStore}
 use Rattle.store_records.specs.Store.{recordSize, storeLimit, recordsIn, recordRefusal}
 use Rattle.probe_places.specs.Places.{placeSize, placeLimit, placesIn}
 use Rattle.probe_places.specs.declared.Fault.{Fault}

@@ -2,7 +2,7 @@
 -- refused store the answer is all. Assumes nothing.
 use mathlib.Core.List.{List, [], _∷_}
 use Prim.Native.Nat.{ℕ, zero, suc}
-use Rattle.bc6h_spec.specs.Answers.{done}
+use Rattle.bcn_spec.specs.Answers.{done}
 use Rattle.store_records.specs.Store.{storeLimit}
 use Rattle.probe_places.specs.Places.{placeLimit}
 use Rattle.probe_moves.specs.Moves.{placedStore, oldStore, placingRefusal, unplacingRefusal}

@@ -7,7 +7,7 @@ ghost use Rattle.store_records.specs.Store.{storeLimit};
 ghost use Rattle.probe_places.specs.Places.{placeLimit};
 ghost use Rattle.text.specs.Text.{Written};
 ghost use Rattle.text_moves.specs.Output.{placedOutput, unplacedOutput};
-use bc6h_spec::Answer;
+use bcn_spec::Answer;
 use probe_moves::place_store;
 use probe_moves::unplace_store;
 use probe_places::Place;

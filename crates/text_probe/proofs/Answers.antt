@@ -10,7 +10,7 @@ use lib.Seq.{take-all, getD-take, length-take-le}
 use borrow.Author.Tests.{lt-ltb, le-ltb, eq-eqb, ne-eqb, ltb-true, ltb-false}
 use Rattle.laws.specs.Pick.{both}
 use Rattle.laws.proofs.Tests.{cases}
-use Rattle.bc6h_spec.specs.Answers.{done}
+use Rattle.bcn_spec.specs.Answers.{done}
 use Rattle.probe_places.specs.declared.Fault.{Fault}
 use Rattle.probe_places.specs.Places.{placeLimit, placesIn}
 use Rattle.probe.specs.Probe.{edgeLimit, probeSizes, ofRecord, probeFault}

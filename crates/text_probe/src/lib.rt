@@ -8,7 +8,7 @@ ghost use Rattle.probe.specs.Probe.{ofRecord};
 ghost use Rattle.text.specs.Text.{Written};
 ghost use Rattle.text_probe.specs.Image.{pixelUp, imageBody, imageFile, AllNumbers};
 ghost use Rattle.text_probe.specs.Output.{wordAt, faultyPart, faultLine, probeLine, checkOutput, faceOutput, probeOutput, outputRoom};
-use bc6h_spec::Answer;
+use bcn_spec::Answer;
 use pfm_floats::Rgb;
 use pfm_floats::put_rgb;
 use pfm_header::put_header;

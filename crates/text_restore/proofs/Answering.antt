@@ -8,7 +8,7 @@ use lib.ListN.{length, getD, take, drop, length-append, length-take, length-drop
 use lib.Seq.{take-all, take-at}
 use borrow.Author.Tests.{lt-ltb, le-ltb, ltb-true, ltb-false}
 use Rattle.laws.proofs.Tests.{cases}
-use Rattle.bc6h_spec.specs.Answers.{done, longStore, badReceipt}
+use Rattle.bcn_spec.specs.Answers.{done, longStore, badReceipt}
 use Rattle.store_records.specs.Store.{recordSize, storeLimit}
 use Rattle.store_restore.specs.declared.Restored.{Restored}
 use Rattle.store_restore.specs.Restore.{totalOf, restoreRefusal, restoredOf, RestoredInto}

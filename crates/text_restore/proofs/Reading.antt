@@ -8,7 +8,7 @@ use lib.ListN.{length, take, drop, length-take, length-drop}
 use lib.Seq.{length-take-le, take-all}
 use borrow.Author.Tests.{ltb-true, ltb-false}
 use Rattle.laws.proofs.Tests.{cases}
-use Rattle.bc6h_spec.specs.Answers.{done, longStore}
+use Rattle.bcn_spec.specs.Answers.{done, longStore}
 use Rattle.store_records.specs.Store.{storeLimit}
 use Rattle.store_spec.specs.Twins.{mostRecords}
 use Rattle.store_restore.specs.Restore.{totalOf, restoreRefusal}

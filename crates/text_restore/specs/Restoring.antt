@@ -5,7 +5,7 @@ use Prim.Native.Nat.{ℕ, zero, suc, _+_, _*_, _/_, _%_, _≤_}
 use lib.Dec.{ltb}
 use lib.ListN.{length, getD, take, drop}
 use Rattle.laws.specs.Pick.{pick}
-use Rattle.bc6h_spec.specs.Answers.{done, longStore, badReceipt}
+use Rattle.bcn_spec.specs.Answers.{done, longStore, badReceipt}
 use Rattle.store_records.specs.Store.{recordSize, storeLimit}
 use Rattle.store_spec.specs.Twins.{mostRecords}
 use Rattle.store_clean.specs.Clean.{cleanedOf}

@@ -7,7 +7,7 @@ ghost use lib.ListN.{length};
 ghost use Rattle.store_records.specs.Store.{storeLimit};
 ghost use Rattle.text.specs.Text.{Written};
 ghost use Rattle.text_restore.specs.Restoring.{lengthSize, cleanedLength, inputRefusal, restoredOutput, restoringOutput};
-use bc6h_spec::Answer;
+use bcn_spec::Answer;
 use store_receipt::Entry;
 use store_records::Record;
 use store_restore::restore_store;

@@ -6,7 +6,7 @@ use mathlib.Core.Bool.{true}
 use Prim.Native.Nat.{ℕ, _-_, _*_, _/_}
 use native.Mathlib.Omega.{arith}
 use lib.Dec.{eqb}
-use Rattle.bc6h_spec.specs.Bits.{blockSize}
+use Rattle.bcn_spec.specs.Bits.{blockSize}
 use Rattle.bc6_image.specs.Face.{rowSize}
 use Rattle.bc6_image.proofs.Calls.{row-small, Sides, sides, refused-format, refused-blocks, done-empty, positive, refused-pitch, refused-row, refused-last, done-room}
 use Rattle.bc6_image.proofs.face_refusal.Statement.{statement}

@@ -1,7 +1,7 @@
 -- `bc6_paint::turn_one` meets its contract: the weights, by the indices of the word's halves. Assumes nothing.
 use borrow.Author.Needs.{needs}
 use mathlib.Core.Path.{refl}
-use Rattle.bc6h_spec.specs.Picture.{weights16}
+use Rattle.bcn_spec.specs.Weights.{weights16}
 use Rattle.bc6_paint.proofs.Pixels.{weight-low, weight-high}
 use Rattle.bc6_paint.proofs.turn_one.Statement.{statement}
 use Rattle.bc6_paint.proofs.turn_one.Tie as tie

@@ -1,7 +1,7 @@
 -- `bc6_paint::turn_two` meets its contract: the regions by the map's halves, the weights by the indices of the word's. Assumes nothing.
 use borrow.Author.Needs.{needs}
 use mathlib.Core.Path.{_∙_}
-use Rattle.bc6h_spec.specs.Picture.{weights8}
+use Rattle.bcn_spec.specs.Weights.{weights8}
 use Rattle.bc6_paint.proofs.Pixels.{weight-low, weight-upper, mask-above}
 use Rattle.bc6_paint.proofs.turn_two.Statement.{statement}
 use Rattle.bc6_paint.proofs.turn_two.Tie as tie

@@ -8,7 +8,7 @@ use lib.Dec.{lit≤}
 use lib.ListN.{drop}
 use Rattle.laws.specs.Made.{made}
 use Rattle.laws.proofs.Rows.{made-none, made-store, made-all}
-use Rattle.bc6h_spec.specs.Picture.{weights8}
+use Rattle.bcn_spec.specs.Weights.{weights8}
 use Rattle.bc6_palette.specs.Palettes.{entryOf}
 use Rattle.bc6_palette.proofs.Entries.{between-asks, entry-is}
 use Rattle.bc6_palette.proofs.generate_palette_unquantized_two.Statement.{statement}

@@ -2,7 +2,7 @@ use mathlib.Core.Path.{_≡_, sym, _∙_}
 use Prim.Native.Nat.{_-_}
 use native.Mathlib.Omega.{arith}
 use lib.ListN.{length}
-use Rattle.bc6h_spec.specs.Answers.{done}
+use Rattle.bcn_spec.specs.Answers.{done}
 use Rattle.store_restore.specs.Restore.{restoreRefusal}
 use Rattle.store_restore.proofs.Fitting.{restorable}
 use Rattle.store_restore.proofs.Restoring.{Back}

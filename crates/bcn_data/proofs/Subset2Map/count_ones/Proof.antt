@@ -1,6 +1,6 @@
 -- `Subset2Map::count_ones` meets its contract: the ones of the map are its pixels of region 1. Assumes nothing.
 use borrow.Author.Needs.{needs}
-use Rattle.bc6h_spec.proofs.Partitions.{ones-counted}
+use Rattle.bcn_spec.proofs.Partitions.{ones-counted}
 use Rattle.bcn_data.proofs.Subset2Map.count_ones.Statement.{statement}
 use Rattle.bcn_data.proofs.Subset2Map.count_ones.Tie as tie
 

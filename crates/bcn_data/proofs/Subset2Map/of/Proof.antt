@@ -3,8 +3,8 @@ use borrow.Author.Needs.{needs}
 use mathlib.Core.Path.{_≡_}
 use Prim.Native.Nat.{ℕ, _/_, _%_, _<_}
 use native.Mathlib.Omega.{arith}
-use Rattle.bc6h_spec.specs.Regions.{mapOf, fixupOf}
-use Rattle.bc6h_spec.proofs.Partitions.{rule}
+use Rattle.bcn_spec.specs.Regions.{mapOf, fixupOf}
+use Rattle.bcn_spec.proofs.Partitions.{rule}
 use Rattle.bcn_data.specs.Subsets.{packedRow}
 use Rattle.bcn_data.proofs.Subset2Map.of.Statement.{statement}
 use Rattle.bcn_data.proofs.Subset2Map.of.Tie as tie

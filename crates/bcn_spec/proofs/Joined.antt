@@ -5,7 +5,7 @@ use Prim.Native.Nat.{ℕ, _+_, _*_, _^_}
 use native.Mathlib.Nat.{pow-suc}
 use native.Mathlib.Omega.{arith}
 use lib.ListN.{length}
-use Rattle.bc6h_spec.specs.Bits.{numberOf}
+use Rattle.bcn_spec.specs.Bits.{numberOf}
 
 pub number-joined : (xs ys : List ℕ) → numberOf (xs ++ ys) ≡ numberOf xs + 256 ^ length xs * numberOf ys
 number-joined [] ys = omega arith

@@ -1,8 +1,8 @@
--- A block's bits. Assumes nothing.
+-- A block's bytes and bits, and the blocks of a run. Assumes nothing.
 use mathlib.Core.List.{List, [], _∷_}
 use mathlib.Core.Path.{_≡_}
-use Prim.Native.Nat.{ℕ, _+_, _*_, _/_, _%_, _<_}
-use lib.ListN.{length, getD}
+use Prim.Native.Nat.{ℕ, zero, suc, _+_, _*_, _/_, _%_, _<_}
+use lib.ListN.{length, getD, take, drop}
 use Rattle.laws.specs.Bit.{bit}
 use Rattle.laws.specs.Made.{made}
 
@@ -26,3 +26,15 @@ blockBits block = made (blockBit block) 128
 abbrev pub numberOf : List ℕ → ℕ
 numberOf [] = 0
 numberOf (byte ∷ bytes) = byte + 256 * numberOf bytes
+
+-- t bytes of a number, little end first
+abbrev pub bytesOf : ℕ → ℕ → List ℕ
+bytesOf zero n = []
+bytesOf (suc t) n = n % 256 ∷ bytesOf t (n / 256)
+
+-- how many blocks the bytes hold, and block n of them
+abbrev pub blocksIn : List ℕ → ℕ
+blocksIn blocks = length blocks / blockSize
+
+abbrev pub blockAt : List ℕ → ℕ → List ℕ
+blockAt blocks n = take blockSize (drop (blockSize * n) blocks)

@@ -1,0 +1,5 @@
+pub mod Bytes
+pub mod Indices
+pub mod Joined
+pub mod Partitions
+pub mod Weights

@@ -1,0 +1,19 @@
+-- A pixel's index among the bits of a block. Assumes nothing.
+use mathlib.Core.Bool.{Bool, false}
+use mathlib.Core.List.{List, [], _∷_}
+use Prim.Native.Nat.{ℕ, _-_}
+use lib.Dec.{eqb}
+use Rattle.laws.specs.Pick.{pick, either}
+use Rattle.laws.specs.Packed.{unpacked}
+
+abbrev pub has : List ℕ → ℕ → Bool
+has [] pixel = false
+has (x ∷ xs) pixel = either (eqb pixel x) (has xs pixel)
+
+-- "are stored with one bit fewer": how many bits of a pixel's index are stored
+abbrev pub storedBits : ℕ → List ℕ → ℕ → ℕ
+storedBits bits fixups pixel = pick (has fixups pixel) (bits - 1) bits
+
+-- "pixel 0 first": the index of a pixel, from the number that the bits above the table's make. A top bit that is not stored is zero.
+abbrev pub indexIn : ℕ → List ℕ → ℕ → ℕ → ℕ
+indexIn bits fixups rest pixel = unpacked (storedBits bits fixups) rest pixel

@@ -16,7 +16,7 @@ use Rattle.bc6h_spec.proofs.Pixel.{pixels-none, shows-as}
 use Rattle.laws.specs.Made.{countOf}
 use Rattle.bc6h_spec.specs.Half.{minusInfinity}
 use Rattle.bc6_half.specs.declared.Half.{Half}
-use Rattle.bc6_colour.specs.Colours.{black}
+use Rattle.bc6_half.specs.Halves.{black}
 use Rattle.bc6_paint.specs.Values.{PaintedAs}
 use Rattle.bc6_paint.proofs.Link.{painted-as}
 use Rattle.bc6.specs.Shown.{shownOf}

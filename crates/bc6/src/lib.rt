@@ -2,7 +2,7 @@
 //
 // The ends are worked out on i32, four of a channel in an array. Each format has a function of its own, and painters that it alone calls: the
 // compiler then works them out with the format known, and they never go through memory.
-use bc6_colour::Colour;
+use bc6_half::Half;
 use bc6_mode::extract_mode;
 use bc6h_spec::Picture;
 use bcn_data::Subset2Map;
@@ -81,7 +81,7 @@ fn write_black(out: &mut [u16])
     requires { ⌜ 48 ≤ length (now out) ⌝ }
     ensures { λ _. ⌜ now (out .exit) ≡ replicate 48 0 ++ drop 48 (now (out .entry)) ⌝ }
 {
-    let black = Colour::black();
+    let black = Half::black();
     for j in 0..48usize {
         let value = black[j % 3];
         out[j] = value.pattern;

@@ -1,13 +1,11 @@
 -- An endpoint as a colour. Assumes nothing.
-use mathlib.Core.Bool.{Bool, false}
+use mathlib.Core.Bool.{Bool}
 use mathlib.Core.List.{List}
 use Prim.Native.Nat.{ℕ}
-use lib.ListN.{replicate}
 use Rattle.laws.specs.Ranges.{InBits}
 use Rattle.bc6h_spec.specs.declared.Fields.{Fields}
 use Rattle.bc6h_spec.specs.Half.{unquantized}
 use Rattle.bc6h_spec.specs.Picture.{endpoint}
-use Rattle.bc6_half.specs.declared.Half.{Half}
 use Rattle.bc6_colour.specs.declared.Colour.{Colour}
 
 -- endpoint e, after the transform
@@ -23,7 +21,3 @@ pub record OfBits (signed : Bool) (p : ℕ) (c : Colour) : Type 0 where
   pub red : InBits signed p (c .r)
   pub green : InBits signed p (c .g)
   pub blue : InBits signed p (c .b)
-
--- "all triples zero"
-abbrev pub black : List Half
-black = replicate 3 (record { pattern = 0; infinite = false })

@@ -1,7 +1,5 @@
 // From a field record to colours of three numbers: the endpoints by sign extension and transform, and what they are unquantised to.
 // Each step is worked out first and chosen after, so that no jump depends on the data.
-use bc6_half::Half;
-use bc6_half::finish_unsigned;
 use bc6_half::keep_bits;
 use bc6_half::magnitude;
 use bc6_half::sign_extend;
@@ -16,7 +14,7 @@ ghost use Rattle.bc6h_spec.specs.Fields.{Valid};
 ghost use Rattle.bc6h_spec.specs.Half.{transform, unquantizeU, unquantizeM, unquantized};
 ghost use Rattle.bc6h_spec.specs.Picture.{firstEnd, delta, otherEnd};
 ghost use Rattle.bc6_mode.specs.Modes.{bitsOf};
-ghost use Rattle.bc6_colour.specs.Colours.{endOf, unquantizedOf, OfBits, black};
+ghost use Rattle.bc6_colour.specs.Colours.{endOf, unquantizedOf, OfBits};
 
 // The first endpoint `a` is added to the delta `d`, `bits` bits are kept, and in signed format the sign is extended again.
 pub fn transform_one(a: i32, d: i32, bits: u8, signed: bool) -> i32
@@ -143,13 +141,6 @@ pub struct Colour {
 }
 
 impl Colour {
-    // The zero colour: the patterns of 0.
-    pub fn black() -> [Half; 3]
-        ensures { λ r. ⌜ r ≡ black ⌝ }
-    {
-        [finish_unsigned(0); 3]
-    }
-
     // The first endpoint of a block.
     pub fn first(f: Fields, bits: ModeBits, signed: bool) -> Self
         requires { ⌜ Valid f × (bits ≡ bitsOf (f .mode)) ⌝ }

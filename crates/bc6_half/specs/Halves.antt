@@ -1,8 +1,10 @@
 -- A number of 16 bits; a pattern, and whether it is minus infinity. Assumes nothing.
-use mathlib.Core.Bool.{Bool}
+use mathlib.Core.Bool.{Bool, false}
+use mathlib.Core.List.{List}
 use Prim.Native.Nat.{ℕ}
 use lib.Dec.{eqb}
 use lib.IntN.{ℤ, pos}
+use lib.ListN.{replicate}
 use Rattle.laws.specs.Pick.{pick}
 use Rattle.bc6h_spec.specs.Half.{signExtend, minusInfinity, finished, isLowest}
 use Rattle.bc6_half.specs.declared.Half.{Half}
@@ -18,3 +20,7 @@ halfOf signed x = record { pattern = finished signed x; infinite = isLowest sign
 -- a value, and whether it is 0xFC00
 unfoldable pub marked : ℕ → Half
 marked value = record { pattern = value; infinite = eqb value minusInfinity }
+
+-- "all triples zero"
+abbrev pub black : List Half
+black = replicate 3 (record { pattern = 0; infinite = false })

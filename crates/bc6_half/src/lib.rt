@@ -9,7 +9,7 @@ ghost use Rattle.laws.specs.Pick.{pick};
 ghost use Rattle.laws.specs.Ranges.{Below, Within, InBits};
 ghost use Rattle.bc6h_spec.specs.Half.{signExtend, keep, interpolated, finishS};
 ghost use Rattle.bcn_spec.specs.Weights.{weights8, weights16};
-ghost use Rattle.bc6_half.specs.Halves.{halfOf};
+ghost use Rattle.bc6_half.specs.Halves.{halfOf, black};
 
 // The number that `bits` bits with the value `x` stand for in two's complement.
 pub fn sign_extend(x: i32, bits: u8) -> i32
@@ -95,6 +95,13 @@ pub struct Half {
 impl Half {
     // The one number whose pattern is minus infinity, in signed format.
     const LOWEST: u16 = 0x8000;
+
+    // The zero colour: the patterns of 0.
+    pub fn black() -> [Half; 3]
+        ensures { λ r. ⌜ r ≡ black ⌝ }
+    {
+        [finish_unsigned(0); 3]
+    }
 
     // 1 for minus infinity.
     pub fn counted(self) -> u16

@@ -62,7 +62,7 @@ pub fn generate_palette_unquantized_one(
 {
     let a = c1.unquantize(prec, signed);
     let b = c2.unquantize(prec, signed);
-    let black = Colour::black();
+    let black = Half::black();
     let mut palette = [black; 16];
     for i in 0..16usize {
         palette[i] = between(a, b, weight_4(i as u16), signed);
@@ -82,7 +82,7 @@ pub fn generate_palette_unquantized_two(
 {
     let a = c1.unquantize(prec, signed);
     let b = c2.unquantize(prec, signed);
-    let black = Colour::black();
+    let black = Half::black();
     let mut palette = [black; 8];
     for i in 0..8usize {
         palette[i] = between(a, b, weight_3(i as u16), signed);
@@ -95,7 +95,7 @@ fn paint_one(palette: [[Half; 3]; 16], indices: [u8; 16]) -> [[Half; 3]; 16]
     requires { ⌜ IndicesBelow 16 indices ⌝ }
     ensures { λ r. ⌜ r ≡ made (onePixel palette indices) 16 ⌝ }
 {
-    let black = Colour::black();
+    let black = Half::black();
     let mut picture = [black; 16];
     for k in 0..16usize {
         let at = indices[k] as usize;
@@ -114,7 +114,7 @@ fn paint_two(
     requires { ⌜ IndicesBelow 8 indices ⌝ }
     ensures { λ r. ⌜ r ≡ made (twoPixel palette0 palette1 (partition .«subset_indexes») indices) 16 ⌝ }
 {
-    let black = Colour::black();
+    let black = Half::black();
     let mut picture = [black; 16];
     for k in 0..16usize {
         let at = indices[k] as usize;

@@ -18,11 +18,10 @@ use Rattle.store_spec.specs.Shown.{pictureAt}
 use Rattle.store_spec.specs.Twins.{twinMark, Alike, Twin, firstTwin, markAt, marksOf, Listed}
 use Rattle.store_spec.proofs.Marking.{first-alike, mark-is}
 use Rattle.store_spec.proofs.Listing as listing
-use Rattle.store_covered.specs.CleanUp.{Covered}
-use Rattle.store_covered.proofs.Theorem.{marked-first, clean-up}
+use Rattle.store_spec.proofs.Listing.{marked-first}
 use Rattle.store_clean.specs.declared.Cleaned.{Cleaned}
 use Rattle.store_clean.specs.Clean.{Repeats, firstOf, goes, recordOf, staying, going, cleanedOf, stayCount, CleanedInto}
-use Rattle.store_clean.specs.Theorems.{EachHasOne, OnlyThose, StaysInOrder, Held, NoneLost, Again, CleanAgain, NoCopy, TwinsLeft, twinIn, GoneAreTwins, AllCovered}
+use Rattle.store_clean.specs.Theorems.{EachHasOne, OnlyThose, StaysInOrder, Held, NoneLost, Again, CleanAgain, NoCopy, TwinsLeft, GoneAreTwins}
 use Rattle.store_clean.proofs.Repeating as repeating
 use Rattle.store_clean.proofs.Leaving.{record-front, staying-less, place-of, left-at, left-same, going-same, going-count}
 use Rattle.store_clean.proofs.Cleaning as cleaning
@@ -156,37 +155,5 @@ module _ {store room marks : List ℕ} {list : TwinList} (c : Listed store room 
       let twin : Twin store n = record { earlier = firstOf store n; before = l; shows = repeats-alike (repeating.first-repeated store n l) } in
       listing.mark-here c y n h ∙ mark-is store n .twin twin
 
-  module _ (covered : (n : ℕ) → n < recordsIn store → getD marks n 0 ≡ twinMark → Covered store n (firstTwin store n)) where
-    marked-gone : (n : ℕ) → n < recordsIn store → getD marks n 0 ≡ twinMark → goes store n ≡ true
-    marked-gone n h m =
-        let l = marked-first c y n h m in
-        let copy = clean-up store room marks list c y n h m (covered n h m) in
-        repeating.repeated-goes store n (firstTwin store n) l (copy .unrefused) (copy .earlier-unrefused) (copy .same-format)
-        (first-alike store n l .unreserved) (copy .same-bytes)
-
-    same-test : (n : ℕ) → n < recordsIn store → goes store n ≡ twinIn marks n
-    same-test n h =
-        cases (twinIn marks n) (λ t. marked-gone n h (eqb-true _ _ t) ∙ sym t)
-        (λ f. not-so _ (λ t. eqb-false _ _ f (gone-marked n h t)) ∙ sym f)
-
-  marks-room : recordsIn store ≤ length marks
-  unfolding marksOf
-  marks-room = omega (arith, simp length-append at (ap length (listing.after-is c y)), length-made (markAt store) (recordsIn store))
-
-  twins-are : going (twinIn marks) (recordsIn store) ≡ list .twins
-  twins-are = going-count twinMark marks (recordsIn store) marks-room ∙ sym (listing.twins-count c y)
-
 pub gone-are-twins : GoneAreTwins
 gone-are-twins store room marks list c y n h t = gone-marked c y n h t
-
-pub all-covered : AllCovered
-all-covered store room marks list c y covered lent after r d z =
-    let count = recordsIn store in
-    let same = same-test c y covered in
-    let removed : r .removed ≡ list .twins =
-    cleaning.removed-count d z ∙ going-same (goes store) (twinIn marks) count same ∙ twins-are c y in
-    record {
-      kept = omega (arith, removed, cleaning.counts-add-up d z, listing.counts-add-up c y);
-      removed = removed;
-      same-bytes = cleaning.front-is d z ∙ left-same (goes store) (twinIn marks) store count same;
-    }

@@ -1,17 +1,15 @@
 -- What a clean-up promises beyond its statement. Assumes nothing.
 use mathlib.Core.Path.{_≡_}
-use mathlib.Core.Bool.{Bool, true, false}
+use mathlib.Core.Bool.{true, false}
 use mathlib.Core.List.{List}
 use Prim.Native.Nat.{ℕ, _+_, _*_, _<_}
-use lib.Dec.{eqb}
 use lib.ListN.{getD, take}
 use Rattle.bcn_spec.specs.Answers.{done}
 use Rattle.store_records.specs.Store.{recordSize, recordsIn, formatOf, blockOf, Unrefused}
 use Rattle.store_spec.specs.declared.TwinList.{TwinList}
 use Rattle.store_spec.specs.Twins.{twinMark, Alike, firstTwin, Listed}
-use Rattle.store_covered.specs.CleanUp.{Covered}
 use Rattle.store_clean.specs.declared.Cleaned.{Cleaned}
-use Rattle.store_clean.specs.Clean.{goes, Goes, recordOf, left, staying, CleanedInto}
+use Rattle.store_clean.specs.Clean.{goes, Goes, recordOf, staying, CleanedInto}
 
 -- ---- what goes
 
@@ -87,21 +85,7 @@ TwinsLeft = (store lent after : List ℕ) (r : Cleaned) → CleanedInto store le
 
 -- ---- beside the twin list of the store itself
 
-abbrev pub twinIn : List ℕ → ℕ → Bool
-twinIn marks n = eqb (getD marks n 0) twinMark
-
--- What goes is always marked a twin. And where the copies theorem covers every twin, the cleaned store has exactly the records that the
--- list keeps and those that it calls bad, in order.
-pub record AsMarked (store after marks : List ℕ) (r : Cleaned) (list : TwinList) : Type 0 where
-  pub kept : r .kept ≡ list .kept + list .bad
-  pub removed : r .removed ≡ list .twins
-  pub same-bytes : cleanedBytes r after ≡ left (twinIn marks) store (recordsIn store)
-
+-- what goes is always marked a twin
 abbrev pub GoneAreTwins : Type 0
 GoneAreTwins = (store room marks : List ℕ) (list : TwinList) → Listed store room list marks → list .answer ≡ done
     → (n : ℕ) → n < recordsIn store → goes store n ≡ true → getD marks n 0 ≡ twinMark
-
-abbrev pub AllCovered : Type 0
-AllCovered = (store room marks : List ℕ) (list : TwinList) → Listed store room list marks → list .answer ≡ done
-    → ((n : ℕ) → n < recordsIn store → getD marks n 0 ≡ twinMark → Covered store n (firstTwin store n))
-    → (lent after : List ℕ) (r : Cleaned) → CleanedInto store lent r after → r .answer ≡ done → AsMarked store after marks r list

@@ -13,8 +13,8 @@ use Rattle.store_records.specs.Store.{recordsIn, formatOf, blockOf}
 use Rattle.store_spec.specs.declared.TwinList.{TwinList}
 use Rattle.store_spec.specs.Shown.{pictureAt}
 use Rattle.store_spec.specs.Twins.{keptMark, twinMark, Alike, firstTwin, markAt, Listed}
-use Rattle.store_spec.proofs.Marking.{first-alike, twin-marked, first-stays}
-use Rattle.store_spec.proofs.Listing.{mark-here}
+use Rattle.store_spec.proofs.Marking.{first-alike, first-stays}
+use Rattle.store_spec.proofs.Listing.{mark-here, marked-first}
 use Rattle.store_covered.specs.CleanUp.{Covered, Copy, CleanUp, NoTileLost, KeptPicture, NoPictureLost}
 
 -- ---- from the mark to the bytes
@@ -39,11 +39,6 @@ alike-copy {store} {n} {earlier} a l k c =
           (one-picture a);
       earlier-kept = k;
     }
-
--- the first record that a marked twin equals
-pub marked-first : {store lent after : List ℕ} {r : TwinList} → Listed store lent r after → r .answer ≡ done → (n : ℕ) → n < recordsIn store
-    → getD after n 0 ≡ twinMark → firstTwin store n < n
-marked-first {store} d z n h m = twin-marked store n (sym (mark-here d z n h) ∙ m)
 
 pub clean-up : CleanUp
 clean-up store lent after r d z n h m c =

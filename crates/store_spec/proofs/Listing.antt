@@ -17,8 +17,8 @@ use Rattle.bcn_spec.specs.Answers.{done, shortOutput, longStore, unevenStore}
 use Rattle.store_records.specs.Store.{recordSize, storeLimit, recordsIn}
 use Rattle.store_spec.specs.declared.TwinList.{TwinList}
 use Rattle.store_spec.specs.Scratch.{entrySize, scratchOf}
-use Rattle.store_spec.specs.Twins.{Marked, keptMark, twinMark, badMark, markAt, marksOf, Marks, listRefusal, refusal, answerAt, marksAt, Listed, firstMet, scratchRefusal, scratchAt, ListedIn}
-use Rattle.store_spec.proofs.Marking.{mark-small, mark-is}
+use Rattle.store_spec.specs.Twins.{Marked, keptMark, twinMark, badMark, firstTwin, markAt, marksOf, Marks, listRefusal, refusal, answerAt, marksAt, Listed, firstMet, scratchRefusal, scratchAt, ListedIn}
+use Rattle.store_spec.proofs.Marking.{mark-small, mark-is, twin-marked}
 
 -- ---- the checks
 
@@ -243,3 +243,10 @@ module _ {store lent space after spaceAfter : List ℕ} {r : TwinList} (d : List
           ∙ fine (length store) (length space / entrySize) (w .fits) (w .even) (let h = w .fits in omega (arith, l))
           ∙ sym q
       enough (suc k) q = met-first (length store) (length lent) (length space) (suc k) q (λ e. omega arith) ∙ sym q
+
+-- ---- a marked twin
+
+-- the first record that a marked twin equals
+pub marked-first : {store lent after : List ℕ} {r : TwinList} → Listed store lent r after → r .answer ≡ done → (n : ℕ) → n < recordsIn store
+    → getD after n 0 ≡ twinMark → firstTwin store n < n
+marked-first {store} d z n h m = twin-marked store n (sym (mark-here d z n h) ∙ m)

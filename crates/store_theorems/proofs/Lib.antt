@@ -3,3 +3,4 @@ pub mod Pictures
 pub mod Growing
 pub mod Nights
 pub mod Orders
+pub mod Covering

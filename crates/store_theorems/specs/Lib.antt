@@ -1,3 +1,4 @@
 pub mod Pictures
 pub mod Growing
 pub mod Orders
+pub mod Covering

@@ -1,11 +1,11 @@
--- `bc6_colour::Colour::black` meets its contract: the pattern of 0 is 0. Assumes nothing.
+-- `bc6_half::Half::black` meets its contract: the pattern of 0 is 0. Assumes nothing.
 use borrow.Author.Needs.{needs}
 use mathlib.Core.Path.{ap}
 use lib.ListN.{replicate}
 use Rattle.bc6h_spec.specs.Half.{finished, finishU, isLowest}
 use Rattle.bc6_half.specs.Halves.{halfOf}
-use Rattle.bc6_colour.proofs.Colour.black.Statement.{statement}
-use Rattle.bc6_colour.proofs.Colour.black.Tie as tie
+use Rattle.bc6_half.proofs.Half.black.Statement.{statement}
+use Rattle.bc6_half.proofs.Half.black.Tie as tie
 
 returns : tie.Need-returns
 unfolding halfOf finished finishU isLowest

@@ -87,7 +87,8 @@ def library() -> ctypes.CDLL:
                 except OSError as error:
                     told.append(f"{place}: {error}")
             else:
-                raise OSError(f"libknotpasture is not found (KNOTPASTURE_LIBRARY may name it): {'; '.join(told)}")
+                raise OSError("libknotpasture is not found: install the wheel that tools/wheel writes, which has it inside, or let KNOTPASTURE_LIBRARY "
+                              f"name it: {'; '.join(told)}")
         return _loaded
 
 

@@ -154,15 +154,15 @@ def failing_programs(folder):
 def changed_program(knot, folder):
     """A program that is not the one of the sums is not run, and --check names it."""
     count()
-    program = knot.parent / "programs/listing"
+    program = knot.parent / "programs/run_list"
     program.write_text(program.read_text() + "# another\n")
     status, out, told, _ = outcome(knot, "list", [SAMPLES / "four.store"], folder)
-    if (status, out) != (3, b"") or "the program listing is not the one that was installed" not in told[0]:
+    if (status, out) != (3, b"") or "the program run_list is not the one that was installed" not in told[0]:
         is_wrong("program that was changed", f"{status} {out!r} {told}")
-    (knot.parent / "programs/checking").unlink()
+    (knot.parent / "programs/run_check").unlink()
     status, out, told, _ = outcome(knot, "check", [SAMPLES / "four.store"], folder)
-    if (status, out) != (3, b"") or "the program checking is missing from this installation" not in told[0]:
+    if (status, out) != (3, b"") or "the program run_check is missing from this installation" not in told[0]:
         is_wrong("program that is missing", f"{status} {out!r} {told}")
     status, out, told, _ = outcome(knot, "--check", [], folder)
-    if (status, out) != (3, b"") or "programs/listing is another" not in told[0] or "programs/checking: no such file" not in told[0]:
+    if (status, out) != (3, b"") or "programs/run_list is another" not in told[0] or "programs/run_check: no such file" not in told[0]:
         is_wrong("program that was changed, --check", f"{status} {out!r} {told}")

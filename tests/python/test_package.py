@@ -13,11 +13,19 @@ import subprocess
 import sys
 import threading
 
-import numpy
 import pytest
 
-import knotpasture
-from knotpasture import Refused, _library
+numpy = pytest.importorskip("numpy", reason="numpy is not at hand: tests/python/install installs it")
+
+import knotpasture  # noqa: E402
+from knotpasture import Refused, _library  # noqa: E402
+
+if _library.places() == [_library.NAME]:
+    # no library beside the package: only the machine's own may be tried; one that is there and does not load is a fault
+    try:
+        ctypes.CDLL(_library.NAME)
+    except OSError:
+        pytest.skip("libknotpasture is not built: run tools/libraries", allow_module_level=True)
 
 ROOT = pathlib.Path(__file__).resolve().parent.parent.parent
 SAMPLES = ROOT / "samples"

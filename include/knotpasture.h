@@ -15,7 +15,7 @@
  * address with it, in the archive for x86-64; what the C library's memset takes for itself is not in it.
  *
  * An answer is one word. Its low byte is a number of this table, and 0 means done. Where several refusals apply, the order
- * that each call names decides, first met first. A refusal changes no lent byte or value. What a word has no room for, a call
+ * that each call names decides, first met first; "record by record" is the lowest record first, with all of its checks. A refusal changes no lent byte or value. What a word has no room for, a call
  * puts into a slot whose pointer it is handed, which is not null; a slot is part of the answer and is 0 on a refusal.
  */
 #ifndef KNOTPASTURE_H
@@ -291,7 +291,7 @@ uint64_t knot_clean_store(const uint8_t *store, size_t store_length, uint8_t *ou
 uint64_t knot_clean_with_receipt(const uint8_t *store, size_t store_length, uint8_t *out, size_t out_length, uint8_t *receipt,
                                  size_t receipt_length);
 
-/* Undoes a clean-up: writes the store of which it left these records and this receipt to out; the rest of out stays. Record n is what the entry of
+/* Undoes a clean-up: writes to out the store that it read, from the records that it left and its receipt; the rest of out stays. Record n is what the entry of
  * number n says, its tile followed by bytes 4 to 23 of the record that stays for it; where no entry has that number, the next record of the
  * cleaned store. Of exactly the bytes that knot_clean_with_receipt wrote, the cleaned store and the receipt, it gives back the same store, byte
  * for byte. It cannot see whether a receipt that fits belongs to the cleaned store.

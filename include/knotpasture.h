@@ -15,8 +15,9 @@
  * address with it, in the archive for x86-64; what the C library's memset takes for itself is not in it.
  *
  * An answer is one word. Its low byte is a number of this table, and 0 means done. Where several refusals apply, the order
- * that each call names decides, first met first; "record by record" is the lowest record first, with all of its checks. A refusal changes no lent byte or value. What a word has no room for, a call
- * puts into a slot whose pointer it is handed, which is not null; a slot is part of the answer and is 0 on a refusal.
+ * that each call names decides, first met first; "record by record" is the lowest record first, with all of its checks. A refusal
+ * changes no lent byte or value. What a word has no room for, a call puts into a slot whose pointer it is handed, which is not null; a
+ * slot is part of the answer and is 0 on a refusal.
  */
 #ifndef KNOTPASTURE_H
 #define KNOTPASTURE_H

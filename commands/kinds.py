@@ -1,7 +1,7 @@
 """Which kind of file a file is: a store of 24-byte records, a store of records with a place, or neither.
 
 Neither form has a header, so that the bytes of one may pass for the other: the 32-byte records of a whole probe always have a length that
-24 divides. Document 01's calls take such a file as it is given. The commands look at both readings first, by the proved program `checking`.
+24 divides. The calls take such a file as it is given. The commands look at both readings first, by the proved program `checking`.
 A file looks like something else than the store that it is given as when one of its records is refused and
 
 - it begins as a DDS file or a Portable Float Map does, or

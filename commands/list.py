@@ -22,7 +22,7 @@ HEADINGS = "record tile answer mode mark red green blue"
 
 
 def facts_of(text):
-    """A listing by names: what document 01 prints as '-' is null."""
+    """A listing by names: what S-73 prints as '-' is null."""
     def value(word):
         return None if word == "-" else int(word)
 

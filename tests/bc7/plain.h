@@ -1,4 +1,4 @@
-/* A plain decoder of BC7 blocks, written from document 03 by itself: the oracle of the comparisons. It takes a block's bits one by one and
+/* A plain decoder of BC7 blocks, written from what S-66 to S-71 state by itself: the oracle of the comparisons. It takes a block's bits one by one and
  * knows nothing of how the proved decoder works.
  */
 #include <stdint.h>
@@ -9,7 +9,7 @@ struct mode {
     int regions, partition, rotation, selection, colour, alpha, endpoint_ps, region_ps, first, second;
 };
 
-/* "Widths in bits" */
+/* widths in bits */
 static const struct mode MODES[8] = {
     {3, 4, 0, 0, 4, 0, 1, 0, 3, 0}, {2, 6, 0, 0, 6, 0, 0, 1, 3, 0}, {3, 6, 0, 0, 5, 0, 0, 0, 2, 0}, {2, 6, 0, 0, 7, 0, 1, 0, 2, 0},
     {1, 0, 2, 1, 5, 6, 0, 0, 2, 3}, {1, 0, 2, 0, 7, 8, 0, 0, 2, 2}, {1, 0, 0, 0, 7, 7, 1, 0, 4, 0}, {2, 6, 0, 0, 5, 5, 1, 0, 2, 0},

@@ -1,4 +1,4 @@
-/* Document 03, "Regions and fix-up pixels": the region of pixels 0 to 15, and the fix-up pixel of each further region. */
+/* S-68: the region of pixels 0 to 15, and the fix-up pixel of each further region. */
 struct row {
     char region[17];
     unsigned char fixup[2];

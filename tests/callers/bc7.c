@@ -1,9 +1,10 @@
-/* Calls the functions for BC7 of knotpasture.h as a C program does, with good and bad input. Prints each check that fails. */
+/* Calls the functions for BC7 of knotpasture.h as a C program does, with good and bad input. Prints each check that fails.
+ * Holds S-1, S-66, S-72, S-80. */
 #include "knotpasture.h"
 
 #include "check.h"
 
-/* Document 03's C1, C4, C7, C9 and C11, one behind the other, and a byte more. */
+/* C1, C4, C7, C9 and C11 of S-72, one behind the other, and a byte more. */
 static const uint8_t BLOCKS[5 * 16 + 1] = {
     0x00, 0xFF, 0xFF, 0xFF, 0xFF, 0xFF, 0xFF, 0xFF, 0xFF, 0xFF, 0xFF, 0xFF, 0xFF, 0xFF, 0xFF, 0xFF,
     0x2C, 0xC1, 0x07, 0x00, 0x00, 0x00, 0x00, 0x04, 0x00, 0x00, 0x00, 0x40, 0xF8, 0xFF, 0xFF, 0xFF,

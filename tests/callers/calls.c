@@ -1,4 +1,5 @@
-/* Calls every function of knotpasture.h as a C program does, with good and bad input. Prints each check that fails. */
+/* Calls the functions of knotpasture.h over blocks, fields and stores as a C program does, with good and bad input. Prints each check that fails.
+ * Holds S-1, S-31, S-32, S-35, S-36, S-40, S-41, S-43 to S-45, S-47, S-48, S-80, S-82 to S-85, S-87. */
 #include "knotpasture.h"
 
 #include "check.h"

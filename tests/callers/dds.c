@@ -1,4 +1,5 @@
-/* Calls the functions of knotpasture.h over DDS files as a C program does, with good and bad input. Prints each check that fails. */
+/* Calls the functions of knotpasture.h over DDS files as a C program does, with good and bad input. Prints each check that fails.
+ * Holds S-1, S-62, S-63, S-86, S-87. */
 #include "knotpasture.h"
 
 #include "check.h"

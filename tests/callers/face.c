@@ -2,6 +2,7 @@
  * input. Prints each check that fails.
  *
  * The last part lends a window of a larger picture: the face stands in it, and what is around it stays.
+ * Holds S-1, S-33, S-83, S-84, S-87.
  */
 #include "knotpasture.h"
 

@@ -1,6 +1,7 @@
 /* Calls the functions of knotpasture.h over Portable Float Maps as a C program does, with good and bad input. Prints each check that fails.
  *
  * The last part exports the largest picture, 4,096 by 4,096 pixels: a caller asks for the length, finds that much room, and writes.
+ * Holds S-1, S-64, S-86, S-87.
  */
 #include "knotpasture.h"
 

@@ -1,4 +1,5 @@
-/* Calls the functions of knotpasture.h over records with a place as a C program does. Prints each check that fails. */
+/* Calls the functions of knotpasture.h over records with a place as a C program does. Prints each check that fails.
+ * Holds S-1, S-53 to S-55, S-87. */
 #include "knotpasture.h"
 
 #include "check.h"

@@ -1,5 +1,5 @@
 /* Calls knot_fields_pixels as a C program does: its refusals in their order, what it writes and leaves, and that the fields of a block show
- * what the block shows. Prints each check that fails. */
+ * what the block shows. Prints each check that fails. Holds S-1, S-38, S-87. */
 #include "knotpasture.h"
 
 #include "check.h"

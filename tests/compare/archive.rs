@@ -1,4 +1,5 @@
-//! Our side as other programs call it: the archive's C functions.
+//! Our side as other programs call it: the archive's C functions. Every value, mode, count, field and refusal, both sides of the limits of blocks and
+//! outputs. Holds S-1, S-26, S-30 to S-32, S-35 to S-38, S-80.
 use crate::blocks::CODES;
 use crate::{field_numbers, for_each_class, Extent, Tally};
 
@@ -104,7 +105,7 @@ fn touched_beside(out: &[u16], written: std::ops::Range<usize>) -> bool {
     out.iter().enumerate().any(|(k, &value)| value != UNTOUCHED && !written.contains(&k))
 }
 
-/// Every length of block from 0 to 40 and of output from 0 to 100, every format: the number of document 01's table, first met
+/// Every length of block from 0 to 40 and of output from 0 to 100, every format: the number of S-30's table, first met
 /// wins, and on a refusal no value changed.
 fn compare_refusals(tally: &mut Tally) {
     let bytes: Vec<u8> = (0..40).map(|k| 37 * k + 11).collect();

@@ -1,7 +1,7 @@
 //! Blocks to decode, class by class, each handed to `visit`. All but the random ones are the same in every run.
 use oracle::{fields, regions};
 
-/// B1 to B11 of document 01.
+/// B1 to B11. Holds S-28.
 pub const NAMED: [[u8; 16]; 11] = [
     [0; 16],
     [0x13, 0, 0, 0, 0, 0, 0, 0, 0, 0, 0, 0, 0, 0, 0, 0],

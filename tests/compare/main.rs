@@ -1,4 +1,4 @@
-//! Feeds our decoder and the Rust the same blocks and compares every value, mode, field and refusal.
+//! Feeds our decoder and the Rust the same blocks and compares every value, mode, field and refusal. Holds S-2, S-6 to S-27, S-81.
 //!
 //!     compare short|long [SEED]                     through the archive (built with --cfg archive)
 //!     compare first [SEED]                          the same as short, up to the first difference

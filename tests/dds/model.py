@@ -1,4 +1,4 @@
-"""DDS files as document 02's T-09 tells them, and nothing of the code: what reading and writing answer."""
+"""DDS files as S-61 to S-63 state them, and nothing of the code: what reading and writing answer."""
 import struct
 
 FLAGS, CAPS, LIMIT, BEFORE = 0x81007, 0x1000, 4096, 148

@@ -10,7 +10,7 @@ mod decode {
 
         use crate::Fields;
 
-        /// Document 01's number of the mode that the Rust reads, and 0 for a reserved one.
+        /// The number (S-7) of the mode that the Rust reads, and 0 for a reserved one.
         fn number_of(mode: Mode) -> u8 {
             match mode {
                 Mode::Two(mode) => match mode {

@@ -1,4 +1,4 @@
-"""Portable Float Maps and their refusals as document 02's T-10 has them, written from its text alone."""
+"""Portable Float Maps and their refusals as S-64 and S-65 state them, and nothing of the code."""
 import struct
 
 DDS_HEADER = 148

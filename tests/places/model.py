@@ -1,4 +1,4 @@
-"""Records with a place, and the moves between them and 24-byte records, from document 02's T-11 alone."""
+"""Records with a place, and the moves between them and 24-byte records, as S-53 to S-55 state them, and nothing of the code."""
 import struct
 
 OLD, OLD_LIMIT = 24, 48_000

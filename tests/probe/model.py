@@ -1,5 +1,5 @@
-"""The probe, from document 02 alone: what each call answers, and stores to ask about. Pictures are blocks of mode 11, of which document
-01 gives the few steps from ten stored bits to a half-float."""
+"""The probe as S-56 to S-58 state it, and nothing of the code: what each call answers, and stores to ask about. Pictures are blocks of mode 11,
+of which S-19 to S-23 give the few steps from ten stored bits to a half-float."""
 import random
 import struct
 

@@ -17,7 +17,7 @@ use Rattle.bc6h_spec.specs.Fields.{modeIn, modeOf, gathered, fieldsAt, fieldsOf
 use Rattle.bc6h_spec.specs.Half.{signExtend, keep, transform, unquantizeU, unquantizeM, unquantized, interpolated, highestPattern, finishU, scaled, finishS, finished}
 use Rattle.bc6h_spec.specs.Picture.{firstEnd, delta, otherEnd, endpoint, between, palette, value, pictureAs, picture, valueCount}
 use Rattle.bc6h_spec.specs.Block.{pixelsOf}
-use Rattle.bc6h_spec.proofs.Blocks.{B3, B5}
+use Rattle.bc6h_spec.specs.Named.{B3, B5}
 use Rattle.bc6.specs.declared.Pixels.{Pixels}
 use Rattle.bc6.specs.Call.{refusalOf, Painted}
 use Rattle.bc6.proofs.Calls.{done-when, answered}

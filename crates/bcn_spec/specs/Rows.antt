@@ -5,7 +5,7 @@ use Prim.Native.String.{String}
 use Prim.Native.String as Text
 use lib.ListN.{getD}
 use Rattle.laws.specs.Pick.{pick}
-use Rattle.bcn_spec.specs.Regions.{partitionSet2, isDash}
+use Rattle.bcn_spec.specs.Regions.{partitionSet2, isDash, regionsIn}
 
 -- "One region: every pixel is in region 0, and pixel 0 is the only fix-up pixel."
 abbrev pub oneRegion : List String
@@ -89,6 +89,10 @@ rowsOf regions = getD (oneRegion ∷ oneRegion ∷ partitionSet2 ∷ partitionSe
 
 abbrev pub rowOf : ℕ → ℕ → String
 rowOf regions partition = getD (rowsOf regions) partition ""
+
+-- the region of a pixel: the row without its dashes
+unfoldable pub rowRegion : ℕ → ℕ → ℕ → ℕ
+rowRegion regions partition pixel = getD (regionsIn (rowOf regions partition)) pixel 0
 
 -- the pixels that a dash stands before, from pixel k on
 abbrev pub dashesFrom : ℕ → String → List ℕ

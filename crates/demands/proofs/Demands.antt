@@ -1,15 +1,20 @@
 -- The demands and the requests' theorems over the calls, each by citing what is proved where its subject is. Assumes nothing.
 use mathlib.Core.Path.{_≡_, refl, sym, ap, _∙_}
+use mathlib.Core.Bool.{Bool}
 use mathlib.Core.List.{List, _++_}
 use Prim.Native.Nat.{ℕ, zero, suc}
 use lib.ListN.{length, take, drop}
 use lib.Seq.{take-at, drop-at}
 use Rattle.bcn_spec.specs.Answers.{done}
 use Rattle.bc6h_spec.specs.Picture.{isSigned, valueCount}
-use Rattle.bc6h_spec.specs.Block.{pixelsOf}
+use Rattle.bc6h_spec.specs.Fields.{modeOf}
+use Rattle.bc6h_spec.specs.Block.{formatNumber, pixelsOf}
+use Rattle.bc6h_spec.specs.Named.{Row, namedBlocks}
+use Rattle.bc6h_spec.proofs.Blocks.{Shown, named-shown, each-so}
+use Rattle.bc6h_spec.proofs.Formats.{number-le, signed-again}
 use Rattle.bc6h_spec.proofs.Values.{length-pixels}
 use Rattle.bc6.specs.declared.Pixels.{Pixels}
-use Rattle.bc6.specs.Call.{refusalOf, Painted}
+use Rattle.bc6.specs.Call.{refusalOf, answerAt, Painted}
 use Rattle.bc6.proofs.Calls as pixels
 use Rattle.bc6_blocks.specs.declared.BlocksPixels.{BlocksPixels}
 use Rattle.bc6_blocks.specs.Run as run
@@ -35,6 +40,7 @@ use Rattle.pfm_floats.proofs.Exact as floats
 use Rattle.pfm.proofs.Places as pfm
 use Rattle.probe.proofs.Orders as probe
 use Rattle.probe_build.proofs.Shown as build
+use Rattle.demands.specs.Named.{Named, NamedBlocks}
 use Rattle.demands.specs.Demands.{Demand2, BlockByBlock, Bc7ByBlock, Demand3, WiderDemand3, CleanUp, BlockAgain, RecordAgain, FileAgain, OldAgain, NewAgain, FloatExact, PixelWritten, AnyOrder, ProbeBuilt}
 
 -- what `block_pixels` leaves of a block where it is done
@@ -56,6 +62,17 @@ pub demand2 : Demand2
 demand2 block format lent after r size known room p =
     let z : r .answer ≡ done = pixels.answered p ∙ pixels.done-when format (length block) (length lent) known size room in
     (z, (shown p z, rest p z))
+
+-- a row of the table, from what the definition says of it
+named-row : (row : Row) → Shown row → Named row
+named-row row s lent after r room p =
+    let d = demand2 (row .bytes) (formatNumber (row .signed)) lent after r (s .whole) (number-le (row .signed)) room p in
+    let mode : r .mode ≡ modeOf (row .bytes) =
+    ap (λ (x : Pixels). x .mode) (p .answers ∙ ap (λ (n : ℕ). answerAt n (row .bytes) (formatNumber (row .signed))) (unrefused p (d .0))) in
+    (d .0, (mode ∙ s .mode-is, d .1 .0 ∙ ap (λ (b : Bool). pixelsOf b (row .bytes)) (signed-again (row .signed)) ∙ s .values))
+
+pub named-blocks : NamedBlocks
+named-blocks = each-so Shown Named named-row namedBlocks named-shown
 
 run-number : (n : ℕ) (blocks : List ℕ) (format : ℕ) → run.runAnswer n blocks format .answer ≡ n
 run-number zero blocks format = refl

@@ -1,5 +1,4 @@
--- What is promised, over whatever the calls may leave: demands 2 and 3, the clean-up, and the requests' round trips. Demand 1 is in
--- Silence. Each type is proved in proofs/ under its name. Assumes nothing.
+-- What is promised, over whatever the calls may leave (demand 1 is in Silence). Each type is proved in proofs/ under its name. Assumes nothing.
 use mathlib.Core.Path.{_≡_}
 use mathlib.Core.Logic.{_⊎_}
 use mathlib.Core.Bool.{false}
@@ -9,7 +8,7 @@ use lib.ListN.{length, take, drop}
 use Rattle.laws.specs.Order.{Reordered}
 use Rattle.bc6h_spec.specs.declared.Fields.{Fields}
 use Rattle.bcn_spec.specs.Answers.{done}
-use Rattle.bcn_spec.specs.Bits.{blockSize, IsBlock}
+use Rattle.bcn_spec.specs.Bits.{blockSize, IsBlock, blocksIn, blockAt}
 use Rattle.bc6h_spec.specs.Fields.{modeOf, Valid}
 use Rattle.bc6h_spec.specs.Picture.{isSigned, valueCount}
 use Rattle.bc6h_spec.specs.Block.{pixelsOf}
@@ -18,7 +17,6 @@ use Rattle.store_copies.specs.Wide.{Suited, Matched}
 use Rattle.bc6.specs.declared.Pixels.{Pixels}
 use Rattle.bc6.specs.Call.{Painted}
 use Rattle.bc6_blocks.specs.declared.BlocksPixels.{BlocksPixels}
-use Rattle.bcn_spec.specs.Bits.{blocksIn, blockAt}
 use Rattle.bc6_blocks.specs.Run.{RunPainted}
 use Rattle.bc6_fields.specs.declared.FieldsRead.{FieldsRead}
 use Rattle.bc6_fields.specs.Call.{Extracted}

@@ -2,7 +2,7 @@
 use mathlib.Core.List.{List, [], _∷_, _++_}
 use Prim.Native.Nat.{ℕ}
 use lib.ListN.{replicate}
-use Rattle.bc6h_spec.proofs.Blocks.{B3, B4}
+use Rattle.bc6h_spec.specs.Named.{B3, B4}
 use Rattle.store_copies.proofs.Premises.{Pair}
 
 abbrev z : ℕ → List ℕ

@@ -22,7 +22,7 @@ use Rattle.bc6h_spec.specs.Fields.{modeIn, modeOf, gathered, fieldsAt, fieldsOf
 use Rattle.bc6h_spec.specs.Half.{signExtend, keep, transform, unquantizeU, unquantizeM, unquantized, interpolated, finishU, scaled, finishS, finished}
 use Rattle.bc6h_spec.specs.Picture.{firstEnd, delta, otherEnd, endpoint, between, palette, value, isSigned, pictureAs, picture}
 use Rattle.bc6h_spec.specs.Block.{pixelsOf}
-use Rattle.bc6h_spec.proofs.Blocks.{B3}
+use Rattle.bc6h_spec.specs.Named.{B3}
 use Rattle.store_copies.specs.Wide.{regions, lastIndex, AllReach, NoLeast, RegionsDiffer}
 use Rattle.store_copies.specs.Trust.{Trusted, reaches, channelDiffers, differs, leastAt, hasLeast, regionTrusted, fieldsTrusted, trusted}
 use Rattle.store_copies.proofs.Wide.{copies}

@@ -15,8 +15,9 @@
  * address with it, in the archive for x86-64; what the C library's memset takes for itself is not in it.
  *
  * An answer is one word. Its low byte is a number of this table, and 0 means done. Where several refusals apply, the order
- * that each call names decides, first met first. A refusal changes no lent byte or value. What a word has no room for, a call
- * puts into a slot whose pointer it is handed, which is not null; a slot is part of the answer and is 0 on a refusal.
+ * that each call names decides, first met first; "record by record" is the lowest record first, with all of its checks. A refusal
+ * changes no lent byte or value. What a word has no room for, a call puts into a slot whose pointer it is handed, which is not null; a
+ * slot is part of the answer and is 0 on a refusal.
  */
 #ifndef KNOTPASTURE_H
 #define KNOTPASTURE_H
@@ -32,36 +33,39 @@ extern "C" {
 /* The version of this header: three numbers, of which the first is that of the shared library's name. */
 #define KNOT_VERSION "0.10.0"
 
+/* The numbers of an answer, their names and their meaning. The tables of Python, Rust, JavaScript and docs/CALLS.md are written from this one
+ * by tools/make-refusals. 26 to 28 are answers of commands, not of calls.
+ */
 enum knot_answer {
-    KNOT_DONE = 0,
-    KNOT_BAD_FORMAT = 1,    /* format number is neither KNOT_UNSIGNED nor KNOT_SIGNED */
-    KNOT_BAD_BLOCK = 2,     /* block length is not KNOT_BLOCK_SIZE */
-    KNOT_SHORT_OUTPUT = 3,  /* lent output too short; of a face, also a pitch below a row's values */
-    KNOT_RESERVED_MODE = 4, /* reserved mode, from the field call only */
-    KNOT_LONG_STORE = 5,    /* store longer than KNOT_STORE_LIMIT bytes; of records with a place, KNOT_PLACED_STORE_LIMIT */
-    KNOT_UNEVEN_STORE = 6,  /* store length not a multiple of KNOT_RECORD_SIZE; of records with a place, of KNOT_PLACED_SIZE */
-    KNOT_SPARE_BYTE = 7,    /* a record's spare byte is not zero */
-    KNOT_NO_RECORD = 8,     /* record number not below the number of records */
-    KNOT_UNEVEN_BLOCKS = 9, /* block bytes not a multiple of KNOT_BLOCK_SIZE */
-    KNOT_INVALID_RECORD = 10, /* field record that no block has */
-    KNOT_BAD_BUFFER = 11,   /* lent block buffer not KNOT_BLOCK_SIZE bytes */
-    KNOT_RESERVED_BLOCK = 12, /* reserved block in the store, from the strict twin list only */
-    KNOT_FOREIGN_HEADER = 13, /* DDS header that is not ours */
-    KNOT_BAD_SIZE = 14,     /* a DDS file's width or height is not 1 to KNOT_DDS_LIMIT */
-    KNOT_BAD_BLOCKS = 15,   /* block bytes short or left over for the size of a file or a face */
-    KNOT_UNEVEN_SIZE = 16,  /* a Portable Float Map's width or height is 0, no multiple of 4 or above KNOT_PFM_LIMIT */
-    KNOT_BAD_PLACE = 17,    /* bad face, or a record that is not placed has a column or a row */
-    KNOT_PLACED_RECORD = 18, /* placed record on the way back, from knot_unplace_store only */
-    KNOT_BAD_EDGE = 19,     /* edge of a probe not 1 to KNOT_EDGE_LIMIT */
-    KNOT_UNPLACED_RECORD = 20, /* record of a probe that is not placed */
-    KNOT_PAST_EDGE = 21,    /* column or row of a record at or past the edge */
-    KNOT_TAKEN_PLACE = 22,  /* an earlier record has the same face, column and row */
-    KNOT_EMPTY_PLACE = 23,  /* no record has some face, column and row of the probe */
-    KNOT_NO_PIXEL = 24,     /* face, x or y out of range */
-    KNOT_BAD_RECEIPT = 25,  /* receipt that does not fit the cleaned store, from knot_restore_store only */
-    KNOT_OTHER_STORE = 26,  /* from the commands only: the store is not the one that was signed */
-    KNOT_OTHER_RECEIPT = 27, /* from the commands only: the receipt is of another store */
-    KNOT_OTHER_FILE = 28    /* from the commands only: the file looks like something else */
+    KNOT_DONE = 0,             /* done */
+    KNOT_BAD_FORMAT = 1,       /* the format is neither 0 (unsigned) nor 1 (signed) */
+    KNOT_BAD_BLOCK = 2,        /* the block is not 16 bytes long */
+    KNOT_SHORT_OUTPUT = 3,     /* the room for the result is too small */
+    KNOT_RESERVED_MODE = 4,    /* the mode is reserved */
+    KNOT_LONG_STORE = 5,       /* the store has more than 2,000 records */
+    KNOT_UNEVEN_STORE = 6,     /* the store's length is not a whole number of records */
+    KNOT_SPARE_BYTE = 7,       /* a spare byte of a record is not zero */
+    KNOT_NO_RECORD = 8,        /* there is no record of that number */
+    KNOT_UNEVEN_BLOCKS = 9,    /* the blocks' length is not a multiple of 16 */
+    KNOT_INVALID_RECORD = 10,  /* no block has these fields */
+    KNOT_BAD_BUFFER = 11,      /* the block's buffer is not 16 bytes long */
+    KNOT_RESERVED_BLOCK = 12,  /* a record that is not refused has a reserved mode: the capture is damaged */
+    KNOT_FOREIGN_HEADER = 13,  /* the header is not that of a BC6H texture of one level under the DX10 header */
+    KNOT_BAD_SIZE = 14,        /* the width or height is out of range */
+    KNOT_BAD_BLOCKS = 15,      /* the block bytes are short or left over for the size */
+    KNOT_UNEVEN_SIZE = 16,     /* the width or height is zero, not a multiple of 4 or above 4,096 */
+    KNOT_BAD_PLACE = 17,       /* the face is bad, or a record that is not placed has a position */
+    KNOT_PLACED_RECORD = 18,   /* a placed record does not move back */
+    KNOT_BAD_EDGE = 19,        /* the edge is not 1 to 16 */
+    KNOT_UNPLACED_RECORD = 20, /* a record is not placed */
+    KNOT_PAST_EDGE = 21,       /* a position is at or past the edge */
+    KNOT_TAKEN_PLACE = 22,     /* a place is taken twice */
+    KNOT_EMPTY_PLACE = 23,     /* a place is empty */
+    KNOT_NO_PIXEL = 24,        /* the face, x or y is out of range */
+    KNOT_BAD_RECEIPT = 25,     /* the receipt does not fit the store */
+    KNOT_OTHER_STORE = 26,     /* the store is not the one that was signed */
+    KNOT_OTHER_RECEIPT = 27,   /* the receipt is of another store */
+    KNOT_OTHER_FILE = 28       /* the file looks like something else */
 };
 
 enum knot_format { KNOT_UNSIGNED = 0, KNOT_SIGNED = 1 };
@@ -113,7 +117,7 @@ uint32_t knot_blocks_pixels(const uint8_t *blocks, size_t blocks_length, uint8_t
 
 /* The pixels of a face of width by height blocks, in rows: the blocks in row order, the top row first, become rows of pixels from the top
  * down, pitch values from the start of one row to the start of the next. Width and height are in blocks, the pitch is in values. Channel c of
- * pixel (x, y), red, green, blue, stands at out[pitch * y + 3 * x + c]: it is what knot_block_pixels writes of block width * (y div 4) + x div 4
+ * pixel (x, y), red, green, blue, is at out[pitch * y + 3 * x + c]: it is what knot_block_pixels writes of block width * (y div 4) + x div 4
  * for its pixel 4 * (y mod 4) + x mod 4. Every other value of out stays, those between two rows too. Each block is decoded once.
  *
  * Answers the number; *infinite becomes how many of the values are minus infinity, 0xFC00, and 0 on a refusal. A face without a block, width
@@ -129,7 +133,7 @@ uint32_t knot_face_pixels(const uint8_t *blocks, size_t blocks_length, size_t wi
 
 enum { KNOT_OPAQUE = 0x3C00 /* the alpha of every pixel: 1.0 */ };
 
-/* The same with four values a pixel, red, green, blue and alpha, which is KNOT_OPAQUE in every pixel: channel c of pixel (x, y) stands at
+/* What knot_face_pixels writes, with four values a pixel, alpha being KNOT_OPAQUE: channel c of pixel (x, y) is at
  * out[pitch * y + 4 * x + c]. Red, green and blue, the answer and *infinite are those of knot_face_pixels.
  *
  * Refusals: 1, 15, 3 (a pitch below 16 * width, or fewer values of room than pitch * (4 * height - 1) + 16 * width), in this order.
@@ -139,7 +143,7 @@ enum { KNOT_OPAQUE = 0x3C00 /* the alpha of every pixel: 1.0 */ };
 uint32_t knot_face_rgba(const uint8_t *blocks, size_t blocks_length, size_t width, size_t height, uint8_t format, uint16_t *out,
                         size_t out_length, size_t pitch, size_t *infinite);
 
-/* The fields of a block, as stored, before any sign extension or transform, and the format that they are read in:
+/* The fields of a block: as stored, before any sign extension or transform, and the format that they are read in.
  *
  *   numbers[0]         format, as given
  *   numbers[1]         mode, 1 to 14
@@ -195,7 +199,7 @@ uint64_t knot_record_at(const uint8_t *store, size_t store_length, size_t n);
  */
 size_t knot_record_block(const uint8_t *store, size_t store_length, size_t n);
 
-/* The tile number of record n, whatever else the record holds, and 0 where there is no such record.
+/* The tile number of record n, whatever else the record holds; 0 where there is no such record.
  *
  * Stack: 50 bytes.
  */
@@ -214,12 +218,12 @@ uint64_t knot_twin_list(const uint8_t *store, size_t store_length, uint8_t *mark
 #define KNOT_TWIN_COUNT(word) ((unsigned)((word) >> 32 & 0xFFFF))
 #define KNOT_BAD_COUNT(word) ((unsigned)((word) >> 48))
 
-/* The same over lent scratch space, KNOT_SCRATCH_VALUES values for each record of the store, for a caller that has not the stack of
- * knot_twin_list; both run the same code. Where the number is 0, answer and marks are those of knot_twin_list.
+/* What knot_twin_list does, over lent scratch space: KNOT_SCRATCH_VALUES values for each record of the store, for a caller that has not the
+ * stack of knot_twin_list. Both run the same code. Where the number is 0, answer and marks are those of knot_twin_list.
  *
  * A refusal changes no value of scratch. Where the number is 0 and the store has c records: scratch[n] is a fingerprint of record n, the
  * 48 values from scratch[c + 48 n] on are those that knot_block_pixels writes for its block, and the rest of scratch stays, as does what
- * stands there for a record that is refused. Neither answer nor marks depend on what it held before.
+ * is there for a record that is refused. Neither answer nor marks depend on what it held before.
  *
  * Refusals: 5, 6, 3 (fewer marks than records, or scratch space for fewer).
  *
@@ -288,10 +292,10 @@ uint64_t knot_clean_store(const uint8_t *store, size_t store_length, uint8_t *ou
 uint64_t knot_clean_with_receipt(const uint8_t *store, size_t store_length, uint8_t *out, size_t out_length, uint8_t *receipt,
                                  size_t receipt_length);
 
-/* Writes the store of which a clean-up with this receipt left these records, to out; the rest of out stays. Record n is what the entry of
+/* Undoes a clean-up: writes to out the store that it read, from the records that it left and its receipt; the rest of out stays. Record n is what the entry of
  * number n says, its tile followed by bytes 4 to 23 of the record that stays for it; where no entry has that number, the next record of the
  * cleaned store. Of exactly the bytes that knot_clean_with_receipt wrote, the cleaned store and the receipt, it gives back the same store, byte
- * for byte. It does not tell whether a receipt that fits belongs to the cleaned store.
+ * for byte. It cannot see whether a receipt that fits belongs to the cleaned store.
  *
  * Answers the number in the low byte; where that is 0, the number of records in bits 16 to 31. Refusals: 5 (a cleaned store above
  * KNOT_STORE_LIMIT bytes, or records and entries together above 2,000), 6, 25 (a receipt that is not whole, an entry's number that is not above
@@ -342,19 +346,19 @@ size_t knot_placed_record_block(const uint8_t *store, size_t store_length, size_
 /* Moves a store of 24-byte records to one of records with a place, none of them placed: out[32 n] to out[32 n + 31] for record n,
  * with the same tile, format and block; the rest of out stays.
  *
- * Answers the number in the low byte; where that is 0, the number of records in bits 16 to 31. Refusals: 5 and 6 as for
- * knot_record_at, 3 (fewer than 32 bytes of room a record); then the first record that is refused, with its 1 or 7, and that
- * record's number in bits 32 to 47, which are 0 for every other answer. Nothing is written then, not even the records before it.
+ * Answers the number in the low byte; where that is 0, the number of records in bits 16 to 31. Refusals: 5, 6,
+ * 3 (fewer than 32 bytes of room a record); then record by record 1, 7. For these two the first such record's number is in bits 32 to
+ * 47, which are 0 for every other answer. Nothing is written then, not even the records before it.
  *
  * Stack: 50 bytes.
  */
 uint64_t knot_place_store(const uint8_t *old, size_t old_length, uint8_t *out, size_t out_length);
 
-/* Moves a store of records with a place back to one of 24-byte records, which is the store that knot_place_store made it of:
- * out[24 n] to out[24 n + 23] for record n. No record may be placed.
+/* Moves a store of records with a place back to one of 24-byte records: the store that knot_place_store made it of.
+ * It writes out[24 n] to out[24 n + 23] for record n. No record may be placed.
  *
- * Answers as knot_place_store. Refusals: 5 and 6 as for knot_placed_record_at, 3 (fewer than 24 bytes of room a record); then the
- * first record that is refused, with its 1, 7, 17 or 18, a placed record, and its number.
+ * Answers as knot_place_store. Refusals: 5, 6, 3 (fewer than 24 bytes of room a record); then record by record 1, 7, 17, 18, with the
+ * record's number.
  *
  * Stack: 50 bytes.
  */
@@ -370,7 +374,7 @@ uint64_t knot_unplace_store(const uint8_t *store, size_t store_length, uint8_t *
  * 4 n by 4 n pixels: pixel (x, y) is pixel (x mod 4, y mod 4) of the block at column x div 4, row y div 4, in the format of that block's
  * own record; row 0 is on top.
  *
- * The store is checked in this order: 19, 5, 6; then each record, the lowest first, 1, 7, 17, 20, 21, 22; then 23.
+ * knot_probe_check says in which order a store is checked.
  */
 enum { KNOT_EDGE_LIMIT = 16 /* blocks on an edge, at most */ };
 
@@ -391,7 +395,7 @@ uint64_t knot_probe_pixel(const uint8_t *store, size_t store_length, uint32_t ed
 /* Whether a store is a probe of the edge.
  *
  * Answers the number in the low byte; for 1, 7, 17, 20, 21 and 22 the first faulty record's number in bits 16 to 31, which are 0 for
- * every other answer.
+ * every other answer. Refusals: 19, 5, 6; then record by record 1, 7, 17, 20, 21, 22; then 23.
  *
  * Stack: 3,200 bytes.
  */
@@ -399,7 +403,7 @@ uint64_t knot_probe_check(const uint8_t *store, size_t store_length, uint32_t ed
 
 #define KNOT_FAULTY_RECORD(word) ((unsigned)((word) >> 16 & 0xFFFF))
 
-/* A whole face of a probe: 16 n n pixels of three values, row by row from the top. What knot_probe_pixel answers for (x, y) stands from
+/* A whole face of a probe: 16 n n pixels of three values, row by row from the top. What knot_probe_pixel answers for (x, y) is from
  * out[3 (4 n y + x)] on; the rest of out stays. Each block is decoded once.
  *
  * Answers the number alone. Refusals: those of knot_probe_check, then 24 (face), then 3 (fewer than 48 n n values of room).
@@ -408,7 +412,7 @@ uint64_t knot_probe_check(const uint8_t *store, size_t store_length, uint32_t ed
  */
 uint32_t knot_probe_face(const uint8_t *store, size_t store_length, uint32_t edge, uint32_t face, uint16_t *out, size_t out_length);
 
-/* Whether a block, read in a format, is of mode 1 to 13; each of its regions has a pixel at index 0 and one at the last index, 7
+/* Whether a block meets by itself what the copies theorem asks: read in the format it is of mode 1 to 13; each of its regions has a pixel at index 0 and one at the last index, 7
  * in two regions and 15 in one, and a channel whose palette values all differ; and, if signed, no endpoint is after the transform
  * the lowest number of its precision. Two such blocks of one format, mode and partition that show the same 48 values are the same
  * sixteen bytes: deleting one of the two loses nothing. False for any other format or length.
@@ -417,7 +421,7 @@ uint32_t knot_probe_face(const uint8_t *store, size_t store_length, uint32_t edg
  */
 bool knot_is_trusted(const uint8_t *block, size_t block_length, uint8_t format);
 
-/* BC7: the sixteen pixels of a block as bytes: pixel 0 red, green, blue, alpha, then pixel 1, in the order of knot_block_pixels. They become
+/* The sixteen pixels of a BC7 block as bytes: pixel 0 red, green, blue, alpha, then pixel 1, in the order of knot_block_pixels. They become
  * out[0] to out[63], as interpolated, with no sRGB conversion; the rest of out stays.
  *
  * Answers the number in the low byte and the mode in the next: 0 to 7, or KNOT_BC7_RESERVED for a reserved block, which is done and shows 64
@@ -429,7 +433,7 @@ uint32_t knot_bc7_pixels(const uint8_t *block, size_t block_length, uint8_t *out
 
 enum { KNOT_BC7_BYTES = 64, KNOT_BC7_RESERVED = 8 };
 
-/* BC7: the bytes of a run of blocks in one call: what knot_bc7_pixels writes for each in turn, block n's bytes from out[64 n] on. The rest of
+/* The bytes of a run of BC7 blocks, in one call: what knot_bc7_pixels writes for each in turn, block n's bytes from out[64 n] on. The rest of
  * out stays.
  *
  * Answers the number; *done becomes the number of blocks, which may be 0. Refusals: 9, 3 (fewer than 64 bytes of room a block), in this order;
@@ -448,27 +452,30 @@ enum {
     KNOT_DDS_FILE = 16777364    /* bytes of a file, at most */
 };
 
-/* Size and format of a file. knot_dds_head reads the first KNOT_DDS_HEADER bytes alone, so that a caller learns the size before it has
- * the whole file, and refuses 13, 14; knot_dds_read reads a whole file and refuses 13, 14, 15.
+/* Size and format of a DDS file, from its first KNOT_DDS_HEADER bytes alone: a caller learns the size before it has the whole file.
  *
  * Answers the number in the low byte; where that is 0, the format in bits 8 to 15, the width in bits 16 to 31, the height in bits
- * 32 to 47; where it is not, nothing else.
+ * 32 to 47; where it is not, nothing else. Refusals: 13, 14.
  *
  * Stack: 50 bytes.
  */
 uint64_t knot_dds_head(const uint8_t *file, size_t file_length);
-/* Stack: 50 bytes. */
+
+/* Size and format of a whole DDS file. Answers as knot_dds_head. Refusals: 13, 14, 15.
+ *
+ * Stack: 50 bytes.
+ */
 uint64_t knot_dds_read(const uint8_t *file, size_t file_length);
 
 #define KNOT_DDS_FORMAT(word) ((unsigned)((word) >> 8 & 0xFF))
 #define KNOT_DDS_WIDTH(word) ((unsigned)((word) >> 16 & 0xFFFF))
 #define KNOT_DDS_HEIGHT(word) ((unsigned)((word) >> 32 & 0xFFFF))
 
-/* Where in the file the blocks start: KNOT_DDS_HEADER. 0 exactly when knot_dds_read refuses. They go on to the file's end. Stack: 50 bytes. */
+/* Where in a DDS file the blocks start: KNOT_DDS_HEADER. 0 exactly when knot_dds_read refuses. They go on to the file's end. Stack: 50 bytes. */
 size_t knot_dds_blocks(const uint8_t *file, size_t file_length);
 
-/* Writes a file: KNOT_DDS_HEADER bytes and the blocks; the rest of out stays. knot_dds_read of exactly those bytes answers the same size
- * and format, and knot_dds_blocks tells where the same blocks stand.
+/* Writes a DDS file: KNOT_DDS_HEADER bytes and the blocks; the rest of out stays. knot_dds_read of exactly those bytes answers the same size
+ * and format, and knot_dds_blocks says where the same blocks are.
  *
  * Answers the number in the low byte and the file's length in the bits above it, 0 on a refusal. Refusals: 1, 14, 15, 3 (less room than
  * KNOT_DDS_HEADER bytes and the blocks), in this order.
@@ -481,7 +488,7 @@ uint64_t knot_dds_write(const uint8_t *blocks, size_t blocks_length, uint8_t for
 #define KNOT_FILE_LENGTH(word) ((size_t)((word) >> 8))
 
 /* Portable Float Maps: a picture of blocks in row order as 32-bit floats. The file is the header, `PF`, width, height and `-1.0`, and then the
- * rows from the bottom up. Pixel (x, y), row 0 on top, stands at the header's length and 12 * ((height - 1 - y) * width + x): red, green and
+ * rows from the bottom up. Pixel (x, y), row 0 on top, is at the header's length and 12 * ((height - 1 - y) * width + x): red, green and
  * blue, low byte first, each exactly its half-float pattern, subnormal patterns too; 0xFC00 is minus infinity. Width and height are multiples
  * of 4, 4 to KNOT_PFM_LIMIT.
  */
@@ -490,7 +497,7 @@ enum {
     KNOT_PFM_FILE = 201326610   /* bytes of a file, at most */
 };
 
-/* Writes the file; the rest of out stays.
+/* Writes a Portable Float Map; the rest of out stays.
  *
  * Answers the number in the low byte and the file's length in the bits above it (KNOT_FILE_LENGTH), 0 on a refusal. Refusals: 1, 16, 15, 3
  * (less room than the file has bytes), in this order.
@@ -500,7 +507,7 @@ enum {
 uint64_t knot_pfm_write(const uint8_t *blocks, size_t blocks_length, uint8_t format, uint32_t width, uint32_t height, uint8_t *out,
                         size_t out_length);
 
-/* The length of the file of a picture; 0 for a size that is refused. Stack: 50 bytes. */
+/* The length of the Portable Float Map of a picture; 0 for a size that is refused. Stack: 50 bytes. */
 size_t knot_pfm_length(uint32_t width, uint32_t height);
 
 #ifdef __cplusplus

@@ -53,7 +53,7 @@ export const WORDS = Object.freeze({
   22: "a place is taken twice",
   23: "a place is empty",
   24: "the face, x or y is out of range",
-  25: "a receipt that does not fit the store",
+  25: "the receipt does not fit the store",
   26: "the store is not the one that was signed",
   27: "the receipt is of another store",
   28: "the file looks like something else",

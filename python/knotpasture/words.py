@@ -1,4 +1,7 @@
-"""What the number of a refusal means, in one line: the words of this package and of `knot`. It needs nothing else of the package."""
+"""What the number of a refusal means, in one line: the words of this package and of `knot`. It needs nothing else of the package.
+
+tools/make-refusals writes this file from include/knotpasture.h.
+"""
 
 WORDS = {
     1: "the format is neither 0 (unsigned) nor 1 (signed)",
@@ -25,7 +28,7 @@ WORDS = {
     22: "a place is taken twice",
     23: "a place is empty",
     24: "the face, x or y is out of range",
-    25: "a receipt that does not fit the store",
+    25: "the receipt does not fit the store",
     26: "the store is not the one that was signed",
     27: "the receipt is of another store",
     28: "the file looks like something else",

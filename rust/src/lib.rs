@@ -139,7 +139,7 @@ refusals! {
     22 TAKEN_PLACE "a place is taken twice"
     23 EMPTY_PLACE "a place is empty"
     24 NO_PIXEL "the face, x or y is out of range"
-    25 BAD_RECEIPT "a receipt that does not fit the store"
+    25 BAD_RECEIPT "the receipt does not fit the store"
     26 OTHER_STORE "the store is not the one that was signed"
     27 OTHER_RECEIPT "the receipt is of another store"
     28 OTHER_FILE "the file looks like something else"

@@ -1,4 +1,4 @@
-"""What each command does with each kind of wrong file: the table of docs/TESTING.md is what the commands are seen to do.
+"""What each command does with each kind of wrong file: the table of tests/people/wrong-files.md is what the commands are seen to do.
 
 tests/people/run --table prints it, to be put there.
 """
@@ -8,7 +8,7 @@ import re
 from harness import ROOT, SAMPLES, check, count, is_wrong, run, skipped, wanted
 from standins import uses_kinds
 
-PAGE = ROOT / "docs/TESTING.md"
+PAGE = ROOT / "tests/people/wrong-files.md"
 CHANCE = random.Random(36)
 BLACK = bytes(16)
 
@@ -119,7 +119,7 @@ def wrong_files(folder):
     text = PAGE.read_text()
     page = text[text.find(seen[0]):].split("\n\n")[0].splitlines() if seen[0] in text else []
     for line in sorted(set(seen) ^ set(page)):
-        is_wrong("wrong file, docs/TESTING.md", f"{'seen' if line in seen else 'on the page'}: {line}")
+        is_wrong("wrong file, tests/people/wrong-files.md", f"{'seen' if line in seen else 'on the page'}: {line}")
     overridden(folder)
 
 

@@ -48,7 +48,7 @@ enum knot_answer {
     KNOT_RESERVED_BLOCK = 12, /* reserved block in the store, from the strict twin list only */
     KNOT_FOREIGN_HEADER = 13, /* DDS header that is not ours */
     KNOT_BAD_SIZE = 14,     /* a DDS file's width or height is not 1 to KNOT_DDS_LIMIT */
-    KNOT_BAD_BLOCKS = 15,   /* block bytes short or left over for the size of a file or a face */
+    KNOT_BAD_BLOCKS = 15,   /* block bytes short or left over for the size of a file, a face or a probe */
     KNOT_UNEVEN_SIZE = 16,  /* a Portable Float Map's width or height is 0, no multiple of 4 or above KNOT_PFM_LIMIT */
     KNOT_BAD_PLACE = 17,    /* bad face, or a record that is not placed has a column or a row */
     KNOT_PLACED_RECORD = 18, /* placed record on the way back, from knot_unplace_store only */
@@ -377,12 +377,14 @@ enum { KNOT_EDGE_LIMIT = 16 /* blocks on an edge, at most */ };
 /* The three half-float patterns of a pixel of a probe.
  *
  * Answers the number in the low byte; where that is 0, red in bits 16 to 31, green in bits 32 to 47, blue in bits 48 to 63. A
- * refusal is the number alone. Refusals: those of knot_probe_check, then 24. The store is checked at each call: paint a face by
- * knot_probe_face and not pixel by pixel, which takes some 700 times as long.
+ * refusal is the number alone. *faulty becomes the first faulty record's number for 1, 7, 17, 20, 21 and 22, and 0 for every other
+ * answer. Refusals: those of knot_probe_check, then 24. The store is checked at each call: paint a face by knot_probe_face and not
+ * pixel by pixel, which takes some 700 times as long.
  *
  * Stack: 3,500 bytes.
  */
-uint64_t knot_probe_pixel(const uint8_t *store, size_t store_length, uint32_t edge, uint32_t face, uint32_t x, uint32_t y);
+uint64_t knot_probe_pixel(const uint8_t *store, size_t store_length, uint32_t edge, uint32_t face, uint32_t x, uint32_t y,
+                          size_t *faulty);
 
 #define KNOT_RED(word) ((uint16_t)((word) >> 16 & 0xFFFF))
 #define KNOT_GREEN(word) ((uint16_t)((word) >> 32 & 0xFFFF))
@@ -407,6 +409,23 @@ uint64_t knot_probe_check(const uint8_t *store, size_t store_length, uint32_t ed
  * Stack: 5,000 bytes.
  */
 uint32_t knot_probe_face(const uint8_t *store, size_t store_length, uint32_t edge, uint32_t face, uint16_t *out, size_t out_length);
+
+/* The edge by the store's length: the n of 1 to KNOT_EDGE_LIMIT with 192 n n bytes, or 0 if there is none. It reads no byte of the
+ * store: knot_probe_check says whether the store is a probe of that edge. Stack: 50 bytes. */
+size_t knot_probe_edge(const uint8_t *store, size_t store_length);
+
+/* Makes a probe of the blocks of its six faces: face by face, row by row from the top, all in one format. Record f n n + row n + column
+ * has the block at that column and row of face f; its tile number is first_tile plus the record's number, modulo 2^32. out[0] to
+ * out[192 n n - 1] become the store, which is a probe of the edge; the rest of out stays. knot_probe_pixel and knot_probe_face of
+ * exactly those bytes show the blocks.
+ *
+ * Answers the number alone; *records becomes the number of records, 6 n n. Refusals: 19, 1, 15 (not 96 n n bytes of blocks), 3 (fewer
+ * than 192 n n bytes of room), in this order; nothing is written, and *records becomes 0.
+ *
+ * Stack: 200 bytes.
+ */
+uint32_t knot_probe_build(const uint8_t *blocks, size_t blocks_length, uint8_t format, uint32_t edge, uint32_t first_tile, uint8_t *out,
+                          size_t out_length, size_t *records);
 
 /* Whether a block, read in a format, is of mode 1 to 13; each of its regions has a pixel at index 0 and one at the last index, 7
  * in two regions and 15 in one, and a channel whose palette values all differ; and, if signed, no endpoint is after the transform

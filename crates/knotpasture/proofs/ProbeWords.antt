@@ -3,20 +3,22 @@ use mathlib.Core.Path.{_≡_, refl, sym, ap, _∙_}
 use mathlib.Core.List.{List}
 use Prim.Native.Nat.{ℕ, zero, suc, _+_, _*_, _<_, _≤_}
 use native.Mathlib.Omega.{arith}
+use lib.ListN.{take, drop}
+use Rattle.bcn_spec.specs.Bits.{blockSize}
 use Rattle.probe_places.specs.declared.Fault.{Fault}
 use Rattle.probe_places.specs.declared.PlacedRecord.{PlacedRecord}
 use Rattle.probe_places.specs.declared.PlacedReading.{PlacedReading}
 use Rattle.probe_places.specs.declared.PlacedReading.the-variants as reading
-use Rattle.probe_places.specs.Places.{placeSize, placeHead, placeLimit}
-use Rattle.probe_places.specs.Readings.{placedRefusal, PlacedRead}
+use Rattle.probe_places.specs.Places.{placeSize, placeHead, placeLimit, blockIn}
+use Rattle.probe_places.specs.Readings.{placedRefusal, Readable, PlacedRead, placedPart}
 use Rattle.probe_places.proofs.Readings.{known, unrefused, record-is, refused}
 use Rattle.probe_moves.specs.declared.Moved.{Moved}
 use Rattle.probe_moves.specs.Moves.{PlacedStore, UnplacedStore}
 use Rattle.probe.specs.declared.ProbePixel.{ProbePixel}
-use Rattle.probe.specs.Probe.{probeFault, probeAnswer, Asked}
+use Rattle.probe.specs.Probe.{probeFault, Asked}
 use Rattle.probe.proofs.Telling.{faulty-small}
 use Rattle.probe_faces.specs.Face.{FacePainted}
-use Rattle.knotpasture.specs.Probe.{placedOffset, movedWord, PlacedReadingCalled, PlaceCalled, UnplaceCalled, pixelWord, faultWord, FaceCalled}
+use Rattle.knotpasture.specs.Probe.{placedOffset, movedWord, PlacedReadingCalled, PlaceCalled, UnplaceCalled, pixelWord, PixelCalled, faultWord, FaceCalled}
 
 -- ---- the record calls
 
@@ -51,6 +53,14 @@ module _ {store : List ℕ} {n : ℕ} {x : PlacedReading} (d : PlacedRead store 
   pub inside : {r : PlacedRecord} → x ≡ reading.Record r → n * placeSize < placeLimit
   inside e = let k = known store n (unrefused d e) in omega arith
 
+-- from the offset on stand the bytes that `placed_record_block` gives
+pub placed-block-at-offset : (store : List ℕ) (n : ℕ) {offset : ℕ} {part : List ℕ} → offset ≡ placedOffset (placedRefusal store n) n
+    → part ≡ placedPart (placedRefusal store n) store n → Readable store n → take blockSize (drop offset store) ≡ part
+unfolding blockIn
+placed-block-at-offset store n {offset} e p u =
+    let o : offset ≡ n * placeSize + placeHead = e ∙ rw u in
+    ap (λ (at : ℕ). take blockSize (drop at store)) o ∙ sym (p ∙ rw u)
+
 pub one-placed : {store : List ℕ} {n r s c b a w : ℕ} → PlacedReadingCalled store n r c a → PlacedReadingCalled store n s b w → (r ≡ s) × (c ≡ b) × (a ≡ w)
 one-placed d e = (d .answers ∙ sym (e .answers), d .column-told ∙ sym (e .column-told), d .row-told ∙ sym (e .row-told))
 
@@ -71,8 +81,12 @@ one-unplace d e = (d .answers ∙ sym (e .answers), d .holds ∙ sym (e .holds))
 
 -- ---- the probe
 
-pub pixel-called : {store : List ℕ} {edge face x y : ℕ} {p : ProbePixel} → Asked store edge face x y p → pixelWord p ≡ pixelWord (probeAnswer store edge face x y)
-pixel-called d = ap pixelWord (d .answers)
+pub pixel-called : {store : List ℕ} {edge face x y : ℕ} {p : ProbePixel} → Asked store edge face x y p
+    → PixelCalled store edge face x y (pixelWord p) (p .faulty)
+pixel-called d = record { answers = ap pixelWord (d .answers); faulty-told = ap (λ (p : ProbePixel). p .faulty) (d .answers) }
+
+pub one-pixel : {store : List ℕ} {edge face x y r s m n : ℕ} → PixelCalled store edge face x y r m → PixelCalled store edge face x y s n → (r ≡ s) × (m ≡ n)
+one-pixel d e = (d .answers ∙ sym (e .answers), d .faulty-told ∙ sym (e .faulty-told))
 
 module _ (store : List ℕ) (edge : ℕ) {fault : Fault} (e : fault ≡ probeFault store edge) where
   pub fault-few : fault .faulty ≤ 2000

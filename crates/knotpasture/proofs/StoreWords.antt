@@ -4,13 +4,15 @@ use mathlib.Core.List.{List, [], _∷_}
 use Prim.Native.Nat.{ℕ, zero, suc, _+_, _*_, _<_, _≤_}
 use native.Mathlib.Omega.{arith}
 use lib.Dec.{eqb}
+use lib.ListN.{take, drop}
 use borrow.Author.Tests.{eqb-true, eqb-false}
 use Rattle.laws.proofs.Tests.{cases}
 use Rattle.bcn_spec.specs.Answers.{done}
+use Rattle.bcn_spec.specs.Bits.{blockSize}
 use Rattle.store_records.specs.declared.Record.{Record}
 use Rattle.store_records.specs.declared.RecordReading.{RecordReading}
 use Rattle.store_records.specs.declared.RecordReading.the-variants as reading
-use Rattle.store_records.specs.Store.{recordSize, headSize, storeLimit, tileOf, formatOf, recordRefusal, Read}
+use Rattle.store_records.specs.Store.{recordSize, headSize, storeLimit, tileOf, formatOf, blockOf, recordRefusal, Unrefused, Read, partAt}
 use Rattle.store_records.proofs.Refusals.{known}
 use Rattle.store_records.proofs.Readings.{unrefused, refused}
 use Rattle.store_spec.specs.declared.TwinList.{TwinList}
@@ -53,6 +55,18 @@ module _ {store : List ℕ} {n : ℕ} {x : RecordReading} (d : Read store n x) w
   -- a record that is there starts inside the store
   pub inside : {r : Record} → x ≡ reading.Record r → n * recordSize < storeLimit
   inside e = let k = known store n (unrefused d e) in omega arith
+
+-- from the offset on stand the bytes that `record_block` gives; where it gives none, the offset is 0
+pub block-at-offset : (store : List ℕ) (n : ℕ) {offset : ℕ} {part : List ℕ} → offset ≡ offsetAt (recordRefusal store n) n
+    → part ≡ partAt (recordRefusal store n) store n → Unrefused store n → take blockSize (drop offset store) ≡ part
+unfolding blockOf
+block-at-offset store n {offset} e p u =
+    let o : offset ≡ n * recordSize + headSize = e ∙ rw u in
+    ap (λ (at : ℕ). take blockSize (drop at store)) o ∙ sym (p ∙ rw u)
+
+-- the offset is 0 exactly where there is no such block
+pub offset-none : (store : List ℕ) (n : ℕ) {offset : ℕ} → offset ≡ offsetAt (recordRefusal store n) n → offset ≡ 0 → Unrefused store n → ⊥
+offset-none store n {offset} e z u = let o : offset ≡ n * recordSize + headSize = e ∙ rw u in omega arith
 
 -- ---- the twin lists
 

@@ -10,6 +10,7 @@ use Rattle.probe_moves.specs.declared.Moved.{Moved}
 use Rattle.probe_moves.specs.Moves.{placedStore, oldStore, placingFault, unplacingFault, placingRefusal, unplacingRefusal, movedAt, bytesAt}
 use Rattle.probe_places.specs.declared.Fault.{Fault}
 use Rattle.probe.specs.declared.ProbePixel.{ProbePixel}
+use Rattle.probe.specs.Probe.{probeAnswer}
 use Rattle.probe_faces.specs.Face.{faceOf, faceFault, faceValues}
 
 -- a record: 0 in the low byte, the format in the next, the face in bits 16 to 23, the tile in the high half; a refusal: its number alone
@@ -49,6 +50,11 @@ pub record UnplaceCalled (new lent : List ℕ) (r : ℕ) (after : List ℕ) : Ty
 -- the number in the low byte; red, green and blue in the three sixteen-bit fields above the lowest
 abbrev pub pixelWord : ProbePixel → ℕ
 pixelWord p = p .answer + p .r * 0x10000 + p .g * 0x100000000 + p .b * 0x1000000000000
+
+-- The pixel call: its answer in one word, and in the slot the first faulty record, where one is why.
+pub record PixelCalled (store : List ℕ) (edge face x y r faulty : ℕ) : Type 0 where
+  pub answers : r ≡ pixelWord (probeAnswer store edge face x y)
+  pub faulty-told : faulty ≡ probeAnswer store edge face x y .faulty
 
 -- the number in the low byte; in bits 16 to 31 the faulty record
 abbrev pub faultWord : Fault → ℕ

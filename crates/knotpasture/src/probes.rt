@@ -5,8 +5,11 @@ use probe_places::PlacedReading;
 ghost use mathlib.Core.Path.{_≡_};
 ghost use Prim.Native.Nat.{_≤_};
 ghost use Rattle.probe_places.specs.Readings.{placedRefusal};
-ghost use Rattle.probe.specs.Probe.{probeAnswer, probeFault};
-ghost use Rattle.knotpasture.specs.Probe.{placedOffset, movedWord, PlacedReadingCalled, PlaceCalled, UnplaceCalled, pixelWord, faultWord, FaceCalled};
+ghost use lib.ListN.{length};
+ghost use Rattle.probe.specs.Probe.{probeFault};
+ghost use Rattle.probe_build.specs.Building.{BuiltTo};
+ghost use Rattle.probe_build.specs.Edges.{edgeOf};
+ghost use Rattle.knotpasture.specs.Probe.{placedOffset, movedWord, PlacedReadingCalled, PlaceCalled, UnplaceCalled, PixelCalled, faultWord, FaceCalled};
 
 #[no_mangle]
 pub extern "C" fn knot_placed_record_at(
@@ -68,10 +71,18 @@ pub extern "C" fn knot_unplace_store(store: &[u8], out: &mut [u8]) -> u64
 }
 
 #[no_mangle]
-pub extern "C" fn knot_probe_pixel(store: &[u8], edge: u32, face: u32, x: u32, y: u32) -> u64
-    ensures { λ r. ⌜ r ≡ pixelWord (probeAnswer (now (store .entry)) edge face x y) ⌝ }
+pub extern "C" fn knot_probe_pixel(
+    store: &[u8],
+    edge: u32,
+    face: u32,
+    x: u32,
+    y: u32,
+    faulty: &mut usize,
+) -> u64
+    ensures { λ r. ⌜ PixelCalled (now (store .entry)) edge face x y r (now (faulty .exit)) ⌝ }
 {
     let pixel = probe::probe_pixel(store, edge as usize, face as usize, x as usize, y as usize);
+    *faulty = pixel.faulty;
     (pixel.answer as u64)
         + (pixel.r as u64) * 0x10000
         + (pixel.g as u64) * 0x100000000
@@ -91,4 +102,27 @@ pub extern "C" fn knot_probe_face(store: &[u8], edge: u32, face: u32, out: &mut 
     ensures { λ r. ⌜ FaceCalled (now (store .entry)) edge face (now (out .entry)) r (now (out .exit)) ⌝ }
 {
     probe_faces::probe_face(store, edge as usize, face as usize, out).answer as u32
+}
+
+#[no_mangle]
+pub extern "C" fn knot_probe_edge(store: &[u8]) -> usize
+    ensures { λ r. ⌜ r ≡ edgeOf (length (now (store .entry))) ⌝ }
+{
+    probe_build::probe_edge(store) as usize
+}
+
+#[no_mangle]
+pub extern "C" fn knot_probe_build(
+    blocks: &[u8],
+    format: u8,
+    edge: u32,
+    first_tile: u32,
+    out: &mut [u8],
+    records: &mut usize,
+) -> u32
+    ensures { λ r. ⌜ BuiltTo (now (blocks .entry)) format edge «first_tile» (now (out .entry)) (record { answer = r; records = now (records .exit) }) (now (out .exit)) ⌝ }
+{
+    let built = probe_build::probe_build(blocks, format, edge, first_tile, out);
+    *records = built.records;
+    built.answer as u32
 }

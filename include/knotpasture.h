@@ -381,12 +381,14 @@ enum { KNOT_EDGE_LIMIT = 16 /* blocks on an edge, at most */ };
 /* The three half-float patterns of a pixel of a probe.
  *
  * Answers the number in the low byte; where that is 0, red in bits 16 to 31, green in bits 32 to 47, blue in bits 48 to 63. A
- * refusal is the number alone. Refusals: those of knot_probe_check, then 24. The store is checked at each call: paint a face by
- * knot_probe_face and not pixel by pixel, which takes some 700 times as long.
+ * refusal is the number alone. *faulty becomes the first faulty record's number for 1, 7, 17, 20, 21 and 22, and 0 for every other
+ * answer. Refusals: those of knot_probe_check, then 24. The store is checked at each call: paint a face by knot_probe_face and not
+ * pixel by pixel, which takes some 700 times as long.
  *
  * Stack: 3,500 bytes.
  */
-uint64_t knot_probe_pixel(const uint8_t *store, size_t store_length, uint32_t edge, uint32_t face, uint32_t x, uint32_t y);
+uint64_t knot_probe_pixel(const uint8_t *store, size_t store_length, uint32_t edge, uint32_t face, uint32_t x, uint32_t y,
+                          size_t *faulty);
 
 #define KNOT_RED(word) ((uint16_t)((word) >> 16 & 0xFFFF))
 #define KNOT_GREEN(word) ((uint16_t)((word) >> 32 & 0xFFFF))

@@ -107,10 +107,14 @@ export declare class Knotpasture {
   unplace(store: Bytes): Uint8Array;
   /** Returns where a store is a probe of the edge. Refusals: 19, 5, 6; with the first faulty record 1, 7, 17, 20, 21, 22; 23. */
   probeCheck(store: Bytes, edge: Whole): void;
-  /** Red, green and blue of a pixel of a probe. Refusals: those of `probeCheck`, then 24. */
+  /** Red, green and blue of a pixel of a probe. Refusals: those of `probeCheck`, with its record, then 24. */
   probePixel(store: Bytes, edge: Whole, face: Whole, x: Whole, y: Whole): Uint16Array;
   /** A whole face of a probe, three patterns a pixel, row 0 on top. Refusals: those of `probeCheck`, then 24. */
   probeFace(store: Bytes, edge: Whole, face: Whole): Uint16Array;
+  /** The edge of a probe by its store's length; 0 where no edge has that length. */
+  probeEdge(store: Bytes): number;
+  /** A probe of the blocks of its six faces, face by face and row by row; record n has the tile number firstTile + n. Refusals: 19, 1, 15. */
+  probeBuild(blocks: Bytes, signed: Signed, edge: Whole, firstTile?: Whole): Uint8Array;
   /** Width, height and format from the first 148 bytes of a DDS file. Refusals: 13, 14. */
   ddsHead(head: Bytes): DdsHead;
   /** Size, format and blocks of a whole DDS file. Refusals: 13, 14, 15. */

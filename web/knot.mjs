@@ -60,8 +60,12 @@ function part(word, name) {
 
 // Throws a refusal; `names` is the part of the word that has the record which is why.
 function done(word, names = null) {
+  return doneWithRecord(word, names && PARTS[names] ? part(word, names) : null);
+}
+
+function doneWithRecord(word, record) {
   const answer = part(word, "ANSWER");
-  if (answer) throw new Refused(answer, names && PARTS[names] && NAMES_RECORD.has(answer) ? part(word, names) : null);
+  if (answer) throw new Refused(answer, NAMES_RECORD.has(answer) ? record : null);
   return word;
 }
 
@@ -417,10 +421,10 @@ export class Knotpasture {
     done(this.#call("knot_probe_check", { store: bytesOf(store, "store"), edge }).word, "FAULTY_RECORD");
   }
 
-  /** Red, green and blue of a pixel of a probe. Refusals: those of `probeCheck`, without the record, then 24. */
+  /** Red, green and blue of a pixel of a probe. Refusals: those of `probeCheck`, with its record, then 24. */
   probePixel(store, edge, face, x, y) {
-    const { word } = this.#call("knot_probe_pixel", { store: bytesOf(store, "store"), edge, face, x, y });
-    done(word);
+    const { word, faulty } = this.#call("knot_probe_pixel", { store: bytesOf(store, "store"), edge, face, x, y });
+    doneWithRecord(word, faulty);
     return Uint16Array.of(part(word, "RED"), part(word, "GREEN"), part(word, "BLUE"));
   }
 
@@ -430,6 +434,19 @@ export class Knotpasture {
     const { word, out } = this.#call("knot_probe_face", { store: bytesOf(store, "store"), edge, face, out: 3 * side * side });
     done(word);
     return out;
+  }
+
+  /** The edge of a probe by its store's length; 0 where no edge has that length. */
+  probeEdge(store) {
+    return Number(this.#call("knot_probe_edge", { store: bytesOf(store, "store") }).word);
+  }
+
+  /** A probe of the blocks of its six faces, face by face and row by row; record n has the tile number firstTile + n. Refusals: 19, 1, 15. */
+  probeBuild(blocks, signed, edge, firstTile = 0) {
+    const side = Math.min(numberOf(edge, "edge", 32), EDGE_LIMIT);
+    const { word, out, records } = this.#call("knot_probe_build", { blocks: bytesOf(blocks, "blocks"), format: signed, edge, first_tile: firstTile, out: 6 * side * side * PLACED_SIZE });
+    done(word);
+    return out.subarray(0, records * PLACED_SIZE);
   }
 
   // ---- files

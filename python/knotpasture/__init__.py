@@ -434,15 +434,16 @@ def placed_record(store: Bytes, n: int) -> PlacedRecord:
         _part(word, 32, 32), _part(word, 8, 8), face if face < FACES else None, column.value, row.value, given[start:start + BLOCK_SIZE])
 
 
-def _done_with_record(word: int, low: int) -> int:
-    """The word of a call that tells from bit `low` on which record is why it refuses."""
-    return _done(word, _part(word, low) if word & 0xFF in (1, 7, 17, 18, 20, 21, 22) else None)
+def _done_with_record(word: int, record: int) -> int:
+    """The word of a call that names the record that is why it refuses."""
+    return _done(word, record if word & 0xFF in (1, 7, 17, 18, 20, 21, 22) else None)
 
 
 def _moved(name: str, store: Bytes, size: int, limit: int, new_size: int) -> NDArray[numpy.uint8]:
     given = _bytes(store, "store")
     room = numpy.empty(min(given.size, limit) // size * new_size, numpy.uint8)
-    word = _done_with_record(_library.call(name)(given.ctypes.data, given.size, room.ctypes.data, room.size), 32)
+    word = _library.call(name)(given.ctypes.data, given.size, room.ctypes.data, room.size)
+    _done_with_record(word, _part(word, 32))
     return room[: _part(word, 16) * new_size]
 
 
@@ -459,14 +460,16 @@ def unplace(store: Bytes) -> NDArray[numpy.uint8]:
 def probe_check(store: Bytes, edge: int) -> None:
     """Returns where a store is a probe of the edge. Refusals: 19, 5, 6; with the first faulty record 1, 7, 17, 20, 21, 22; 23."""
     given = _bytes(store, "store")
-    _done_with_record(_library.call("knot_probe_check")(given.ctypes.data, given.size, _number(edge, "edge", 32)), 16)
+    word = _library.call("knot_probe_check")(given.ctypes.data, given.size, _number(edge, "edge", 32))
+    _done_with_record(word, _part(word, 16))
 
 
 def probe_pixel(store: Bytes, edge: int, face: int, x: int, y: int) -> NDArray[numpy.float16]:
-    """Red, green and blue of a pixel of a probe. Refusals: those of `probe_check`, without the record, then 24."""
-    given = _bytes(store, "store")
+    """Red, green and blue of a pixel of a probe. Refusals: those of `probe_check`, with its record, then 24."""
+    given, faulty = _bytes(store, "store"), ctypes.c_size_t()
     numbers = [_number(value, what, 32) for what, value in (("edge", edge), ("face", face), ("x", x), ("y", y))]
-    word = _done(_library.call("knot_probe_pixel")(given.ctypes.data, given.size, *numbers))
+    word = _library.call("knot_probe_pixel")(given.ctypes.data, given.size, *numbers, ctypes.byref(faulty))
+    _done_with_record(word, faulty.value)
     return numpy.array([_part(word, low) for low in (16, 32, 48)], numpy.uint16).view(numpy.float16)
 
 
@@ -478,6 +481,21 @@ def probe_face(store: Bytes, edge: int, face: int) -> NDArray[numpy.float16]:
     room = numpy.empty((side, side, 3), numpy.float16)
     _done(_library.call("knot_probe_face")(given.ctypes.data, given.size, edge, face, room.ctypes.data, room.size))
     return room
+
+
+def probe_edge(store: Bytes) -> int:
+    """The edge of a probe by its store's length; 0 where no edge has that length."""
+    given = _bytes(store, "store")
+    return int(_library.call("knot_probe_edge")(given.ctypes.data, given.size))
+
+
+def probe_build(blocks: Bytes, signed: Signed, edge: int, first_tile: int = 0) -> NDArray[numpy.uint8]:
+    """A probe of the blocks of its six faces, face by face and row by row. Record n has the tile number first_tile + n. Refusals: 19, 1, 15."""
+    given, edge = _bytes(blocks, "blocks"), _number(edge, "edge", 32)
+    room, records = numpy.empty(6 * min(edge, EDGE_LIMIT) ** 2 * PLACED_SIZE, numpy.uint8), ctypes.c_size_t()
+    _done(_library.call("knot_probe_build")(
+        given.ctypes.data, given.size, _format(signed), edge, _number(first_tile, "first_tile", 32), room.ctypes.data, room.size, ctypes.byref(records)))
+    return room[: records.value * PLACED_SIZE]
 
 
 # ---- files

@@ -78,9 +78,20 @@ extern "C" {
     pub fn knot_placed_record_block(store: *const u8, store_length: usize, n: usize) -> usize;
     pub fn knot_place_store(old: *const u8, old_length: usize, out: *mut u8, out_length: usize) -> u64;
     pub fn knot_unplace_store(store: *const u8, store_length: usize, out: *mut u8, out_length: usize) -> u64;
-    pub fn knot_probe_pixel(store: *const u8, store_length: usize, edge: u32, face: u32, x: u32, y: u32) -> u64;
+    pub fn knot_probe_pixel(store: *const u8, store_length: usize, edge: u32, face: u32, x: u32, y: u32, faulty: *mut usize) -> u64;
     pub fn knot_probe_check(store: *const u8, store_length: usize, edge: u32) -> u64;
     pub fn knot_probe_face(store: *const u8, store_length: usize, edge: u32, face: u32, out: *mut u16, out_length: usize) -> u32;
+    pub fn knot_probe_edge(store: *const u8, store_length: usize) -> usize;
+    pub fn knot_probe_build(
+        blocks: *const u8,
+        blocks_length: usize,
+        format: u8,
+        edge: u32,
+        first_tile: u32,
+        out: *mut u8,
+        out_length: usize,
+        records: *mut usize,
+    ) -> u32;
 
     pub fn knot_bc7_pixels(block: *const u8, block_length: usize, out: *mut u8, out_length: usize) -> u32;
     pub fn knot_bc7_blocks_pixels(blocks: *const u8, blocks_length: usize, out: *mut u8, out_length: usize, done: *mut usize) -> u64;

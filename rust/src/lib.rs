@@ -548,7 +548,7 @@ pub fn placed_record_block(store: &[u8], n: usize) -> Option<&[u8]> {
 }
 
 fn moved(word: u64) -> Result<usize, Fault> {
-    done(word).map(|word| usize::from((word >> 16) as u16)).map_err(|refused| Fault::told(refused, (word >> 32) as u16))
+    done(word).map(|word| usize::from((word >> 16) as u16)).map_err(|refused| Fault::told(refused, usize::from((word >> 32) as u16)))
 }
 
 /// Moves a store of 24-byte records to one of records with a place, none of them placed; answers how many there are.
@@ -578,8 +578,8 @@ pub struct Fault {
 
 impl Fault {
     /// The refusal, with the record where it is a record's.
-    fn told(refused: Refused, record: u16) -> Fault {
-        Fault { refused, record: matches!(refused.0, 1 | 7 | 17 | 18 | 20 | 21 | 22).then_some(record.into()) }
+    fn told(refused: Refused, record: usize) -> Fault {
+        Fault { refused, record: matches!(refused.0, 1 | 7 | 17 | 18 | 20 | 21 | 22).then_some(record) }
     }
 }
 
@@ -598,16 +598,17 @@ impl std::error::Error for Fault {}
 pub fn probe_check(store: &[u8], edge: u32) -> Result<(), Fault> {
     // SAFETY: `store` is borrowed to read, with its own length.
     let word = unsafe { c::knot_probe_check(store.as_ptr(), store.len(), edge) };
-    done(word).map(|_| ()).map_err(|refused| Fault::told(refused, (word >> 16) as u16))
+    done(word).map(|_| ()).map_err(|refused| Fault::told(refused, usize::from((word >> 16) as u16)))
 }
 
 /// Red, green and blue of a pixel of a probe. The store is checked at each call: for many pixels [`probe_face`] is the call.
 ///
-/// Refusals: those of [`probe_check`], then 24.
-pub fn probe_pixel(store: &[u8], edge: u32, face: u32, x: u32, y: u32) -> Result<[u16; 3], Refused> {
-    // SAFETY: `store` is borrowed to read, with its own length.
-    let word = unsafe { c::knot_probe_pixel(store.as_ptr(), store.len(), edge, face, x, y) };
-    done(word).map(|word| [16, 32, 48].map(|shift| (word >> shift) as u16))
+/// Refusals: those of [`probe_check`], with its record, then 24.
+pub fn probe_pixel(store: &[u8], edge: u32, face: u32, x: u32, y: u32) -> Result<[u16; 3], Fault> {
+    let mut faulty = 0;
+    // SAFETY: `store` is borrowed to read, with its own length; `faulty` is a local.
+    let word = unsafe { c::knot_probe_pixel(store.as_ptr(), store.len(), edge, face, x, y, &mut faulty) };
+    done(word).map(|word| [16, 32, 48].map(|shift| (word >> shift) as u16)).map_err(|refused| Fault::told(refused, faulty))
 }
 
 /// A whole face of a probe becomes the first 48 edge · edge values of `out`, row by row from the top.
@@ -617,6 +618,26 @@ pub fn probe_face(store: &[u8], edge: u32, face: u32, out: &mut [u16]) -> Result
     // SAFETY: `store` is borrowed to read, `out` to write, each with its own length.
     let word = unsafe { c::knot_probe_face(store.as_ptr(), store.len(), edge, face, out.as_mut_ptr(), out.len()) };
     done(word.into()).map(|_| ())
+}
+
+/// The edge of a probe by its store's length; None where no edge has that length. [`probe_check`] says whether the store is a probe of it.
+pub fn probe_edge(store: &[u8]) -> Option<u32> {
+    // SAFETY: `store` is borrowed to read, with its own length.
+    match unsafe { c::knot_probe_edge(store.as_ptr(), store.len()) } {
+        0 => None,
+        edge => Some(edge as u32),
+    }
+}
+
+/// Writes a probe of the blocks of its six faces to the first 192 edge · edge bytes of `out`: face by face, row by row from the top. Record n has
+/// the tile number `first_tile` + n, modulo 2^32. Answers how many records there are.
+///
+/// Refusals: 19, 1, 15, 3.
+pub fn probe_build(blocks: &[u8], format: impl Into<u8>, edge: u32, first_tile: u32, out: &mut [u8]) -> Result<usize, Refused> {
+    let (lent, room, mut records) = (out.as_mut_ptr(), out.len(), 0);
+    // SAFETY: `blocks` is borrowed to read, `out` to write, each with its own length; `records` is a local.
+    let word = unsafe { c::knot_probe_build(blocks.as_ptr(), blocks.len(), format.into(), edge, first_tile, lent, room, &mut records) };
+    done(word.into()).map(|_| records)
 }
 
 /// The 64 bytes of a BC7 block become the first of `out`: red, green, blue and alpha of each pixel. Answers the mode, 0 to 7, or

@@ -144,6 +144,27 @@ def face_values(answer, shown, edge, face, room):
     return 0, [value for y in range(4 * edge) for x in range(4 * edge) for value in shown.triple(face, x, y)]
 
 
+def edge(store):
+    """The edge by the store's length, or 0."""
+    return next((n for n in range(1, 17) if len(store) == 6 * n * n * SIZE), 0)
+
+
+def build(blocks, form, edge, first, room):
+    """The number, and the store of the blocks of six faces; none on a refusal."""
+    if not 1 <= edge <= 16:
+        return 19, b""
+    if form > 1:
+        return 1, b""
+    count = 6 * edge * edge
+    if len(blocks) != 16 * count:
+        return 15, b""
+    if room < SIZE * count:
+        return 3, b""
+    places = [(face, column, row) for face in range(FACES) for row in range(edge) for column in range(edge)]
+    pieces = [record(*place, blocks[16 * n : 16 * n + 16], form, (first + n) % 2**32) for n, place in enumerate(places)]
+    return 0, b"".join(pieces)
+
+
 def orders(records):
     """The records in order, turned round, and shuffled."""
     shuffled = list(records)

@@ -13,6 +13,7 @@ enum { EDGE = 16, FACE = EDGE * EDGE, RECORDS = 6 * FACE, SIZE = 32, ROUNDS = 40
 static uint8_t store[SIZE * RECORDS], blocks[16 * FACE];
 static uint16_t values[48 * FACE];
 static volatile uint64_t sink;
+static size_t faulty;
 
 static double now(void)
 {
@@ -52,7 +53,7 @@ static void fill(void)
 }
 
 static void check(void) { sink = knot_probe_check(store, sizeof store, EDGE); }
-static void pixel(void) { sink = knot_probe_pixel(store, sizeof store, EDGE, 3, 17, 42); }
+static void pixel(void) { sink = knot_probe_pixel(store, sizeof store, EDGE, 3, 17, 42, &faulty); }
 static void face(void) { sink = knot_probe_face(store, sizeof store, EDGE, 3, values, 48 * FACE); }
 static void block(void) { sink = knot_block_pixels(blocks, 16, KNOT_UNSIGNED, values, 48); }
 

@@ -4,6 +4,7 @@ import ctypes
 import dataclasses
 import importlib.util
 import inspect
+import itertools
 import mmap
 import pathlib
 import pickle
@@ -420,11 +421,30 @@ def test_probe():
     refused(19, knotpasture.probe_face, store, (1 << 32) - 1, 0)
     refused(24, knotpasture.probe_face, store, 2, 6)
     refused(24, knotpasture.probe_pixel, store, 2, 0, 8, 0)
+    refused(22, knotpasture.probe_pixel, store + store[-32:], 2, 6, 0, 0, record=24)
     face = knotpasture.probe_face(store, 2, 3)
     assert face.shape == (8, 8, 3)
     for y in range(8):
         for x in range(8):
             assert knotpasture.probe_pixel(store, 2, 3, x, y).tobytes() == face[y, x].tobytes()
+
+
+def test_probe_built():
+    blocks = b"".join(bytes(16) if k % 5 else B3 for k in range(24))
+    store = knotpasture.probe_build(blocks, True, 2, 0xFFFFFFF0)
+    assert store.size == 24 * 32 and knotpasture.probe_edge(store) == 2 and knotpasture.probe_check(store, 2) is None
+    shown = knotpasture.decode(blocks, True)
+    for face, row, column in itertools.product(range(6), range(2), range(2)):
+        n = 4 * face + 2 * row + column
+        record = knotpasture.placed_record(store, n)
+        assert record[:5] == ((0xFFFFFFF0 + n) % 2**32, 1, face, column, row) and record.block.tobytes() == blocks[16 * n : 16 * n + 16]
+        part = knotpasture.probe_face(store, 2, face)[4 * row : 4 * row + 4, 4 * column : 4 * column + 4]
+        assert part.tobytes() == shown[n].tobytes()
+    refused(19, knotpasture.probe_build, blocks, 2, 0)
+    refused(19, knotpasture.probe_build, blocks, 2, 17)
+    refused(1, knotpasture.probe_build, blocks, 2, 1)
+    refused(15, knotpasture.probe_build, blocks, 1, 1)
+    assert [knotpasture.probe_edge(bytes(192 * n * n)) for n in range(18)] == [*range(17), 0] and knotpasture.probe_edge(bytes(191)) == 0
 
 
 # ---- files

@@ -228,6 +228,9 @@ class Vectors:
             call("knot_probe_check", far, 2)
             call("knot_probe_pixel", far, 2, 0, 0, 0)
             call("knot_probe_face", far, 2, 0, none)
+            call("knot_probe_edge", far)
+            call("knot_probe_build", far, 0, 2, 0, none)
+            call("knot_probe_build", none, 0, 2, 0, far)
 
     def runs(self):
         call = self.call
@@ -327,6 +330,10 @@ class Vectors:
             for _ in range(6):
                 call("knot_probe_pixel", store, asked, self.chance.randrange(6), self.chance.randrange(4 * edge + self.now_and_then(0.1)), self.chance.randrange(4 * edge + self.now_and_then(0.1)))
             call("knot_probe_pixel", store, asked, 1 << 31, 0, 0)
+            call("knot_probe_edge", store)
+            blocks = b"".join(self.bc6() for _ in range(6 * edge * edge)) + b"x" * self.now_and_then(0.1)
+            room = max(0, PLACED * 6 * edge * edge + self.some(0, 0, 0, 4, -1))
+            call("knot_probe_build", blocks, self.some(0, 0, 1, 1, 2), asked, self.chance.getrandbits(32), room)
             self.over_placed(store)
 
     def files(self):

@@ -121,6 +121,16 @@ for (let face = 0; face < 6; face++) {
   const values = knot.probeFace(small, 2, face);
   for (let k = 0; k < 64; k++) check("probe", () => same(knot.probePixel(small, 2, face, k % 8, k >> 3), values.subarray(3 * k, 3 * k + 3)));
 }
+check("edges", () => assert.deepEqual([small, small.subarray(1), new Uint8Array(0), new Uint8Array(192)].map((store) => knot.probeEdge(store)), [2, 0, 0, 1]));
+check("a built probe", () => {
+  const given = Uint8Array.from({ length: 96 }, (_, k) => (k % 16 ? 0 : 3)), store = knot.probeBuild(given, false, 1, 2 ** 32 - 1);
+  knot.probeCheck(store, 1);
+  for (let n = 0; n < 6; n++) {
+    const { block, ...rest } = knot.placedRecord(store, n);
+    assert.deepEqual(rest, { tile: (2 ** 32 - 1 + n) % 2 ** 32, format: 0, face: n, column: 0, row: 0 });
+    same(block, given.subarray(16 * n, 16 * n + 16));
+  }
+});
 
 // ---- refusals, and what must not be cut
 
@@ -144,6 +154,9 @@ refused(12, () => knot.strictTwins(sample("apart.store")), 0);
 refused(16, () => knot.pfmWrite(blocks, 0, 4 * SIDE - 2, 4 * SIDE));
 refused(19, () => knot.probeCheck(small, 17));
 refused(20, () => knot.probeCheck(sample("unplaced.places"), 1), 0);
+refused(20, () => knot.probePixel(sample("unplaced.places"), 1, 0, 0, 0), 0);
+refused(19, () => knot.probeBuild(blocks, 0, 17));
+refused(15, () => knot.probeBuild(blocks.subarray(1), 0, 1));
 refused(24, () => knot.probeFace(small, 2, 6));
 for (const call of [() => knot.decode(blocks, 256), () => knot.decode(blocks, -1), () => knot.modes(blocks, 256), () => knot.record(covered, 1.5), () => knot.record(covered, 2n ** 64n), () => knot.record(covered, -1),
   () => knot.probeCheck(small, 2 ** 32), () => knot.probePixel(small, 2, 0, 2n ** 32n, 0), () => knot.ddsWrite(blocks, false, 2 ** 32 + 4, 4), () => knot.write({ ...knot.fields(block(1), false), partition: 65536 })]) throws(RangeError, call);

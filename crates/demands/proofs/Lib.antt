@@ -1,2 +1,3 @@
 pub mod Silences
 pub mod Demands
+pub mod Outcomes

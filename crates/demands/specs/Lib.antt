@@ -1,3 +1,4 @@
 pub mod Silence
 pub mod Demands
 pub mod Named
+pub mod Outcomes

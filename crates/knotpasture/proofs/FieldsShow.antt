@@ -26,7 +26,7 @@ use Rattle.bc6.specs.Call as pixels
 use Rattle.bc6.proofs.Calls.{answered}
 use Rattle.bc6_numbers.specs.Numbers.{numberCount, fieldsFrom}
 use Rattle.bc6_numbers.proofs.Back.{fields-back}
-use Rattle.knotpasture.specs.Packed.{FieldsCalled}
+use Rattle.knotpasture.specs.Fields.{FieldsCalled}
 use Rattle.knotpasture.proofs.Undone.{numbers-are}
 
 module _ (block : List ℕ) (format : ℕ) (l : length block ≡ blockSize) (k : format ≤ 1) (m : 1 ≤ modeOf block) where
@@ -70,7 +70,3 @@ module _ (block : List ℕ) (format : ℕ) (l : length block ≡ blockSize) (k :
       → {p : Pixels} {painted : List ℕ} → pixels.Painted block format lent p painted → (r ≡ p .answer) × (after ≡ painted)
   numbers-show c d s p =
       record-shown (ap fieldsFrom (numbers-are block format l k m c d) ∙ fields-back (fieldsOf format block) (fields-valid format block k m)) s p
-
--- what the call leaves is told of the record that the numbers make
-pub shown-of : {f g : Fields} {lent : List ℕ} {r : ℕ} {after : List ℕ} → f ≡ g → shown.FieldsShown f lent r after → shown.FieldsShown g lent r after
-shown-of {lent = lent} {r} {after} e w = subst (λ (h : Fields). shown.FieldsShown h lent r after) e w

@@ -1,17 +1,92 @@
--- The words that the exports of the probe answer, from what the calls ensure. Assumes nothing.
-use mathlib.Core.Path.{_≡_, sym, ap, _∙_}
+-- The words of the exports over records with a place and over a probe, from what the calls ensure. Assumes nothing.
+use mathlib.Core.Path.{_≡_, refl, sym, ap, _∙_}
 use mathlib.Core.List.{List}
-use Prim.Native.Nat.{ℕ, _≤_}
+use Prim.Native.Nat.{ℕ, zero, suc, _+_, _*_, _<_, _≤_}
 use native.Mathlib.Omega.{arith}
+use lib.ListN.{take, drop}
+use Rattle.bcn_spec.specs.Bits.{blockSize}
 use Rattle.probe_places.specs.declared.Fault.{Fault}
+use Rattle.probe_places.specs.declared.PlacedRecord.{PlacedRecord}
+use Rattle.probe_places.specs.declared.PlacedReading.{PlacedReading}
+use Rattle.probe_places.specs.declared.PlacedReading.the-variants as reading
+use Rattle.probe_places.specs.Places.{placeSize, placeHead, placeLimit, blockIn}
+use Rattle.probe_places.specs.Readings.{placedRefusal, Readable, PlacedRead, placedPart}
+use Rattle.probe_places.proofs.Readings.{known, unrefused, record-is, refused}
+use Rattle.probe_moves.specs.declared.Moved.{Moved}
+use Rattle.probe_moves.specs.Moves.{PlacedStore, UnplacedStore}
 use Rattle.probe.specs.declared.ProbePixel.{ProbePixel}
-use Rattle.probe.specs.Probe.{probeFault, probeAnswer, Asked}
+use Rattle.probe.specs.Probe.{probeFault, Asked}
 use Rattle.probe.proofs.Telling.{faulty-small}
 use Rattle.probe_faces.specs.Face.{FacePainted}
-use Rattle.knotpasture.specs.ProbeWords.{pixelWord, faultWord, FaceCalled}
+use Rattle.knotpasture.specs.Probe.{placedOffset, movedWord, PlacedReadingCalled, PlaceCalled, UnplaceCalled, pixelWord, PixelCalled, faultWord, FaceCalled}
 
-pub pixel-called : {store : List ℕ} {edge face x y : ℕ} {p : ProbePixel} → Asked store edge face x y p → pixelWord p ≡ pixelWord (probeAnswer store edge face x y)
-pixel-called d = ap pixelWord (d .answers)
+-- ---- the record calls
+
+refusal-called : (store : List ℕ) (n number : ℕ) → placedRefusal store n ≡ number → (number ≡ 0 → ⊥) → PlacedReadingCalled store n number 0 0
+refusal-called store n zero e h = absurd (h refl)
+refusal-called store n (suc number) e h = record { answers = rw e; column-told = rw e; row-told = rw e }
+
+no-offset : (number n : ℕ) → (number ≡ 0 → ⊥) → 0 ≡ placedOffset number n
+no-offset zero n h = absurd (h refl)
+no-offset (suc number) n h = refl
+
+module _ {store : List ℕ} {n : ℕ} {x : PlacedReading} (d : PlacedRead store n x) where
+  pub placed-called : {r : PlacedRecord} → x ≡ reading.Record r
+      → PlacedReadingCalled store n (r .format * 0x100 + r .place .face * 0x10000 + r .tile * 0x100000000) (r .place .column) (r .place .row)
+  placed-called {r} e =
+      let u = unrefused d e in
+      let i = record-is d e in
+      record { answers = rw (u, i); column-told = rw (u, i); row-told = rw (u, i) }
+
+  pub placed-refused : {number : ℕ} → x ≡ reading.Refused number → PlacedReadingCalled store n number 0 0
+  placed-refused {number} e =
+      let a : number ≡ placedRefusal store n = rw e at (d .answers) in
+      refusal-called store n number (sym a) (λ z. refused d e (sym a ∙ z))
+
+  pub placed-offset : {r : PlacedRecord} → x ≡ reading.Record r → n * placeSize + placeHead ≡ placedOffset (placedRefusal store n) n
+  placed-offset e = rw (unrefused d e)
+
+  pub refused-offset : {number : ℕ} → x ≡ reading.Refused number → 0 ≡ placedOffset (placedRefusal store n) n
+  refused-offset e = no-offset (placedRefusal store n) n (refused d e)
+
+  -- a record that is there starts inside the store
+  pub inside : {r : PlacedRecord} → x ≡ reading.Record r → n * placeSize < placeLimit
+  inside e = let k = known store n (unrefused d e) in omega arith
+
+-- from the offset on stand the bytes that `placed_record_block` gives
+pub placed-block-at-offset : (store : List ℕ) (n : ℕ) {offset : ℕ} {part : List ℕ} → offset ≡ placedOffset (placedRefusal store n) n
+    → part ≡ placedPart (placedRefusal store n) store n → Readable store n → take blockSize (drop offset store) ≡ part
+unfolding blockIn
+placed-block-at-offset store n {offset} e p u =
+    let o : offset ≡ n * placeSize + placeHead = e ∙ rw u in
+    ap (λ (at : ℕ). take blockSize (drop at store)) o ∙ sym (p ∙ rw u)
+
+pub one-placed : {store : List ℕ} {n r s c b a w : ℕ} → PlacedReadingCalled store n r c a → PlacedReadingCalled store n s b w → (r ≡ s) × (c ≡ b) × (a ≡ w)
+one-placed d e = (d .answers ∙ sym (e .answers), d .column-told ∙ sym (e .column-told), d .row-told ∙ sym (e .row-told))
+
+-- ---- the moves
+
+pub place-called : {old lent after : List ℕ} {r : Moved} {word : ℕ} → PlacedStore old lent r after → word ≡ movedWord r → PlaceCalled old lent word after
+place-called d e = record { answers = e ∙ ap movedWord (d .answers); holds = d .holds }
+
+pub unplace-called : {new lent after : List ℕ} {r : Moved} {word : ℕ} → UnplacedStore new lent r after → word ≡ movedWord r
+    → UnplaceCalled new lent word after
+unplace-called d e = record { answers = e ∙ ap movedWord (d .answers); holds = d .holds }
+
+pub one-place : {old lent : List ℕ} {r s : ℕ} {a b : List ℕ} → PlaceCalled old lent r a → PlaceCalled old lent s b → (r ≡ s) × (a ≡ b)
+one-place d e = (d .answers ∙ sym (e .answers), d .holds ∙ sym (e .holds))
+
+pub one-unplace : {new lent : List ℕ} {r s : ℕ} {a b : List ℕ} → UnplaceCalled new lent r a → UnplaceCalled new lent s b → (r ≡ s) × (a ≡ b)
+one-unplace d e = (d .answers ∙ sym (e .answers), d .holds ∙ sym (e .holds))
+
+-- ---- the probe
+
+pub pixel-called : {store : List ℕ} {edge face x y : ℕ} {p : ProbePixel} → Asked store edge face x y p
+    → PixelCalled store edge face x y (pixelWord p) (p .faulty)
+pixel-called d = record { answers = ap pixelWord (d .answers); faulty-told = ap (λ (p : ProbePixel). p .faulty) (d .answers) }
+
+pub one-pixel : {store : List ℕ} {edge face x y r s m n : ℕ} → PixelCalled store edge face x y r m → PixelCalled store edge face x y s n → (r ≡ s) × (m ≡ n)
+one-pixel d e = (d .answers ∙ sym (e .answers), d .faulty-told ∙ sym (e .faulty-told))
 
 module _ (store : List ℕ) (edge : ℕ) {fault : Fault} (e : fault ≡ probeFault store edge) where
   pub fault-few : fault .faulty ≤ 2000

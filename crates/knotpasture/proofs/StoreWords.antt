@@ -1,28 +1,109 @@
--- The words that the exports over a whole store answer, from what the calls ensure. Assumes nothing.
+-- The words that the exports over a store answer, from what the calls ensure. Assumes nothing.
 use mathlib.Core.Path.{_≡_, refl, sym, ap, _∙_}
-use mathlib.Core.List.{List}
-use Prim.Native.Nat.{ℕ, zero, suc, _+_, _≤_}
+use mathlib.Core.List.{List, [], _∷_}
+use Prim.Native.Nat.{ℕ, zero, suc, _+_, _*_, _<_, _≤_}
 use native.Mathlib.Omega.{arith}
 use lib.Dec.{eqb}
-use lib.ListN.{length}
+use lib.ListN.{take, drop}
 use borrow.Author.Tests.{eqb-true, eqb-false}
 use Rattle.laws.proofs.Tests.{cases}
 use Rattle.bcn_spec.specs.Answers.{done}
+use Rattle.bcn_spec.specs.Bits.{blockSize}
+use Rattle.store_records.specs.declared.Record.{Record}
+use Rattle.store_records.specs.declared.RecordReading.{RecordReading}
+use Rattle.store_records.specs.declared.RecordReading.the-variants as reading
+use Rattle.store_records.specs.Store.{recordSize, headSize, storeLimit, tileOf, formatOf, blockOf, recordRefusal, Unrefused, Read, partAt}
+use Rattle.store_records.proofs.Refusals.{known}
+use Rattle.store_records.proofs.Readings.{unrefused, refused}
 use Rattle.store_spec.specs.declared.TwinList.{TwinList}
-use Rattle.store_spec.specs.Twins.{ListedIn}
-use Rattle.store_spec.proofs.Listing.{list-is, silent-in}
-use Rattle.store_clean.specs.declared.Cleaned.{Cleaned}
-use Rattle.store_clean.specs.Clean.{refusal, CleanedInto}
-use Rattle.store_clean.proofs.Cleaning as cleaning
-use Rattle.store_receipt.specs.Receipt.{receiptRefusal, ReceiptInto}
-use Rattle.store_receipt.proofs.Telling as telling
-use Rattle.store_restore.specs.declared.Restored.{Restored}
-use Rattle.store_restore.specs.Restore.{restoreRefusal, RestoredInto}
-use Rattle.store_restore.proofs.Fitting.{restorable}
-use Rattle.store_restore.proofs.Restoring as restoring
-use Rattle.knotpasture.specs.Packed.{twinsWord}
-use Rattle.knotpasture.specs.Stores.{TwinsInCalled, cleanWord, CleanCalled, ReceiptCalled, restoredWord, RestoreCalled}
-use Rattle.knotpasture.proofs.Words.{no-counts, few}
+use Rattle.store_spec.specs.Twins.{refusal, Listed, ListedIn}
+use Rattle.store_spec.proofs.Listing.{refused-alone, counts-add-up, whole, list-is, silent-in}
+use Rattle.store_strict.specs.Strict.{StrictlyListed}
+use Rattle.store_strict.proofs.Strictness as strict
+use Rattle.knotpasture.specs.Store.{wordAt, readingWord, offsetAt, twinsWord, TwinsCalled, StrictCalled, TwinsInCalled}
+
+-- ---- the record calls
+
+refusal-word : (store : List ℕ) (n number : ℕ) → (number ≡ 0 → ⊥) → number ≡ wordAt number store n
+refusal-word store n zero h = absurd (h refl)
+refusal-word store n (suc number) h = refl
+
+no-offset : (number n : ℕ) → (number ≡ 0 → ⊥) → 0 ≡ offsetAt number n
+no-offset zero n h = absurd (h refl)
+no-offset (suc number) n h = refl
+
+module _ {store : List ℕ} {n : ℕ} {x : RecordReading} (d : Read store n x) where
+  pub record-word : {r : Record} → x ≡ reading.Record r → r .format * 0x100 + r .tile * 0x100000000 ≡ readingWord store n
+  record-word {r} e =
+      let u = unrefused d e in
+      let v : r .tile ∷ r .format ∷ [] ≡ tileOf store n ∷ formatOf store n ∷ [] = rw (e, u) at (d .gives) in
+      let t : r .tile ≡ tileOf store n = cc in
+      let f : r .format ≡ formatOf store n = cc in
+      rw (u, t, f)
+
+  pub refused-word : {number : ℕ} → x ≡ reading.Refused number → number ≡ readingWord store n
+  refused-word {number} e =
+      let a : number ≡ recordRefusal store n = rw e at (d .answers) in
+      a ∙ refusal-word store n (recordRefusal store n) (refused d e)
+
+  pub record-offset : {r : Record} → x ≡ reading.Record r → n * recordSize + headSize ≡ offsetAt (recordRefusal store n) n
+  record-offset e = rw (unrefused d e)
+
+  pub refused-offset : {number : ℕ} → x ≡ reading.Refused number → 0 ≡ offsetAt (recordRefusal store n) n
+  refused-offset e = no-offset (recordRefusal store n) n (refused d e)
+
+  -- a record that is there starts inside the store
+  pub inside : {r : Record} → x ≡ reading.Record r → n * recordSize < storeLimit
+  inside e = let k = known store n (unrefused d e) in omega arith
+
+-- from the offset on stand the bytes that `record_block` gives; where it gives none, the offset is 0
+pub block-at-offset : (store : List ℕ) (n : ℕ) {offset : ℕ} {part : List ℕ} → offset ≡ offsetAt (recordRefusal store n) n
+    → part ≡ partAt (recordRefusal store n) store n → Unrefused store n → take blockSize (drop offset store) ≡ part
+unfolding blockOf
+block-at-offset store n {offset} e p u =
+    let o : offset ≡ n * recordSize + headSize = e ∙ rw u in
+    ap (λ (at : ℕ). take blockSize (drop at store)) o ∙ sym (p ∙ rw u)
+
+-- the offset is 0 exactly where there is no such block
+pub offset-none : (store : List ℕ) (n : ℕ) {offset : ℕ} → offset ≡ offsetAt (recordRefusal store n) n → offset ≡ 0 → Unrefused store n → ⊥
+offset-none store n {offset} e z u = let o : offset ≡ n * recordSize + headSize = e ∙ rw u in omega arith
+
+-- ---- the twin lists
+
+pub no-counts : {number : ℕ} {list : TwinList} → list ≡ refusal number → list .kept + list .twins + list .bad ≤ 2000
+no-counts e = rw e (omega arith)
+
+module _ {store lent after : List ℕ} {r : TwinList} (d : Listed store lent r after) where
+  pub twins-called : {word : ℕ} → word ≡ twinsWord r → TwinsCalled store lent word after
+  twins-called e = record { answers = e ∙ ap twinsWord (d .answers); holds = d .holds }
+
+  -- no count is above the number of records, 2,000
+  few-done : r .answer ≡ done → r .kept + r .twins + r .bad ≤ 2000
+  few-done z = let w = whole d z in let c = counts-add-up d z in omega arith
+
+  pub few : r .kept + r .twins + r .bad ≤ 2000
+  few =
+      cases (eqb (r .answer) done) (λ z. few-done (eqb-true _ _ z)) (λ f. no-counts (refused-alone d (eqb-false _ _ f)))
+
+module _ {store lent after : List ℕ} {r : TwinList} (d : StrictlyListed store lent r after) where
+  pub strict-called : {word : ℕ} → word ≡ twinsWord r → StrictCalled store lent word after
+  strict-called e = record { answers = e ∙ ap twinsWord (d .answers); holds = d .holds }
+
+  pub strict-few : r .kept + r .twins + r .bad ≤ 2000
+  strict-few =
+      cases (eqb (r .answer) done) (λ z. few (strict.list-is d (eqb-true _ _ z)))
+      (λ f. no-counts (strict.refused-alone d (eqb-false _ _ f)))
+
+  -- a refusal's word is its number: no count in it is other than 0
+  pub strict-word-alone : {word : ℕ} → word ≡ twinsWord r → (r .answer ≡ done → ⊥) → word ≡ r .answer
+  strict-word-alone e n = e ∙ ap twinsWord (strict.refused-alone d n) ∙ omega arith
+
+pub one-list : {store lent : List ℕ} {r s : ℕ} {a b : List ℕ} → TwinsCalled store lent r a → TwinsCalled store lent s b → (r ≡ s) × (a ≡ b)
+one-list d e = (d .answers ∙ sym (e .answers), d .holds ∙ sym (e .holds))
+
+pub one-strict-list : {store lent : List ℕ} {r s : ℕ} {a b : List ℕ} → StrictCalled store lent r a → StrictCalled store lent s b
+    → (r ≡ s) × (a ≡ b)
+one-strict-list d e = (d .answers ∙ sym (e .answers), d .holds ∙ sym (e .holds))
 
 -- ---- the twin list over lent scratch space
 
@@ -37,64 +118,3 @@ module _ {store lent space after spaceAfter : List ℕ} {r : TwinList} (d : List
 pub one-list-in : {store lent space : List ℕ} {r s : ℕ} {a b u v : List ℕ} → TwinsInCalled store lent space r a u → TwinsInCalled store lent space s b v
     → (r ≡ s) × (a ≡ b) × (u ≡ v)
 one-list-in d e = (d .answers ∙ sym (e .answers), d .holds ∙ sym (e .holds), d .leaves ∙ sym (e .leaves))
-
--- ---- the clean-up
-
-module _ {store lent after : List ℕ} {r : Cleaned} (d : CleanedInto store lent r after) where
-  pub clean-called : {word : ℕ} → word ≡ cleanWord r → CleanCalled store lent word after
-  clean-called e = record { answers = e ∙ ap cleanWord (d .answers); holds = d .holds }
-
-  clean-done-few : r .answer ≡ done → r .kept + r .removed ≤ 2000
-  clean-done-few z = let w = cleaning.whole d z in let c = cleaning.counts-add-up d z in omega arith
-
-  pub clean-few : r .kept + r .removed ≤ 2000
-  clean-few =
-      cases (eqb (r .answer) done) (λ z. clean-done-few (eqb-true _ _ z))
-      (λ f. rw (cleaning.refused-alone d (eqb-false _ _ f)) (omega arith))
-
-  -- a refusal's word is its number: no count in it is other than 0
-  pub clean-word-alone : {word : ℕ} → word ≡ cleanWord r → (r .answer ≡ done → ⊥) → word ≡ r .answer
-  clean-word-alone e n = e ∙ ap cleanWord (cleaning.refused-alone d n) ∙ omega arith
-
-pub one-clean : {store lent : List ℕ} {r s : ℕ} {a b : List ℕ} → CleanCalled store lent r a → CleanCalled store lent s b → (r ≡ s) × (a ≡ b)
-one-clean d e = (d .answers ∙ sym (e .answers), d .holds ∙ sym (e .holds))
-
--- ---- the clean-up with a receipt
-
-module _ {store lent paper after written : List ℕ} {r : Cleaned} (d : ReceiptInto store lent paper r after written) where
-  pub receipt-called : {word : ℕ} → word ≡ cleanWord r → ReceiptCalled store lent paper word after written
-  receipt-called e = record { answers = e ∙ ap cleanWord (d .answers); holds = d .holds; tells = d .tells }
-
-  receipt-alone : (k : ℕ) → receiptRefusal (length store) (length lent) (length paper) ≡ suc k → r ≡ refusal (suc k)
-  receipt-alone k q = rw q at (d .answers)
-
-  pub receipt-few : r .kept + r .removed ≤ 2000
-  receipt-few = go (receiptRefusal (length store) (length lent) (length paper)) refl
-    where
-      go : (k : ℕ) → receiptRefusal (length store) (length lent) (length paper) ≡ k → r .kept + r .removed ≤ 2000
-      go zero q = let z : r .answer ≡ done = telling.answer-number d ∙ q in clean-done-few (telling.as-cleaned d z) z
-      go (suc k) q = rw (receipt-alone k q) (omega arith)
-
-pub one-receipt : {store lent paper : List ℕ} {r s : ℕ} {a b u v : List ℕ} → ReceiptCalled store lent paper r a u → ReceiptCalled store lent paper s b v
-    → (r ≡ s) × (a ≡ b) × (u ≡ v)
-one-receipt d e = (d .answers ∙ sym (e .answers), d .holds ∙ sym (e .holds), d .tells ∙ sym (e .tells))
-
--- ---- the way back
-
-module _ {cleaned receipt lent after : List ℕ} {r : Restored} (d : RestoredInto cleaned receipt lent r after) where
-  pub restore-called : {word : ℕ} → word ≡ restoredWord r → RestoreCalled cleaned receipt lent word after
-  restore-called e = record { answers = e ∙ ap restoredWord (d .answers); holds = d .holds }
-
-  restore-alone : (k : ℕ) → restoreRefusal cleaned receipt (length lent) ≡ suc k → r ≡ record { answer = suc k; records = 0 }
-  restore-alone k q = rw q at (d .answers)
-
-  pub restored-few : r .records ≤ 2000
-  restored-few = go (restoreRefusal cleaned receipt (length lent)) refl
-    where
-      go : (k : ℕ) → restoreRefusal cleaned receipt (length lent) ≡ k → r .records ≤ 2000
-      go zero q = rw (restoring.all-restored d q) (restorable cleaned receipt (length lent) q .few)
-      go (suc k) q = rw (restore-alone k q) (omega arith)
-
-pub one-restore : {cleaned receipt lent : List ℕ} {r s : ℕ} {a b : List ℕ} → RestoreCalled cleaned receipt lent r a → RestoreCalled cleaned receipt lent s b
-    → (r ≡ s) × (a ≡ b)
-one-restore d e = (d .answers ∙ sym (e .answers), d .holds ∙ sym (e .holds))

@@ -15,8 +15,8 @@ use Rattle.bc6_writer.specs.Call.{Written}
 use Rattle.bc6_writer.proofs.Undone.{answered, read-back, written-size, written-mode, block-of-fields}
 use Rattle.bc6_numbers.specs.Numbers.{numberCount, numbersOf, fieldsFrom}
 use Rattle.bc6_numbers.proofs.Back.{fields-back}
-use Rattle.knotpasture.specs.Packed.{FieldsCalled}
-use Rattle.knotpasture.proofs.FieldNumbers.{of-numbers}
+use Rattle.knotpasture.specs.Fields.{FieldsCalled}
+use Rattle.knotpasture.proofs.FieldWords.{of-numbers}
 
 -- the numbers that are written of an unreserved block, where there is room for no other
 pub numbers-are : (block : List ℕ) (format : ℕ) → length block ≡ blockSize → format ≤ 1 → 1 ≤ modeOf block → {lent : List ℕ} → length lent ≡ numberCount

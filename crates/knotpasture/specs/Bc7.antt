@@ -6,7 +6,7 @@ use lib.ListN.{length}
 use Rattle.bc7.specs.declared.Bc7Pixels.{Bc7Pixels}
 use Rattle.bc7.specs.Call.{refusalOf, answerAt, bytesAt}
 use Rattle.bc7_blocks.specs.Run.{runRefusal, runAnswer, runBytes}
-use Rattle.knotpasture.specs.Packed.{twoBytes}
+use Rattle.knotpasture.specs.Words.{twoBytes}
 
 -- the number in the low byte, the mode in the next
 abbrev pub bc7Word : Bc7Pixels → ℕ

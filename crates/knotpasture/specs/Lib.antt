@@ -1,7 +1,8 @@
-pub mod Packed
-pub mod Stores
+pub mod Words
+pub mod Pixels
+pub mod Fields
+pub mod Store
+pub mod Clean
+pub mod Probe
+pub mod Files
 pub mod Bc7
-pub mod DdsWords
-pub mod PfmWords
-pub mod Placed
-pub mod ProbeWords

@@ -1,13 +1,88 @@
-// The probe, for C and Rust.
+// Records with a place, the moves between them and 24-byte records, and the probe, for C and Rust.
+use probe_moves::Moved;
+use probe_places::Place;
+use probe_places::PlacedReading;
 ghost use mathlib.Core.Path.{_≡_};
-ghost use Rattle.probe.specs.Probe.{probeAnswer, probeFault};
-ghost use Rattle.knotpasture.specs.ProbeWords.{pixelWord, faultWord, FaceCalled};
+ghost use Prim.Native.Nat.{_≤_};
+ghost use Rattle.probe_places.specs.Readings.{placedRefusal};
+ghost use lib.ListN.{length};
+ghost use Rattle.probe.specs.Probe.{probeFault};
+ghost use Rattle.probe_build.specs.Building.{BuiltTo};
+ghost use Rattle.probe_build.specs.Edges.{edgeOf};
+ghost use Rattle.knotpasture.specs.Probe.{placedOffset, movedWord, PlacedReadingCalled, PlaceCalled, UnplaceCalled, PixelCalled, faultWord, FaceCalled};
 
 #[no_mangle]
-pub extern "C" fn knot_probe_pixel(store: &[u8], edge: u32, face: u32, x: u32, y: u32) -> u64
-    ensures { λ r. ⌜ r ≡ pixelWord (probeAnswer (now (store .entry)) edge face x y) ⌝ }
+pub extern "C" fn knot_placed_record_at(
+    store: &[u8],
+    n: usize,
+    column: &mut u16,
+    row: &mut u16,
+) -> u64
+    ensures { λ r. ⌜ PlacedReadingCalled (now (store .entry)) n r (now (column .exit)) (now (row .exit)) ⌝ }
+{
+    let reading = probe_places::placed_record_at(store, n);
+    match reading {
+        PlacedReading::Record(record) => {
+            let place = record.place;
+            *column = place.column;
+            *row = place.row;
+            (record.format as u64) * 0x100
+                + (place.face as u64) * 0x10000
+                + (record.tile as u64) * 0x100000000
+        }
+        PlacedReading::Refused(number) => {
+            *column = 0;
+            *row = 0;
+            number as u64
+        }
+    }
+}
+
+#[no_mangle]
+pub extern "C" fn knot_placed_record_block(store: &[u8], n: usize) -> usize
+    ensures { λ r. ⌜ r ≡ placedOffset (placedRefusal (now (store .entry)) n) n ⌝ }
+{
+    let PlacedReading::Record(_) = probe_places::placed_record_at(store, n) else {
+        return 0;
+    };
+    n * Place::SIZE + Place::HEAD
+}
+
+// The number, the count and the faulty record of a move.
+fn moved_word(moved: Moved) -> u64
+    requires { ⌜ (moved .records ≤ 2000) × (moved .faulty ≤ 2000) ⌝ }
+    ensures { λ r. ⌜ r ≡ movedWord moved ⌝ }
+{
+    (moved.answer as u64) + (moved.records as u64) * 0x10000 + (moved.faulty as u64) * 0x100000000
+}
+
+#[no_mangle]
+pub extern "C" fn knot_place_store(old: &[u8], out: &mut [u8]) -> u64
+    ensures { λ r. ⌜ PlaceCalled (now (old .entry)) (now (out .entry)) r (now (out .exit)) ⌝ }
+{
+    moved_word(probe_moves::place_store(old, out))
+}
+
+#[no_mangle]
+pub extern "C" fn knot_unplace_store(store: &[u8], out: &mut [u8]) -> u64
+    ensures { λ r. ⌜ UnplaceCalled (now (store .entry)) (now (out .entry)) r (now (out .exit)) ⌝ }
+{
+    moved_word(probe_moves::unplace_store(store, out))
+}
+
+#[no_mangle]
+pub extern "C" fn knot_probe_pixel(
+    store: &[u8],
+    edge: u32,
+    face: u32,
+    x: u32,
+    y: u32,
+    faulty: &mut usize,
+) -> u64
+    ensures { λ r. ⌜ PixelCalled (now (store .entry)) edge face x y r (now (faulty .exit)) ⌝ }
 {
     let pixel = probe::probe_pixel(store, edge as usize, face as usize, x as usize, y as usize);
+    *faulty = pixel.faulty;
     (pixel.answer as u64)
         + (pixel.r as u64) * 0x10000
         + (pixel.g as u64) * 0x100000000
@@ -27,4 +102,27 @@ pub extern "C" fn knot_probe_face(store: &[u8], edge: u32, face: u32, out: &mut 
     ensures { λ r. ⌜ FaceCalled (now (store .entry)) edge face (now (out .entry)) r (now (out .exit)) ⌝ }
 {
     probe_faces::probe_face(store, edge as usize, face as usize, out).answer as u32
+}
+
+#[no_mangle]
+pub extern "C" fn knot_probe_edge(store: &[u8]) -> usize
+    ensures { λ r. ⌜ r ≡ edgeOf (length (now (store .entry))) ⌝ }
+{
+    probe_build::probe_edge(store) as usize
+}
+
+#[no_mangle]
+pub extern "C" fn knot_probe_build(
+    blocks: &[u8],
+    format: u8,
+    edge: u32,
+    first_tile: u32,
+    out: &mut [u8],
+    records: &mut usize,
+) -> u32
+    ensures { λ r. ⌜ BuiltTo (now (blocks .entry)) format edge «first_tile» (now (out .entry)) (record { answer = r; records = now (records .exit) }) (now (out .exit)) ⌝ }
+{
+    let built = probe_build::probe_build(blocks, format, edge, first_tile, out);
+    *records = built.records;
+    built.answer as u32
 }

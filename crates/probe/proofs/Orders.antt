@@ -1,20 +1,22 @@
 -- "for a store that passes the answer is the same for every order of its records". Assumes nothing.
 use mathlib.Core.Path.{_≡_, refl, sym, _∙_, ap, ap₂, subst}
-use mathlib.Core.List.{List}
+use mathlib.Core.Bool.{not}
+use mathlib.Core.List.{List, _∷_}
 use Prim.Native.Nat.{ℕ, zero, suc, _+_, _*_, _/_, _%_, _<_}
 use native.Mathlib.Omega.{arith}
-use lib.Dec.{lit<, eqb→eq}
+use lib.Dec.{ltb, lit<, eqb→eq}
 use lib.ListN.{length, getD, take, drop, length-take, length-drop}
 use lib.Seq.{ext-getD, getD-take, getD-drop}
-use Rattle.bcn_spec.specs.Answers.{done}
+use Rattle.bcn_spec.specs.Answers.{done, badFormat, spareByte}
 use Rattle.bc6h_spec.specs.Picture.{isSigned}
 use Rattle.bc6h_spec.specs.Block.{pixelsOf}
 use Rattle.probe_places.specs.declared.Fault.{Fault}
 use Rattle.probe_places.specs.declared.Place.{Place}
 use Rattle.probe_places.specs.Faults.{noFault}
-use Rattle.probe_places.specs.Places.{faceCount, placesIn, byteAt, pairAt, formatIn, placeIn, blockIn, zeroByte, restZero, placeRefusal, placeRecordRefusal}
+use Rattle.probe_places.specs.Places.{faceCount, placesIn, byteAt, pairAt, formatIn, placeIn, blockIn, zeroByte, restZero, placeChecks, placeRecordRefusal}
 use Rattle.probe.specs.declared.ProbePixel.{ProbePixel}
 use Rattle.probe.specs.Probe.{placeOf, Filled, IsProbe, probeFault, InRange, questionRefusal, recordFor, shownIn, tripleOf, tripleAt, tripleFor, probedAt, tripleIn, Asked}
+use Rattle.laws.specs.Checks.{firstMet}
 use Rattle.laws.specs.Order.{recordIn, Reordered}
 use Rattle.laws.proofs.Orders.{come-from}
 use Rattle.probe.proofs.Spots.{place-same}
@@ -49,7 +51,7 @@ module _ (s t : List ℕ) (m n : ℕ) (e : recordIn 32 t n ≡ recordIn 32 s m) 
 
   pub refusal-same : placeRecordRefusal t n ≡ placeRecordRefusal s m
   unfolding placeRecordRefusal
-  refusal-same = rw (format-same, rest-same, ap placeRefusal place-is)
+  refusal-same = λ i. firstMet ((ltb 1 (format-same i), badFormat) ∷ (not (rest-same i), spareByte) ∷ placeChecks (place-is i))
 
   pub block-same : m < placesIn s → n < placesIn t → blockIn t n ≡ blockIn s m
   unfolding blockIn

@@ -4,13 +4,13 @@ use mathlib.Core.Bool.{true}
 use mathlib.Core.List.{List, _++_}
 use Prim.Native.Nat.{ℕ, zero, suc, _+_, _*_, _≤_, _<_}
 use native.Mathlib.Omega.{arith}
-use lib.Dec.{eqb, ltb}
+use lib.Dec.{ltb}
 use lib.ListN.{length, take, drop}
 use lib.Seq.{take-at, drop-at}
-use borrow.Author.Tests.{lt-ltb, le-ltb, eq-eqb, ne-eqb, ltb-true, ltb-false, eqb-true}
-use Rattle.laws.specs.Pick.{both}
+use borrow.Author.Tests.{lt-ltb, le-ltb, eq-eqb, ne-eqb, ltb-true, ltb-false, eqb-true, not-false}
 use Rattle.laws.specs.Made.{made, join}
-use Rattle.laws.proofs.Tests.{cases, both-true}
+use Rattle.laws.proofs.Tests.{both-true}
+use Rattle.laws.proofs.Checks.{none-met}
 use Rattle.laws.proofs.Joined.{run-length}
 use Rattle.bcn_spec.specs.Answers.{done, badFormat, shortOutput, badBlocks, badEdge}
 use Rattle.bcn_spec.specs.Bits.{blockSize}
@@ -18,7 +18,7 @@ use Rattle.probe_places.specs.declared.Place.{Place}
 use Rattle.probe_places.specs.Places.{placeSize}
 use Rattle.probe.specs.Probe.{edgeLimit}
 use Rattle.probe_build.specs.declared.Built.{Built}
-use Rattle.probe_build.specs.Building.{recordCount, placeFor, tileFor, recordWith, recordOf, builtOf, buildRefusal, builtAt, bytesAt, BuiltTo}
+use Rattle.probe_build.specs.Building.{recordCount, placeFor, tileFor, recordWith, recordOf, builtOf, buildChecks, buildRefusal, builtAt, bytesAt, BuiltTo}
 use Rattle.probe_build.proofs.Records.{record-length}
 
 -- ---- the bytes
@@ -94,15 +94,16 @@ module _ (size format edge room : ℕ) where
   pub buildable : buildRefusal size format edge room ≡ done → Buildable
   unfolding buildRefusal
   buildable z =
-      cases (both (ltb 0 edge) (ltb edge (edgeLimit + 1)))
-      (λ a. let e = both-true (ltb 0 edge) (ltb edge (edgeLimit + 1)) a in
-      let m : edge < edgeLimit + 1 = ltb-true _ _ (e .1) in
-      cases (ltb 1 format) (λ t. absurd (omega (arith, rw (a, t) at z)))
-      (λ b. cases (eqb size (blockSize * recordCount edge))
-      (λ s. cases (ltb room (placeSize * recordCount edge)) (λ t. absurd (omega (arith, rw (a, b, s, t) at z)))
-      (λ l. record { edge-first = ltb-true _ _ (e .0); edge-last = omega arith; small = ltb-false _ _ b; whole = eqb-true _ _ s; enough = ltb-false _ _ l }))
-      (λ s. absurd (omega (arith, rw (a, b, s) at z)))))
-      (λ a. absurd (omega (arith, rw a at z)))
+      let m = none-met (buildChecks size format edge room) tt z in
+      let e = both-true (ltb 0 edge) (ltb edge (edgeLimit + 1)) (not-false _ (m .0)) in
+      let l : edge < edgeLimit + 1 = ltb-true _ _ (e .1) in
+      record {
+        edge-first = ltb-true _ _ (e .0);
+        edge-last = omega arith;
+        small = ltb-false _ _ (m .1 .0);
+        whole = eqb-true _ _ (not-false _ (m .1 .1 .0));
+        enough = ltb-false _ _ (m .1 .1 .1 .0);
+      }
 
 -- ---- the statement, at each return
 

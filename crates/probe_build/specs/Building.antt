@@ -1,16 +1,17 @@
 -- A probe built of the blocks of its six faces: beyond document 02's T-12. Assumes nothing.
 use mathlib.Core.Path.{_≡_, refl}
+use mathlib.Core.Bool.{Bool, not}
 use mathlib.Core.List.{List, [], _∷_, _++_}
 use Prim.Native.Nat.{ℕ, zero, suc, _+_, _*_, _/_, _%_, _^_}
 use lib.Dec.{eqb, ltb}
 use lib.ListN.{length, getD, drop}
-use Rattle.laws.specs.Pick.{pick, both}
+use Rattle.laws.specs.Checks.{firstMet}
 use Rattle.laws.specs.Made.{made, join}
 use Rattle.bcn_spec.specs.Answers.{done, badFormat, shortOutput, badBlocks, badEdge}
 use Rattle.bcn_spec.specs.Bits.{blockSize}
 use Rattle.probe_places.specs.declared.Place.{Place}
 use Rattle.probe_places.specs.Places.{placeSize}
-use Rattle.probe.specs.Probe.{edgeLimit, placeOf}
+use Rattle.probe.specs.Probe.{placeOf, edgeFits}
 use Rattle.probe_build.specs.declared.Built.{Built}
 
 -- "6 edge² placed records"
@@ -55,12 +56,13 @@ builtOf blocks format edge first = join (made (recordOf blocks format edge first
 -- ---- the checks
 
 -- "19 (edge not 1..16), 1 (format above 1), 15 (block bytes not 16*6*edge*edge), 3 (room below 32 bytes a record)"
+abbrev pub buildChecks : ℕ → ℕ → ℕ → ℕ → List (Bool × ℕ)
+buildChecks size format edge room =
+    (not (edgeFits edge), badEdge) ∷ (ltb 1 format, badFormat) ∷
+    (not (eqb size (blockSize * recordCount edge)), badBlocks) ∷ (ltb room (placeSize * recordCount edge), shortOutput) ∷ []
+
 unfoldable pub buildRefusal : ℕ → ℕ → ℕ → ℕ → ℕ
-buildRefusal size format edge room =
-    pick (both (ltb 0 edge) (ltb edge (edgeLimit + 1)))
-    (pick (ltb 1 format) badFormat
-    (pick (eqb size (blockSize * recordCount edge)) (pick (ltb room (placeSize * recordCount edge)) shortOutput done) badBlocks))
-    badEdge
+buildRefusal size format edge room = firstMet (buildChecks size format edge room)
 
 -- ---- the call
 

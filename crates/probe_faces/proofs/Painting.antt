@@ -6,9 +6,9 @@ use native.Mathlib.Nat.{mul-le-mul}
 use native.Mathlib.Omega.{arith}
 use lib.Dec.{ltb}
 use lib.ListN.{length, getD, drop}
-use borrow.Author.Tests.{lt-ltb, le-ltb, ltb-true, ltb-false}
+use borrow.Author.Tests.{lt-ltb, le-ltb, ltb-true, ltb-false, not-false}
 use Rattle.laws.specs.Made.{made, join}
-use Rattle.laws.proofs.Tests.{cases}
+use Rattle.laws.proofs.Checks.{none-met}
 use Rattle.laws.proofs.Rows.{getD-made}
 use Rattle.bcn_spec.specs.Answers.{done, shortOutput, noPixel}
 use Rattle.probe_places.specs.declared.Fault.{Fault}
@@ -20,7 +20,7 @@ use Rattle.probe.specs.Held.{Checked}
 use Rattle.probe.proofs.Checking.{then-done, then-records, then-alone, in-range}
 use Rattle.probe.proofs.Probes.{passed-probe}
 use Rattle.probe.proofs.Telling.{answer-number, done-triple}
-use Rattle.probe_faces.specs.Face.{rowValue, rowOf, faceOf, faceRefusal, faceFault, faceValues, FacePainted}
+use Rattle.probe_faces.specs.Face.{rowValue, rowOf, faceOf, faceChecks, faceRefusal, faceFault, faceValues, FacePainted}
 use Rattle.probe_faces.specs.Strip.{fourRows}
 use Rattle.laws.proofs.Joined.{run-length, run-value}
 use Rattle.probe_faces.proofs.Strips.{row-length, four-length, by-fours}
@@ -61,9 +61,8 @@ module _ (edge face room : ℕ) where
   pub roomy : faceRefusal edge face room ≡ done → Roomy
   unfolding faceRefusal
   roomy z =
-      cases (ltb face faceCount)
-      (λ a. cases (ltb room (48 * edge * edge)) (λ t. absurd (omega (arith, rw (a, t) at z))) (λ b. record { on-face = ltb-true _ _ a; enough = ltb-false _ _ b }))
-      (λ a. absurd (omega (arith, rw a at z)))
+      let m = none-met (faceChecks edge face room) tt z in
+      record { on-face = ltb-true _ _ (not-false _ (m .0)); enough = ltb-false _ _ (m .1 .0) }
 
 -- ---- the statement, at each return
 

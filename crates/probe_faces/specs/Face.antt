@@ -1,12 +1,13 @@
 -- A whole face of a probe: beyond document 02's T-12. Assumes nothing.
 use mathlib.Core.Path.{_≡_}
-use mathlib.Core.List.{List, _++_}
+use mathlib.Core.Bool.{Bool, not}
+use mathlib.Core.List.{List, [], _∷_, _++_}
 use Prim.Native.Nat.{ℕ, zero, suc, _*_, _/_, _%_}
 use lib.Dec.{ltb}
 use lib.ListN.{length, getD, drop}
-use Rattle.laws.specs.Pick.{pick}
+use Rattle.laws.specs.Checks.{firstMet}
 use Rattle.laws.specs.Made.{made, join}
-use Rattle.bcn_spec.specs.Answers.{done, shortOutput, noPixel}
+use Rattle.bcn_spec.specs.Answers.{shortOutput, noPixel}
 use Rattle.probe_places.specs.declared.Fault.{Fault}
 use Rattle.probe_places.specs.Places.{faceCount}
 use Rattle.probe.specs.Probe.{thenAlone, probeFault, tripleFor}
@@ -23,8 +24,11 @@ unfoldable pub faceOf : List ℕ → ℕ → ℕ → List ℕ
 faceOf store edge face = join (made (rowOf store edge face) (4 * edge))
 
 -- the probe's refusals first; then 24 for a face above 5, then 3 for fewer than 48 values a block
+abbrev pub faceChecks : ℕ → ℕ → ℕ → List (Bool × ℕ)
+faceChecks edge face room = (not (ltb face faceCount), noPixel) ∷ (ltb room (48 * edge * edge), shortOutput) ∷ []
+
 unfoldable pub faceRefusal : ℕ → ℕ → ℕ → ℕ
-faceRefusal edge face room = pick (ltb face faceCount) (pick (ltb room (48 * edge * edge)) shortOutput done) noPixel
+faceRefusal edge face room = firstMet (faceChecks edge face room)
 
 unfoldable pub faceFault : List ℕ → ℕ → ℕ → ℕ → Fault
 faceFault store edge face room = thenAlone (probeFault store edge) (faceRefusal edge face room)

@@ -4,14 +4,14 @@ use mathlib.Core.List.{List}
 use Prim.Native.Nat.{ℕ, zero, suc, _*_, _/_, _%_, _≤_, _<_}
 use native.Mathlib.Omega.{arith}
 use lib.Dec.{eqb, ltb}
-use borrow.Author.Tests.{lt-ltb, le-ltb, eq-eqb, ne-eqb, ltb-false, eqb-true}
+use borrow.Author.Tests.{lt-ltb, le-ltb, eq-eqb, ne-eqb, ltb-false, eqb-true, not-false}
 use Rattle.laws.specs.Pick.{pick}
-use Rattle.laws.proofs.Tests.{cases}
+use Rattle.laws.proofs.Checks.{none-met}
 use Rattle.bcn_spec.specs.Answers.{done, shortOutput, longStore, unevenStore, placedRecord}
 use Rattle.probe_places.specs.declared.Place.{Place}
 use Rattle.probe_places.specs.Faults.{orNext}
 use Rattle.probe_places.specs.Places.{faceCount, faceIn, placeIn, placed, placeRecordRefusal}
-use Rattle.probe_moves.specs.Moves.{sizeRefusal, backRefusal}
+use Rattle.probe_moves.specs.Moves.{sizeChecks, sizeRefusal, backRefusal}
 
 -- ---- a record on the way back
 
@@ -65,8 +65,5 @@ module _ (limit from to size room : ℕ) where
   pub sized : sizeRefusal limit from to size room ≡ done → Sized
   unfolding sizeRefusal
   sized z =
-      cases (ltb limit size) (λ t. absurd (omega (arith, rw t at z)))
-      (λ a. cases (eqb (size % from) 0)
-      (λ b. cases (ltb room (size / from * to)) (λ t. absurd (omega (arith, rw (a, b, t) at z)))
-      (λ e. record { fits = ltb-false _ _ a; even = eqb-true _ _ b; enough-room = ltb-false _ _ e }))
-      (λ f. absurd (omega (arith, rw (a, f) at z))))
+      let m = none-met (sizeChecks limit from to size room) tt z in
+      record { fits = ltb-false _ _ (m .0); even = eqb-true _ _ (not-false _ (m .1 .0)); enough-room = ltb-false _ _ (m .1 .1 .0) }

@@ -1,10 +1,12 @@
 -- The moves between old stores and stores of places: document 02's T-11. Assumes nothing.
 use mathlib.Core.Path.{_≡_}
-use mathlib.Core.List.{List, _++_}
+use mathlib.Core.Bool.{Bool, not}
+use mathlib.Core.List.{List, [], _∷_, _++_}
 use Prim.Native.Nat.{ℕ, zero, suc, _+_, _-_, _*_, _/_, _%_}
 use lib.Dec.{eqb, ltb}
 use lib.ListN.{length, drop}
 use Rattle.laws.specs.Pick.{pick}
+use Rattle.laws.specs.Checks.{firstMet}
 use Rattle.laws.specs.Made.{made}
 use Rattle.bcn_spec.specs.Answers.{done, shortOutput, longStore, unevenStore, placedRecord}
 use Rattle.store_records.specs.Store.{recordSize, headSize, storeLimit, recordsIn, byteOf, recordRefusal}
@@ -39,9 +41,12 @@ oldStore new = made (oldAt new) (placesIn new * recordSize)
 
 -- "5, 6 and 3 (too little room for the moved store) come before any record": of a store's size and the room, where a record has `from`
 -- bytes and the moved one `to`
+abbrev pub sizeChecks : ℕ → ℕ → ℕ → ℕ → ℕ → List (Bool × ℕ)
+sizeChecks limit from to size room =
+    (ltb limit size, longStore) ∷ (not (eqb (size % from) 0), unevenStore) ∷ (ltb room (size / from * to), shortOutput) ∷ []
+
 unfoldable pub sizeRefusal : ℕ → ℕ → ℕ → ℕ → ℕ → ℕ
-sizeRefusal limit from to size room =
-    pick (ltb limit size) longStore (pick (eqb (size % from) 0) (pick (ltb room (size / from * to)) shortOutput done) unevenStore)
+sizeRefusal limit from to size room = firstMet (sizeChecks limit from to size room)
 
 abbrev pub placeSizes : ℕ → ℕ → ℕ
 placeSizes size room = sizeRefusal storeLimit recordSize placeSize size room

@@ -5,14 +5,15 @@ use mathlib.Core.List.{List}
 use Prim.Native.Nat.{ℕ, _+_, _≤_, _<_}
 use native.Mathlib.Omega.{arith}
 use lib.Dec.{ltb}
-use borrow.Author.Tests.{lt-ltb, le-ltb, eq-eqb, ne-eqb, ltb-false, eqb-true}
+use borrow.Author.Tests.{lt-ltb, le-ltb, eq-eqb, ne-eqb, ltb-false, eqb-true, not-false}
 use Rattle.laws.specs.Every.{below}
-use Rattle.laws.proofs.Tests.{cases, below-at}
+use Rattle.laws.proofs.Tests.{below-at}
+use Rattle.laws.proofs.Checks.{none-met, no-number}
 use Rattle.laws.proofs.Search.{holds, is-true}
 use Rattle.laws.proofs.Below.{below-all, below-more, below-fails, below-upto}
 use Rattle.bcn_spec.specs.Answers.{done, badFormat, spareByte, badPlace}
 use Rattle.probe_places.specs.declared.Place.{Place}
-use Rattle.probe_places.specs.Places.{faceCount, noFace, byteAt, formatIn, faceIn, columnIn, rowIn, placeIn, zeroByte, restZero, placeRefusal, placeRecordRefusal}
+use Rattle.probe_places.specs.Places.{faceCount, noFace, byteAt, formatIn, faceIn, columnIn, rowIn, placeIn, zeroByte, restZero, placeChecks, placeRefusal, recordChecks, placeRecordRefusal}
 
 -- ---- a place
 
@@ -67,7 +68,7 @@ module _ (store : List ℕ) (n : ℕ) where
 
   pub by-place : {p : Place} {r : ℕ} → formatIn store n ≤ 1 → restZero store n ≡ true → p ≡ placeIn store n → r ≡ placeRefusal p
       → r ≡ placeRecordRefusal store n
-  unfolding placeRecordRefusal
+  unfolding placeRecordRefusal placeRefusal
   by-place h z e q = q ∙ rw (le-ltb _ _ h, z, e)
 
   -- a record that is not refused, in words
@@ -77,19 +78,17 @@ module _ (store : List ℕ) (n : ℕ) where
     pub place : placeRefusal (placeIn store n) ≡ done
 
   pub fine : placeRecordRefusal store n ≡ done → Fine
-  unfolding placeRecordRefusal zeroByte restZero
+  unfolding placeRecordRefusal placeRefusal zeroByte restZero
   fine e =
-      cases (ltb 1 (formatIn store n)) (λ t. absurd (omega (arith, rw t at e)))
-      (λ f. cases (restZero store n)
-      (λ z. record {
-        small = ltb-false _ _ f;
-        zeros = λ k h. eqb-true _ _ (is-true _ (below-at (zeroByte store n) 6 k (holds z) h));
-        place = rw (f, z) at e;
-      })
-      (λ z. absurd (omega (arith, rw (f, z) at e))))
+      let m = none-met (recordChecks store n) tt e in
+      record {
+        small = ltb-false _ _ (m .0);
+        zeros = λ k h. eqb-true _ _ (is-true _ (below-at (zeroByte store n) 6 k (holds (not-false (restZero store n) (m .1 .0))) h));
+        place = no-number (placeChecks (placeIn store n)) (m .1 .1);
+      }
 
   pub fine-so : Fine → placeRecordRefusal store n ≡ done
-  unfolding placeRecordRefusal zeroByte restZero
+  unfolding placeRecordRefusal placeRefusal zeroByte restZero
   fine-so f =
       let z : restZero store n ≡ true = is-true _ (below-all (zeroByte store n) 6 (λ k h. holds (eq-eqb _ _ (f .zeros k h)))) in
       rw (le-ltb _ _ (f .small), z) (f .place)

@@ -4,18 +4,17 @@ use mathlib.Core.Path.{_≡_, refl, sym, _∙_, ap, ap₂}
 use mathlib.Core.List.{List, [], _∷_}
 use Prim.Native.Nat.{ℕ, zero, suc, _+_, _*_, _%_, _≤_, _<_}
 use native.Mathlib.Omega.{arith}
-use lib.Dec.{eqb, ltb}
 use lib.ListN.{length, length-take, length-drop}
-use borrow.Author.Tests.{lt-ltb, le-ltb, eq-eqb, ne-eqb, ltb-true, ltb-false, eqb-true}
-use Rattle.laws.proofs.Tests.{cases}
+use borrow.Author.Tests.{lt-ltb, le-ltb, eq-eqb, ne-eqb, ltb-true, ltb-false, eqb-true, not-false}
+use Rattle.laws.proofs.Checks.{none-met, no-number}
 use Rattle.bcn_spec.specs.Answers.{done, longStore, unevenStore, noRecord}
 use Rattle.bcn_spec.specs.Bits.{blockSize}
 use Rattle.probe_places.specs.declared.Place.{Place}
 use Rattle.probe_places.specs.declared.PlacedRecord.{PlacedRecord}
 use Rattle.probe_places.specs.declared.PlacedReading.{PlacedReading}
 use Rattle.probe_places.specs.declared.PlacedReading.the-variants as reading
-use Rattle.probe_places.specs.Places.{placeSize, placeLimit, placesIn, pairAt, tileIn, formatIn, faceIn, columnIn, rowIn, placeIn, blockIn, placeRecordRefusal}
-use Rattle.probe_places.specs.Readings.{placedRefusal, Readable, valuesAt, PlacedRead, placedPart}
+use Rattle.probe_places.specs.Places.{placeSize, placeLimit, placesIn, pairAt, tileIn, formatIn, faceIn, columnIn, rowIn, placeIn, blockIn, recordChecks, placeRecordRefusal}
+use Rattle.probe_places.specs.Readings.{placedChecks, placedRefusal, Readable, valuesAt, PlacedRead, placedPart}
 
 -- ---- which check
 
@@ -34,7 +33,7 @@ module _ (store : List ℕ) (n : ℕ) where
 
   pub of-record : {r : ℕ} → length store ≤ placeLimit → length store % placeSize ≡ 0 → n < placesIn store → r ≡ placeRecordRefusal store n
       → r ≡ placedRefusal store n
-  unfolding placedRefusal
+  unfolding placedRefusal placeRecordRefusal
   of-record h w l e = e ∙ rw (le-ltb _ _ h, eq-eqb _ _ w, lt-ltb _ _ l)
 
 -- what a record that is not refused says of its store
@@ -45,14 +44,15 @@ pub record Known (store : List ℕ) (n : ℕ) : Type 0 where
   pub unrefused : placeRecordRefusal store n ≡ done
 
 pub known : (store : List ℕ) (n : ℕ) → Readable store n → Known store n
-unfolding placedRefusal
+unfolding placedRefusal placeRecordRefusal
 known store n z =
-    cases (ltb placeLimit (length store)) (λ t. absurd (omega (arith, rw t at z)))
-    (λ a. cases (eqb (length store % placeSize) 0)
-    (λ b. cases (ltb n (placesIn store))
-    (λ d. record { fits = ltb-false _ _ a; whole = eqb-true _ _ b; below = ltb-true _ _ d; unrefused = rw (a, b, d) at z })
-    (λ t. absurd (omega (arith, rw (a, b, t) at z))))
-    (λ t. absurd (omega (arith, rw (a, t) at z))))
+    let m = none-met (placedChecks store n) tt z in
+    record {
+      fits = ltb-false _ _ (m .0);
+      whole = eqb-true _ _ (not-false _ (m .1 .0));
+      below = ltb-true _ _ (not-false _ (m .1 .1 .0));
+      unrefused = no-number (recordChecks store n) (m .1 .1 .1);
+    }
 
 pub known-of : {store : List ℕ} {n r : ℕ} → r ≡ placedRefusal store n → r ≡ done → Known store n
 known-of {store} {n} e z = known store n (sym e ∙ z)

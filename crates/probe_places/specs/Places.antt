@@ -1,13 +1,14 @@
 -- A store of records with a place, 32 bytes each: document 02's T-11. Assumes nothing.
 use mathlib.Core.Path.{_≡_}
-use mathlib.Core.Bool.{Bool}
-use mathlib.Core.List.{List}
+use mathlib.Core.Bool.{Bool, not}
+use mathlib.Core.List.{List, [], _∷_}
 use Prim.Native.Nat.{ℕ, _+_, _*_, _/_, _<_}
 use lib.Dec.{eqb, ltb}
 use lib.ListN.{length, getD, take, drop}
-use Rattle.laws.specs.Pick.{pick, both, either}
+use Rattle.laws.specs.Pick.{both, either}
+use Rattle.laws.specs.Checks.{firstMet}
 use Rattle.laws.specs.Every.{below}
-use Rattle.bcn_spec.specs.Answers.{done, badFormat, spareByte, badPlace}
+use Rattle.bcn_spec.specs.Answers.{badFormat, spareByte, badPlace}
 use Rattle.bcn_spec.specs.Bits.{blockSize}
 use Rattle.probe_places.specs.declared.Place.{Place}
 
@@ -88,10 +89,15 @@ abbrev pub unplaced : Place → Bool
 unplaced p = both (eqb (p .face) noFace) (both (eqb (p .column) 0) (eqb (p .row) 0))
 
 -- "17, bad face or an unplaced record with a position"
+abbrev pub placeChecks : Place → List (Bool × ℕ)
+placeChecks p = (not (either (placed p) (unplaced p)), badPlace) ∷ []
+
 unfoldable pub placeRefusal : Place → ℕ
-placeRefusal p = pick (either (placed p) (unplaced p)) done badPlace
+placeRefusal p = firstMet (placeChecks p)
 
 -- "Per record the order is 1, 7, 17": of record n, whatever the store's size
+abbrev pub recordChecks : List ℕ → ℕ → List (Bool × ℕ)
+recordChecks store n = (ltb 1 (formatIn store n), badFormat) ∷ (not (restZero store n), spareByte) ∷ placeChecks (placeIn store n)
+
 unfoldable pub placeRecordRefusal : List ℕ → ℕ → ℕ
-placeRecordRefusal store n =
-    pick (ltb 1 (formatIn store n)) badFormat (pick (restZero store n) (placeRefusal (placeIn store n)) spareByte)
+placeRecordRefusal store n = firstMet (recordChecks store n)

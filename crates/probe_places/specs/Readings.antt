@@ -1,20 +1,24 @@
 -- What the record call and the block call answer about a store of records with a place: document 02's T-11. Assumes nothing.
 use mathlib.Core.Path.{_≡_}
+use mathlib.Core.Bool.{Bool, not}
 use mathlib.Core.List.{List, [], _∷_}
 use Prim.Native.Nat.{ℕ, zero, suc, _%_}
 use lib.Dec.{eqb, ltb}
 use lib.ListN.{length}
-use Rattle.laws.specs.Pick.{pick}
+use Rattle.laws.specs.Checks.{firstMet}
 use Rattle.bcn_spec.specs.Answers.{done, longStore, unevenStore, noRecord}
 use Rattle.probe_places.specs.declared.PlacedReading.{PlacedReading}
 use Rattle.probe_places.specs.declared.PlacedReading.the-variants.{Record, Refused}
-use Rattle.probe_places.specs.Places.{placeSize, placeLimit, placesIn, tileIn, formatIn, faceIn, columnIn, rowIn, blockIn, placeRecordRefusal}
+use Rattle.probe_places.specs.Places.{placeSize, placeLimit, placesIn, tileIn, formatIn, faceIn, columnIn, rowIn, blockIn, recordChecks}
 
 -- "Limits 5 and 6 read 64,000 and 32 for new stores"; then 8, as for old ones; "Per record the order is 1, 7, 17"
+abbrev pub placedChecks : List ℕ → ℕ → List (Bool × ℕ)
+placedChecks store n =
+    (ltb placeLimit (length store), longStore) ∷
+    (not (eqb (length store % placeSize) 0), unevenStore) ∷ (not (ltb n (placesIn store)), noRecord) ∷ recordChecks store n
+
 unfoldable pub placedRefusal : List ℕ → ℕ → ℕ
-placedRefusal store n =
-    pick (ltb placeLimit (length store)) longStore
-    (pick (eqb (length store % placeSize) 0) (pick (ltb n (placesIn store)) (placeRecordRefusal store n) noRecord) unevenStore)
+placedRefusal store n = firstMet (placedChecks store n)
 
 -- the record call does not refuse n
 abbrev pub Readable : List ℕ → ℕ → Type 0

@@ -86,14 +86,11 @@ fn tell_file() {
 }
 
 // The number, and where it is 0 the header.
-fn grant_wish(format: u8, width: u32, height: u32, size: usize)
-    requires { ⌜ size ≤ 16842752 ⌝ }
-{
-    let answer = [dds::write_refusal(size, format, width, height, DdsRead::HEADER + size)];
+fn grant_wish(format: u8, width: u32, height: u32, size: usize) {
+    let mut header = [0u8; DdsRead::HEADER];
+    let answer = [dds::dds_header(size, format, width, height, &mut header)];
     io::write_all(STDOUT_FILENO, &answer);
     if answer[0] == Answer::DONE {
-        let mut header = [0u8; DdsRead::HEADER];
-        dds::put_header(format, width, height, &mut header);
         io::write_all(STDOUT_FILENO, &header);
     }
 }

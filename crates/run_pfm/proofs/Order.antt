@@ -5,11 +5,10 @@ use mathlib.Core.Logic.{⊎-elim}
 use mathlib.Core.List.{List}
 use Prim.Native.Nat.{ℕ, zero, suc, _+_, _-_, _*_, _/_, _≤_}
 use native.Mathlib.Omega.{arith}
-use lib.Dec.{eqb, ltb}
 use lib.ListN.{length, drop}
 use borrow.Author.Tests.{eq-eqb, ne-eqb, le-ltb, ltb-false}
-use Rattle.laws.specs.Pick.{both}
 use Rattle.laws.proofs.Tests.{cases}
+use Rattle.laws.proofs.Checks.{none-met}
 use Rattle.bcn_spec.specs.Answers.{done, badSize, badBlocks}
 use Rattle.dds.specs.declared.DdsRead.{DdsRead}
 use Rattle.dds.specs.Dds.{headerSize, headerOurs, sizeOurs, blocksAlong, widthOf, heightOf, formatOf, headRefusal, HeadRead, FileRead, BlocksRead}
@@ -19,7 +18,7 @@ use Rattle.dds.proofs.Reading.{head-foreign, head-size, head-done, head-known, 
 use Rattle.pfm.specs.declared.PfmWritten.{PfmWritten}
 use Rattle.pfm.specs.File.{SideEven, sizeEven, blockBytes, fileLength, writeRefusal, PictureWritten}
 use Rattle.pfm.proofs.Calls.{size-means}
-use Rattle.run_pfm.specs.Export.{sizeSmall, exportRefusal, Exported}
+use Rattle.run_pfm.specs.Export.{sizeSmall, exportChecks, exportRefusal, Exported}
 
 -- ---- one outcome, and a refusal is silent
 
@@ -79,22 +78,7 @@ module _ (file : List ℕ) (room : ℕ) where
 module _ (file : List ℕ) (room : ℕ) where
   room-known : exportRefusal file room ≡ done → fileLength (widthOf file) (heightOf file) ≤ room
   unfolding exportRefusal
-  room-known z =
-      cases (headerOurs file)
-      (λ o.
-      cases (both (sizeOurs (widthOf file) (heightOf file)) (sizeSmall (widthOf file) (heightOf file)))
-      (λ s.
-      cases (eqb (length file) (headerSize + dds.blockBytes (widthOf file) (heightOf file)))
-      (λ b.
-      cases (sizeEven (widthOf file) (heightOf file))
-      (λ e.
-      cases (ltb room (fileLength (widthOf file) (heightOf file)))
-      (λ t. absurd (omega (arith, rw (o, s, b, e, t) at z)))
-      (λ t. ltb-false _ _ t))
-      (λ e. absurd (omega (arith, rw (o, s, b, e) at z))))
-      (λ b. absurd (omega (arith, rw (o, s, b) at z))))
-      (λ s. absurd (omega (arith, rw (o, s) at z))))
-      (λ o. absurd (omega (arith, rw o at z)))
+  room-known z = ltb-false _ _ (none-met (exportChecks file room) tt z .1 .1 .1 .1 .0)
 
 pub length-fits : {file out after : List ℕ} {r : PfmWritten} → Exported file out r after → r .length ≤ length out
 length-fits {file} {out} {after} {r} d = go (exportRefusal file (length out)) refl

@@ -1,12 +1,13 @@
 -- A DDS file of at most 64 by 64 pixels as a Portable Float Map: document 02's T-10. Assumes nothing.
 use mathlib.Core.Path.{_≡_}
-use mathlib.Core.Bool.{Bool}
-use mathlib.Core.List.{List}
+use mathlib.Core.Bool.{Bool, not}
+use mathlib.Core.List.{List, [], _∷_}
 use Prim.Native.Nat.{ℕ, _+_}
 use lib.Dec.{eqb, leb, ltb}
 use lib.ListN.{length, drop}
-use Rattle.laws.specs.Pick.{pick, both}
-use Rattle.bcn_spec.specs.Answers.{done, shortOutput, foreignHeader, badSize, badBlocks, unevenSize}
+use Rattle.laws.specs.Pick.{both}
+use Rattle.laws.specs.Checks.{firstMet}
+use Rattle.bcn_spec.specs.Answers.{shortOutput, foreignHeader, badSize, badBlocks, unevenSize}
 use Rattle.dds.specs.Dds.{headerSize, headerOurs, sizeOurs, blockBytes, widthOf, heightOf, formatOf}
 use Rattle.pfm.specs.declared.PfmWritten.{PfmWritten}
 use Rattle.pfm.specs.File.{sizeEven, fileLength, writtenAt, leftAt}
@@ -19,15 +20,15 @@ unfoldable pub sizeSmall : ℕ → ℕ → Bool
 sizeSmall width height = both (leb width smallLimit) (leb height smallLimit)
 
 -- "in the order 13, 14 (also for a larger picture, by its header), 15, 16"; and last the room that is lent
+abbrev pub exportChecks : List ℕ → ℕ → List (Bool × ℕ)
+exportChecks file room =
+    (not (headerOurs file), foreignHeader) ∷
+    (not (both (sizeOurs (widthOf file) (heightOf file)) (sizeSmall (widthOf file) (heightOf file))), badSize) ∷
+    (not (eqb (length file) (headerSize + blockBytes (widthOf file) (heightOf file))), badBlocks) ∷
+    (not (sizeEven (widthOf file) (heightOf file)), unevenSize) ∷ (ltb room (fileLength (widthOf file) (heightOf file)), shortOutput) ∷ []
+
 unfoldable pub exportRefusal : List ℕ → ℕ → ℕ
-exportRefusal file room =
-    pick (headerOurs file)
-    (pick (both (sizeOurs (widthOf file) (heightOf file)) (sizeSmall (widthOf file) (heightOf file)))
-    (pick (eqb (length file) (headerSize + blockBytes (widthOf file) (heightOf file)))
-    (pick (sizeEven (widthOf file) (heightOf file)) (pick (ltb room (fileLength (widthOf file) (heightOf file))) shortOutput done) unevenSize)
-    badBlocks)
-    badSize)
-    foreignHeader
+exportRefusal file room = firstMet (exportChecks file room)
 
 -- The statement of `export`: its answer r, and the lent bytes `after`, which are the picture's file where it is done.
 pub record Exported (file out : List ℕ) (r : PfmWritten) (after : List ℕ) : Type 0 where

@@ -1,0 +1,57 @@
+-- The exports over DDS files and Portable Float Maps: each says of its word what the call says of its answer; one outcome for each. Assumes nothing.
+use mathlib.Core.Path.{_≡_, refl, sym, ap, _∙_}
+use mathlib.Core.List.{List}
+use Prim.Native.Nat.{ℕ, zero, suc}
+use Rattle.bcn_spec.specs.Answers.{done}
+use Rattle.dds.specs.declared.DdsRead.{DdsRead}
+use Rattle.dds.specs.declared.DdsWritten.{DdsWritten}
+use Rattle.dds.specs.Dds.{headerSize, readRefusal, HeadRead, FileRead, FileWritten}
+use Rattle.dds.proofs.Reading.{read-number}
+use Rattle.pfm.specs.declared.PfmWritten.{PfmWritten}
+use Rattle.pfm.specs.File.{PictureWritten}
+use Rattle.knotpasture.specs.Files.{readWord, HeadCalled, ReadCalled, startAt, BlocksCalled, ddsWord, DdsWriteCalled, pfmWord, PfmWriteCalled}
+
+-- ---- DDS files
+
+pub head-called : {file : List ℕ} {r : DdsRead} {word : ℕ} → HeadRead file r → word ≡ readWord r → HeadCalled file word
+head-called d e = record { answers = e ∙ ap readWord (d .answers) }
+
+pub read-called : {file : List ℕ} {r : DdsRead} {word : ℕ} → FileRead file r → word ≡ readWord r → ReadCalled file word
+read-called d e = record { answers = e ∙ ap readWord (d .answers) }
+
+pub blocks-refused : {file : List ℕ} {r : DdsRead} → FileRead file r → (r .answer ≡ done → ⊥) → BlocksCalled file 0
+blocks-refused {file} {r} d n = record { answers = go (readRefusal file) (read-number d) }
+  where
+    go : (k : ℕ) → r .answer ≡ k → 0 ≡ startAt k
+    go zero q = absurd (n q)
+    go (suc k) q = refl
+
+pub blocks-start : {file : List ℕ} {r : DdsRead} → FileRead file r → r .answer ≡ done → BlocksCalled file headerSize
+blocks-start d z = record { answers = sym (ap startAt (sym (read-number d) ∙ z)) }
+
+pub dds-written : {blocks : List ℕ} {format width height : ℕ} {out after : List ℕ} {r : DdsWritten} {word : ℕ} → FileWritten blocks format width height out r after
+    → word ≡ ddsWord r → DdsWriteCalled blocks format width height out word after
+dds-written d e = record { answers = e ∙ ap ddsWord (d .answers); holds = d .holds }
+
+pub one-head : {file : List ℕ} {r s : ℕ} → HeadCalled file r → HeadCalled file s → r ≡ s
+one-head d e = d .answers ∙ sym (e .answers)
+
+pub one-reading : {file : List ℕ} {r s : ℕ} → ReadCalled file r → ReadCalled file s → r ≡ s
+one-reading d e = d .answers ∙ sym (e .answers)
+
+pub one-start : {file : List ℕ} {r s : ℕ} → BlocksCalled file r → BlocksCalled file s → r ≡ s
+one-start d e = d .answers ∙ sym (e .answers)
+
+pub one-dds : {blocks : List ℕ} {format width height : ℕ} {out a b : List ℕ} {r s : ℕ} → DdsWriteCalled blocks format width height out r a
+    → DdsWriteCalled blocks format width height out s b → (r ≡ s) × (a ≡ b)
+one-dds d e = (d .answers ∙ sym (e .answers), d .holds ∙ sym (e .holds))
+
+-- ---- Portable Float Maps
+
+pub pfm-written : {blocks : List ℕ} {format width height : ℕ} {out after : List ℕ} {r : PfmWritten} {word : ℕ} → PictureWritten blocks format width height out r after
+    → word ≡ pfmWord r → PfmWriteCalled blocks format width height out word after
+pfm-written d e = record { answers = e ∙ ap pfmWord (d .answers); holds = d .holds }
+
+pub one-pfm : {blocks : List ℕ} {format width height : ℕ} {out a b : List ℕ} {r s : ℕ} → PfmWriteCalled blocks format width height out r a
+    → PfmWriteCalled blocks format width height out s b → (r ≡ s) × (a ≡ b)
+one-pfm d e = (d .answers ∙ sym (e .answers), d .holds ∙ sym (e .holds))

@@ -1,0 +1,17 @@
+use borrow.Author.Needs.{needs}
+use Rattle.dds.proofs.Reading.{head-most}
+use Rattle.knotpasture.proofs.FileWords.{head-called}
+use Rattle.knotpasture.proofs.files.knot_dds_head.Statement.{statement}
+use Rattle.knotpasture.proofs.files.knot_dds_head.Tie as tie
+
+dds-head-requires : tie.Need-dds-head-requires
+dds-head-requires c κs = search needs
+
+read-word-requires : tie.Need-read-word-requires
+read-word-requires c κs = head-most (c .dds-head .ensures)
+
+returns : tie.Need-returns
+returns c = head-called (c .before .dds-head .ensures) (c .read-word .ensures)
+
+pub knot-dds-head-spec : {M : Type 1} → statement M
+knot-dds-head-spec = tie.close (tie.spec dds-head-requires read-word-requires returns)

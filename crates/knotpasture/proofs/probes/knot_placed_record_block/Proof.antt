@@ -1,0 +1,43 @@
+use native.Mathlib.Omega.{arith}
+use Prim.Native.Nat.{_*_, _<_}
+use Rattle.probe_places.specs.Places.{placeSize, placeLimit}
+use Rattle.knotpasture.proofs.ProbeWords.{placed-offset, refused-offset, inside}
+use borrow.Author.Needs.{needs}
+use Rattle.knotpasture.proofs.probes.knot_placed_record_block.Statement.{statement}
+use Rattle.knotpasture.proofs.probes.knot_placed_record_block.Tie as tie
+
+placed-record-at-requires : tie.Need-placed-record-at-requires
+placed-record-at-requires c κs = search needs
+
+enum-told : tie.Need-enum-told
+enum-told c = search needs
+
+enum-told-2 : tie.Need-enum-told-2
+enum-told-2 c = search needs
+
+returns : tie.Need-returns
+returns c = refused-offset (c .before .before .placed-record-at .ensures) (c .enum-told2 .given .1)
+
+within : (c : tie.After-enum-told) → c .before .before .before .before .args .n * placeSize < placeLimit
+within c = inside (c .before .before .placed-record-at .ensures) (c .enum-told .given .1)
+
+mul-result : tie.Need-mul-result
+mul-result c = record { fits = omega (arith, within c) }
+
+add-result : tie.Need-add-result
+add-result c = record { fits = omega (arith, within c) }
+
+returns-2 : tie.Need-returns-2
+returns-2 c = placed-offset (c .before .before .placed-record-at .ensures) (c .enum-told .given .1)
+
+pub knot-placed-record-block-spec : {M : Type 1} → statement M
+knot-placed-record-block-spec =
+    tie.close
+    (tie.spec
+    placed-record-at-requires
+    enum-told
+    enum-told-2
+    returns
+    mul-result
+    add-result
+    returns-2)

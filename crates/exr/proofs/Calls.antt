@@ -1,0 +1,252 @@
+-- The refusals in their order, and what each return of the writing call shows. Assumes nothing.
+use mathlib.Core.Path.{_≡_, refl, sym, ap, ap₂, _∙_}
+use mathlib.Core.Bool.{Bool, true, false}
+use mathlib.Core.List.{List, [], _++_, append-nil, append-assoc}
+use Prim.Native.Nat.{ℕ, zero, suc, _+_, _-_, _*_, _/_, _≤_, _<_}
+use native.Mathlib.Nat.{mul-le-mul, mul-assoc, mul-comm}
+use native.Mathlib.Omega.{arith}
+use lib.Dec.{eqb, ltb}
+use lib.ListN.{length, take, drop, length-append, length-drop, drop-of-length-le}
+use lib.Seq.{take-at, drop-at, take-all, drop-drop}
+use borrow.Author.Tests.{lt-ltb, le-ltb, eq-eqb, ne-eqb, ltb-true, ltb-false, eqb-true, eqb-false}
+use borrow.Rule.Slice.PartMut.{midOf, putMid}
+use Rattle.laws.proofs.Tests.{cases}
+use Rattle.bcn_spec.specs.Answers.{done, badFormat, shortOutput, badBlocks, unevenSize}
+use Rattle.pfm.specs.File.{sizeEven, blockBytes}
+use Rattle.pfm.proofs.Calls.{Small, small, size-means, bytes-are}
+use Rattle.pfm.proofs.Lines.{sets-front}
+use Rattle.text.specs.Text.{Written}
+use Rattle.exr_header.specs.Header.{lineLength, frontLength, frontOf, SizeFits}
+use Rattle.exr_header.proofs.Numbers.{front-length-is}
+use Rattle.exr.specs.declared.ExrWritten.{ExrWritten}
+use Rattle.exr.specs.File.{linesOf, fileOf, fileLength, writeRefusal, writtenAt, PictureWritten, lengthOf}
+use Rattle.exr.specs.Bands.{bandsOf}
+use Rattle.exr.proofs.Whole.{lines-bands, length-lines}
+
+-- ---- sizes
+
+module _ (width height : ℕ) where
+  -- the lines' bytes, as the code has them
+  pub record Lines : Type 0 where
+    pub first : 8 + 6 * width ≤ 24584
+    pub all : (8 + 6 * width) * height ≤ 100696064
+    pub front : frontLength height ≤ 33081
+
+  pub lines-small : sizeEven width height ≡ true → Lines
+  unfolding frontLength
+  lines-small t =
+      let s = size-means width height t in
+      let w : width ≤ 4096 = s .0 .most in
+      let h : height ≤ 4096 = s .1 .most in
+      let a : (8 + 6 * width) * height ≤ 24584 * 4096 = mul-le-mul {n₂ = 24584} {m₂ = 4096} (omega arith) h in
+      record { first = omega arith; all = omega arith; front = omega arith }
+
+  pub length-none : sizeEven width height ≡ false → 0 ≡ lengthOf width height
+  unfolding lengthOf
+  length-none s = rw s
+
+  pub length-some : {front : ℕ} → sizeEven width height ≡ true → front ≡ frontLength height → front + (8 + 6 * width) * height ≡ lengthOf width height
+  unfolding lengthOf fileLength lineLength
+  length-some s e = rw (s, e)
+
+  pub length-is : {size : ℕ} → sizeEven width height ≡ true → size ≡ lengthOf width height → size ≡ fileLength width height
+  unfolding lengthOf
+  length-is s e = e ∙ rw s
+
+  -- four lines a row of blocks
+  pub bytes-lines : sizeEven width height ≡ true → (32 + 96 * (width / 4)) * (height / 4) ≡ lineLength width * height
+  unfolding lineLength
+  bytes-lines t =
+      let k = small width height t in
+      let w : 4 * (width / 4) ≡ width = k .whole-width in
+      let h : 4 * (height / 4) ≡ height = k .whole-height in
+      let line : 32 + 96 * (width / 4) ≡ (8 + 6 * width) * 4 = omega arith in
+      ap (λ (n : ℕ). n * (height / 4)) line ∙ mul-assoc (8 + 6 * width) 4 (height / 4) ∙ ap (λ (n : ℕ). (8 + 6 * width) * n) h
+
+-- ---- the refusals, in their order
+
+module _ (size format width height room : ℕ) where
+  pub write-format : 1 < format → writeRefusal size format width height room ≡ badFormat
+  unfolding writeRefusal
+  write-format f = rw (lt-ltb _ _ f)
+
+  module _ (f : format ≤ 1) where
+    pub write-size : sizeEven width height ≡ false → writeRefusal size format width height room ≡ unevenSize
+    unfolding writeRefusal
+    write-size s = rw (le-ltb _ _ f, s)
+
+    module _ (s : sizeEven width height ≡ true) where
+      pub write-blocks : (size ≡ blockBytes width height → ⊥) → writeRefusal size format width height room ≡ badBlocks
+      unfolding writeRefusal
+      write-blocks b = rw (le-ltb _ _ f, s, ne-eqb _ _ b)
+
+      module _ (b : size ≡ blockBytes width height) where
+        pub write-room : room < fileLength width height → writeRefusal size format width height room ≡ shortOutput
+        unfolding writeRefusal
+        write-room r = rw (le-ltb _ _ f, s, eq-eqb _ _ b, lt-ltb _ _ r)
+
+        pub write-done : fileLength width height ≤ room → writeRefusal size format width height room ≡ done
+        unfolding writeRefusal
+        write-done r = rw (le-ltb _ _ f, s, eq-eqb _ _ b, le-ltb _ _ r)
+
+  -- what "done" says
+  pub record WriteKnown : Type 0 where
+    pub known : format ≤ 1
+    pub even : sizeEven width height ≡ true
+    pub bytes : size ≡ blockBytes width height
+    pub fits : fileLength width height ≤ room
+
+  pub write-known : writeRefusal size format width height room ≡ done → WriteKnown
+  write-known z =
+      cases (ltb 1 format)
+      (λ t. absurd (omega (arith, sym (write-format (ltb-true _ _ t)) ∙ z)))
+      (λ t.
+      let f = ltb-false 1 format t in
+      cases (sizeEven width height)
+      (λ s.
+      cases (eqb size (blockBytes width height))
+      (λ e.
+      let b = eqb-true _ _ e in
+      cases (ltb room (fileLength width height))
+      (λ q. absurd (omega (arith, sym (write-room f s b (ltb-true _ _ q)) ∙ z)))
+      (λ q. record { known = f; even = s; bytes = b; fits = ltb-false _ _ q }))
+      (λ e. absurd (omega (arith, sym (write-blocks f s (eqb-false _ _ e)) ∙ z))))
+      (λ s. absurd (omega (arith, sym (write-size f s) ∙ z))))
+
+-- what that makes sure of for the front and the rows of blocks
+pub record Room (blocks format width height room : ℕ) : Type 0 where
+  pub known : format ≤ 1
+  pub sized : SizeFits width height
+  pub wide : width / 4 ≤ 1024
+  pub high : height / 4 ≤ 1024
+  pub bytes : 16 * (width / 4 * (height / 4)) ≤ blocks
+  pub fits : frontLength height + (32 + 96 * (width / 4)) * (height / 4) ≤ room
+
+pub room-for : (blocks format width height room : ℕ) → writeRefusal blocks format width height room ≡ done → Room blocks format width height room
+unfolding fileLength
+room-for blocks format width height room z =
+    let w = write-known blocks format width height room z in
+    let k = small width height (w .even) in
+    let m = size-means width height (w .even) in
+    record {
+      known = w .known;
+      sized = record { some-width = m .0 .some; most-width = m .0 .most; some-height = m .1 .some; most-height = m .1 .most };
+      wide = k .wide;
+      high = k .high;
+      bytes = omega (arith, w .bytes ∙ sym (bytes-are width height));
+      fits = omega (arith, w .fits, bytes-lines width height (w .even));
+    }
+
+-- where the front ends
+pub front-end : (width height : ℕ) {at : ℕ} {out after : List ℕ} → Written out 0 (frontOf width height) at after → at ≡ frontLength height
+front-end width height w = w .next-is ∙ omega (arith, front-length-is width height)
+
+-- ---- one outcome, and the number
+
+pub one-outcome : {blocks : List ℕ} {format width height : ℕ} {out a b : List ℕ} {r s : ExrWritten} → PictureWritten blocks format width height out r a
+    → PictureWritten blocks format width height out s b → (r ≡ s) × (a ≡ b)
+one-outcome x y = (x .answers ∙ sym (y .answers), x .holds ∙ sym (y .holds))
+
+written-answer : (n width height : ℕ) → writtenAt n width height .answer ≡ n
+written-answer zero width height = refl
+written-answer (suc n) width height = refl
+
+module _ {blocks : List ℕ} {format width height : ℕ} {out after : List ℕ} {r : ExrWritten} (w : PictureWritten blocks format width height out r after) where
+  pub write-number : r .answer ≡ writeRefusal (length blocks) format width height (length out)
+  write-number =
+      ap (λ (x : ExrWritten). x .answer) (w .answers) ∙ written-answer (writeRefusal (length blocks) format width height (length out)) width height
+
+  -- where it is not done, no byte is counted and none is changed
+  pub silent : (r .answer ≡ done → ⊥) → (r .bytes ≡ 0) × (after ≡ out)
+  silent n = go (writeRefusal (length blocks) format width height (length out)) refl
+    where
+      go : (k : ℕ) → writeRefusal (length blocks) format width height (length out) ≡ k → (r .bytes ≡ 0) × (after ≡ out)
+      go zero q = absurd (n (write-number ∙ q))
+      go (suc k) q = (ap (λ (x : ExrWritten). x .bytes) (w .answers) ∙ rw q, rw q at (w .holds))
+
+  module _ (z : r .answer ≡ done) where
+    fine : writeRefusal (length blocks) format width height (length out) ≡ done
+    fine = sym write-number ∙ z
+
+    pub done-known : WriteKnown (length blocks) format width height (length out)
+    done-known = write-known _ _ _ _ _ fine
+
+    pub done-bytes : r .bytes ≡ fileLength width height
+    done-bytes = ap (λ (x : ExrWritten). x .bytes) (w .answers) ∙ rw fine
+
+    pub done-holds : after ≡ fileOf blocks format width height ++ drop (fileLength width height) out
+    done-holds = rw fine at (w .holds)
+
+-- at most the front and 4,096 lines of 24,584 bytes
+pub bytes-most : {blocks : List ℕ} {format width height : ℕ} {out after : List ℕ} {r : ExrWritten} → PictureWritten blocks format width height out r after
+    → r .bytes ≤ 100729145
+unfolding fileLength lineLength
+bytes-most {blocks} {format} {width} {height} {out} {after} {r} w = go (writeRefusal (length blocks) format width height (length out)) refl
+  where
+    go : (k : ℕ) → writeRefusal (length blocks) format width height (length out) ≡ k → r .bytes ≤ 100729145
+    go zero q =
+        let z : r .answer ≡ done = write-number w ∙ q in
+        let m = lines-small width height (done-known w z .even) in
+        omega (arith, done-bytes w z, m .all, m .front)
+    go (suc k) q = let e : r .bytes ≡ 0 = ap (λ (x : ExrWritten). x .bytes) (w .answers) ∙ rw q in omega arith
+
+pub length-file : (blocks : List ℕ) (format width height : ℕ) → length (fileOf blocks format width height) ≡ fileLength width height
+unfolding fileOf fileLength
+length-file blocks format width height =
+    length-append (frontOf width height) (linesOf blocks format width height)
+    ∙ ap₂ (λ (a b : ℕ). a + b) (front-length-is width height) (length-lines blocks format width height)
+
+-- what is written is that file, byte by byte: exactly the bytes that are counted
+pub written-file : {blocks : List ℕ} {format width height : ℕ} {out after : List ℕ} {r : ExrWritten} → PictureWritten blocks format width height out r after
+    → r .answer ≡ done → take (r .bytes) after ≡ fileOf blocks format width height
+written-file {blocks} {format} {width} {height} {out} w z =
+    ap₂ take (done-bytes w z) (done-holds w z)
+    ∙ take-at (fileOf blocks format width height) (drop (fileLength width height) out) (fileLength width height) (length-file blocks format width height)
+
+-- ---- what each return of exr_write shows
+
+module _ (blocks : List ℕ) (format width height : ℕ) (out : List ℕ) where
+  module _ {answer : ℕ} (e : answer ≡ writeRefusal (length blocks) format width height (length out)) where
+    pub told-refused : {r : ExrWritten} → (answer ≡ done → ⊥) → r ≡ record { answer = answer; bytes = 0 } → PictureWritten blocks format width height out r out
+    told-refused {r} n q = go (writeRefusal (length blocks) format width height (length out)) refl
+      where
+        go : (k : ℕ) → writeRefusal (length blocks) format width height (length out) ≡ k → PictureWritten blocks format width height out r out
+        go zero z = absurd (n (e ∙ z))
+        go (suc k) z = record { answers = q ∙ rw (e, z); holds = rw z }
+
+    -- the front, and then the rows of blocks in what is behind it
+    pub told-done : answer ≡ done → (with-front part : List ℕ) {at size : ℕ} → Written out 0 (frontOf width height) at with-front
+        → length with-front ≡ length out
+        → part ≡ bandsOf blocks format (width / 4) (height / 4) ++ drop ((32 + 96 * (width / 4)) * (height / 4)) (midOf at (length with-front - at) with-front)
+        → size ≡ lengthOf width height
+        → PictureWritten blocks format width height out (record { answer = answer; bytes = size }) (putMid at (length with-front - at) with-front part)
+    unfolding fileOf fileLength
+    told-done d m part {at} w len p i =
+        let z : writeRefusal (length blocks) format width height (length out) ≡ done = sym e ∙ d in
+        let known = write-known _ _ _ _ _ z in
+        let l = length-is width height (known .even) i in
+        let k = small width height (known .even) in
+        let h = frontOf width height in
+        let n = frontLength height in
+        let body = linesOf blocks format width height in
+        let eh : length h ≡ n = front-length-is width height in
+        let ea : at ≡ n = w .next-is ∙ (let z : 0 + length h ≡ n = omega arith in z) in
+        let room : length h ≤ length out = omega (arith, known .fits) in
+        let em : m ≡ h ++ drop n out = w .exit-is ∙ sets-front h out room ∙ ap (λ (x : ℕ). h ++ drop x out) eh in
+        let before : take at m ≡ h = ap₂ take ea em ∙ take-at h (drop n out) n eh in
+        let rest : drop at m ≡ drop n out = ap₂ drop ea em ∙ drop-at h (drop n out) n eh in
+        let mid : midOf at (length m - at) m ≡ drop n out =
+        take-all (length m - at) (drop at m) (let d = length-drop at m in omega arith) ∙ rest in
+        let none : drop (length m - at) (drop at m) ≡ [] =
+        drop-of-length-le (drop at m) {i = length m - at} (let d = length-drop at m in omega arith) in
+        let same : bandsOf blocks format (width / 4) (height / 4) ≡ body =
+        sym (lines-bands blocks format (width / 4) (height / 4)) ∙ ap₂ (linesOf blocks format) (k .whole-width) (k .whole-height) in
+        let behind : drop ((32 + 96 * (width / 4)) * (height / 4)) (drop n out) ≡ drop (n + lineLength width * height) out =
+        ap (λ (x : ℕ). drop x (drop n out)) (bytes-lines width height (known .even)) ∙ drop-drop (lineLength width * height) n out in
+        let whole : part ≡ body ++ drop (n + lineLength width * height) out =
+        p ∙ ap₂ (λ (a b : List ℕ). a ++ b) same (ap (drop ((32 + 96 * (width / 4)) * (height / 4))) mid ∙ behind) in
+        record {
+          answers = rw (e, z, l);
+          holds = ap₂ (λ (a b : List ℕ). a ++ b) before (ap (λ (t : List ℕ). part ++ t) none ∙ append-nil part ∙ whole)
+              ∙ sym (append-assoc h body (drop (n + lineLength width * height) out)) ∙ rw z;
+        }

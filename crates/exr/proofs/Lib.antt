@@ -1,0 +1,5 @@
+pub mod Lines
+pub mod Bands
+pub mod Whole
+pub mod Calls
+pub mod Places

@@ -1,0 +1,76 @@
+-- An OpenEXR file as a list of bytes, and what the writing call answers and leaves. Assumes nothing.
+use mathlib.Core.Path.{_≡_}
+use mathlib.Core.List.{List, _++_}
+use Prim.Native.Nat.{ℕ, zero, suc, _+_, _*_, _/_, _%_}
+use lib.Dec.{eqb, ltb}
+use lib.ListN.{length, getD, drop}
+use Rattle.laws.specs.Pick.{pick}
+use Rattle.laws.specs.Made.{made, join}
+use Rattle.bcn_spec.specs.Answers.{done, badFormat, shortOutput, badBlocks, unevenSize}
+use Rattle.bcn_spec.specs.Bits.{blockAt}
+use Rattle.bc6h_spec.specs.Picture.{isSigned}
+use Rattle.bc6h_spec.specs.Block.{pixelsOf}
+use Rattle.pfm.specs.File.{sizeEven, blockBytes}
+use Rattle.exr_header.specs.Header.{lowFirst, frontOf, frontLength, lineLength}
+use Rattle.exr.specs.declared.ExrWritten.{ExrWritten}
+
+-- ---- the file
+
+-- One value of a pixel as it is: channel 0, 1 or 2 (red, green, blue) of pixel (x, y), row 0 on top, from blocks in row order, `across` a row.
+unfoldable pub patternAt : List ℕ → ℕ → ℕ → ℕ → ℕ → ℕ → ℕ
+patternAt blocks format across channel y x =
+    getD (pixelsOf (isSigned format) (blockAt blocks (y / 4 * across + x / 4))) (3 * (4 * (y % 4) + x % 4) + channel) 0
+
+-- HALF: the pattern's two bytes, the low one first
+unfoldable pub halfAt : List ℕ → ℕ → ℕ → ℕ → ℕ → ℕ → List ℕ
+halfAt blocks format across channel y x = lowFirst 2 (patternAt blocks format across channel y x)
+
+-- one channel of line y, from the left
+unfoldable pub channelAt : List ℕ → ℕ → ℕ → ℕ → ℕ → List ℕ
+channelAt blocks format width channel y = join (made (halfAt blocks format (width / 4) channel y) width)
+
+-- Before the values of a line: its number, and how many bytes they have.
+unfoldable pub headOf : ℕ → ℕ → List ℕ
+headOf width y = lowFirst 4 y ++ lowFirst 4 (6 * width)
+
+-- Line y. The channels come in the order of their names: all blue values, all green ones, all red ones.
+unfoldable pub lineAt : List ℕ → ℕ → ℕ → ℕ → List ℕ
+lineAt blocks format width y = headOf width y ++ (channelAt blocks format width 2 y ++ (channelAt blocks format width 1 y ++ channelAt blocks format width 0 y))
+
+-- the lines from the top down
+unfoldable pub linesOf : List ℕ → ℕ → ℕ → ℕ → List ℕ
+linesOf blocks format width height = join (made (lineAt blocks format width) height)
+
+unfoldable pub fileOf : List ℕ → ℕ → ℕ → ℕ → List ℕ
+fileOf blocks format width height = frontOf width height ++ linesOf blocks format width height
+
+unfoldable pub fileLength : ℕ → ℕ → ℕ
+fileLength width height = frontLength height + lineLength width * height
+
+-- ---- the call
+
+-- "order 1, 16, 15, 3", as for a Portable Float Map; 3 means less room than the file has bytes
+unfoldable pub writeRefusal : ℕ → ℕ → ℕ → ℕ → ℕ → ℕ
+writeRefusal size format width height room =
+    pick (ltb 1 format) badFormat
+    (pick (sizeEven width height)
+    (pick (eqb size (blockBytes width height)) (pick (ltb room (fileLength width height)) shortOutput done) badBlocks)
+    unevenSize)
+
+abbrev pub writtenAt : ℕ → ℕ → ℕ → ExrWritten
+writtenAt zero width height = record { answer = done; bytes = fileLength width height }
+writtenAt (suc n) width height = record { answer = suc n; bytes = 0 }
+
+-- Done writes exactly the file; a refusal writes nothing.
+abbrev pub leftAt : ℕ → List ℕ → ℕ → ℕ → ℕ → List ℕ → List ℕ
+leftAt zero blocks format width height out = fileOf blocks format width height ++ drop (fileLength width height) out
+leftAt (suc n) blocks format width height out = out
+
+-- The statement of `exr_write`: its answer r, and the lent bytes `after`.
+pub record PictureWritten (blocks : List ℕ) (format width height : ℕ) (out : List ℕ) (r : ExrWritten) (after : List ℕ) : Type 0 where
+  pub answers : r ≡ writtenAt (writeRefusal (length blocks) format width height (length out)) width height
+  pub holds : after ≡ leftAt (writeRefusal (length blocks) format width height (length out)) blocks format width height out
+
+-- The length of the file of a size, 0 where it is refused.
+unfoldable pub lengthOf : ℕ → ℕ → ℕ
+lengthOf width height = pick (sizeEven width height) (fileLength width height) 0

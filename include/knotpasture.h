@@ -422,7 +422,7 @@ size_t knot_probe_edge(const uint8_t *store, size_t store_length);
  * Answers the number alone; *records becomes the number of records, 6 n n. Refusals: 19, 1, 15 (not 96 n n bytes of blocks), 3 (fewer
  * than 192 n n bytes of room), in this order; nothing is written, and *records becomes 0.
  *
- * Stack: 200 bytes.
+ * Stack: 150 bytes.
  */
 uint32_t knot_probe_build(const uint8_t *blocks, size_t blocks_length, uint8_t format, uint32_t edge, uint32_t first_tile, uint8_t *out,
                           size_t out_length, size_t *records);

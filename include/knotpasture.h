@@ -414,9 +414,26 @@ uint64_t knot_probe_check(const uint8_t *store, size_t store_length, uint32_t ed
  */
 uint32_t knot_probe_face(const uint8_t *store, size_t store_length, uint32_t edge, uint32_t face, uint16_t *out, size_t out_length);
 
-/* Whether a block meets by itself what the copies theorem asks: read in the format it is of mode 1 to 13; each of its regions has a pixel at index 0 and one at the last index, 7
- * in two regions and 15 in one, and a channel whose palette values all differ; and, if signed, no endpoint is after the transform
- * the lowest number of its precision. Two such blocks of one format, mode and partition that show the same 48 values are the same
+/* The edge by the store's length: the n of 1 to KNOT_EDGE_LIMIT with 192 n n bytes, or 0 if there is none. It reads no byte of the
+ * store: knot_probe_check says whether the store is a probe of that edge. Stack: 50 bytes. */
+size_t knot_probe_edge(const uint8_t *store, size_t store_length);
+
+/* Makes a probe of the blocks of its six faces: face by face, row by row from the top, all in one format. Record f n n + row n + column
+ * has the block at that column and row of face f; its tile number is first_tile plus the record's number, modulo 2^32. out[0] to
+ * out[192 n n - 1] become the store, which is a probe of the edge; the rest of out stays. knot_probe_pixel and knot_probe_face of
+ * exactly those bytes show the blocks.
+ *
+ * Answers the number alone; *records becomes the number of records, 6 n n. Refusals: 19, 1, 15 (not 96 n n bytes of blocks), 3 (fewer
+ * than 192 n n bytes of room), in this order; nothing is written, and *records becomes 0.
+ *
+ * Stack: 150 bytes.
+ */
+uint32_t knot_probe_build(const uint8_t *blocks, size_t blocks_length, uint8_t format, uint32_t edge, uint32_t first_tile, uint8_t *out,
+                          size_t out_length, size_t *records);
+
+/* Whether a block meets by itself what the copies theorem asks: read in the format it is of mode 1 to 13; each of its regions has a
+ * pixel at index 0 and one at the last index, 7 in two regions and 15 in one, and a channel whose palette values all differ; and, if
+ * signed, no endpoint is after the transform the lowest number of its precision. Two such blocks of one format, mode and partition that show the same 48 values are the same
  * sixteen bytes: deleting one of the two loses nothing. False for any other format or length.
  *
  * Stack: 1,650 bytes.

@@ -433,8 +433,8 @@ uint32_t knot_probe_build(const uint8_t *blocks, size_t blocks_length, uint8_t f
 
 /* Whether a block meets by itself what the copies theorem asks: read in the format it is of mode 1 to 13; each of its regions has a
  * pixel at index 0 and one at the last index, 7 in two regions and 15 in one, and a channel whose palette values all differ; and, if
- * signed, no endpoint is after the transform the lowest number of its precision. Two such blocks of one format, mode and partition that show the same 48 values are the same
- * sixteen bytes: deleting one of the two loses nothing. False for any other format or length.
+ * signed, no endpoint is after the transform the lowest number of its precision. Two such blocks of one format, mode and partition that
+ * show the same 48 values are the same sixteen bytes: deleting one of the two loses nothing. False for any other format or length.
  *
  * Stack: 1,650 bytes.
  */

@@ -38,10 +38,10 @@ AHEAD, BATCH = 4, 64
 def package():
     """The module of the Python package that reads stores, without the rest of the package, which needs numpy."""
     folder = os.path.join(house.ROOT, "python", "knotpasture")
-    library = os.path.join(os.path.dirname(house.ROOT), "libknotpasture.so.0")
+    library = os.path.join(os.path.dirname(house.ROOT), "libknotpasture.so.1")
     if os.path.isfile(library):
         os.environ.setdefault("KNOTPASTURE_LIBRARY", library)
-    elif "KNOTPASTURE_LIBRARY" not in os.environ and not os.path.isfile(os.path.join(house.ROOT, "target/lib", os.uname().machine, "libknotpasture.so.0")):
+    elif "KNOTPASTURE_LIBRARY" not in os.environ and not os.path.isfile(os.path.join(house.ROOT, "target/lib", os.uname().machine, "libknotpasture.so.1")):
         import subprocess
         if subprocess.run([os.path.join(house.ROOT, "tools/libraries")], stdin=subprocess.DEVNULL, stdout=subprocess.DEVNULL).returncode != 0:
             raise house.Trouble("the library is not built: the reason is above")

@@ -8,7 +8,7 @@ import platform
 import threading
 from typing import Any
 
-NAME = "libknotpasture.so.0"
+NAME = "libknotpasture.so.1"
 
 # A library without code that asks for NAME by its name, so that the machine's loader takes the one for its processor: beside NAME, where there is more than one.
 LOADER = "libknotload.so"

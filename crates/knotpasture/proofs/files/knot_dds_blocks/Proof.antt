@@ -3,9 +3,6 @@ use Rattle.knotpasture.proofs.FileWords.{blocks-refused, blocks-start}
 use Rattle.knotpasture.proofs.files.knot_dds_blocks.Statement.{statement}
 use Rattle.knotpasture.proofs.files.knot_dds_blocks.Tie as tie
 
-dds-read-requires : tie.Need-dds-read-requires
-dds-read-requires c κs = search needs
-
 returns : tie.Need-returns
 returns c = blocks-refused (c .before .before .dds-read .ensures) (c .if1 .taken)
 
@@ -13,4 +10,4 @@ returns-2 : tie.Need-returns-2
 returns-2 c = blocks-start (c .before .before .dds-read .ensures) (c .if1 .left)
 
 pub knot-dds-blocks-spec : {M : Type 1} → statement M
-knot-dds-blocks-spec = tie.close (tie.spec dds-read-requires returns returns-2)
+knot-dds-blocks-spec = tie.close (tie.spec (λ c κs. search needs) returns returns-2)

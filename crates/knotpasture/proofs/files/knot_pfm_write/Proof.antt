@@ -5,17 +5,11 @@ use Rattle.knotpasture.proofs.FileWords.{pfm-written}
 use Rattle.knotpasture.proofs.files.knot_pfm_write.Statement.{statement}
 use Rattle.knotpasture.proofs.files.knot_pfm_write.Tie as tie
 
-pfm-write-requires : tie.Need-pfm-write-requires
-pfm-write-requires c κs = search needs
-
 length-word-requires : tie.Need-length-word-requires
 length-word-requires c κs = omega (arith, length-most (c .before .before .pfm-write .ensures))
-
-same-length : tie.Need-same-length
-same-length c = search needs
 
 returns : tie.Need-returns
 returns c = pfm-written (c .before .before .before .pfm-write .ensures) (c .length-word .ensures)
 
 pub knot-pfm-write-spec : {M : Type 1} → statement M
-knot-pfm-write-spec = tie.close (tie.spec pfm-write-requires length-word-requires same-length returns)
+knot-pfm-write-spec = tie.close (tie.spec (λ c κs. search needs) length-word-requires (λ c. search needs) returns)

@@ -4,18 +4,12 @@ use borrow.Author.Needs.{needs}
 use Rattle.knotpasture.proofs.probes.knot_place_store.Statement.{statement}
 use Rattle.knotpasture.proofs.probes.knot_place_store.Tie as tie
 
-place-store-requires : tie.Need-place-store-requires
-place-store-requires c κs = search needs
-
 moved-word-requires : tie.Need-moved-word-requires
 moved-word-requires c κs = (place-few _ (c .before .before .place-store .ensures), place-few-told _ (c .before .before .place-store .ensures))
-
-same-length : tie.Need-same-length
-same-length c = search needs
 
 returns : tie.Need-returns
 returns c = place-called (c .before .before .before .place-store .ensures) (c .moved-word .ensures)
 
 pub knot-place-store-spec : {M : Type 1} → statement M
 knot-place-store-spec =
-    tie.close (tie.spec place-store-requires moved-word-requires same-length returns)
+    tie.close (tie.spec (λ c κs. search needs) moved-word-requires (λ c. search needs) returns)

@@ -6,15 +6,6 @@ use borrow.Author.Needs.{needs}
 use Rattle.knotpasture.proofs.probes.knot_placed_record_block.Statement.{statement}
 use Rattle.knotpasture.proofs.probes.knot_placed_record_block.Tie as tie
 
-placed-record-at-requires : tie.Need-placed-record-at-requires
-placed-record-at-requires c κs = search needs
-
-enum-told : tie.Need-enum-told
-enum-told c = search needs
-
-enum-told-2 : tie.Need-enum-told-2
-enum-told-2 c = search needs
-
 returns : tie.Need-returns
 returns c = refused-offset (c .before .before .placed-record-at .ensures) (c .enum-told2 .given .1)
 
@@ -34,9 +25,9 @@ pub knot-placed-record-block-spec : {M : Type 1} → statement M
 knot-placed-record-block-spec =
     tie.close
     (tie.spec
-    placed-record-at-requires
-    enum-told
-    enum-told-2
+    (λ c κs. search needs)
+    (λ c. search needs)
+    (λ c. search needs)
     returns
     mul-result
     add-result

@@ -4,12 +4,6 @@ use borrow.Author.Needs.{needs}
 use Rattle.knotpasture.proofs.probes.knot_probe_check.Statement.{statement}
 use Rattle.knotpasture.proofs.probes.knot_probe_check.Tie as tie
 
-probe-check-requires : tie.Need-probe-check-requires
-probe-check-requires c κs = search needs
-
-cast-result : tie.Need-cast-result
-cast-result c = search needs
-
 mul-result : tie.Need-mul-result
 mul-result c = record { fits = omega (arith, fault-few _ _ (c .before .probe-check .ensures)) }
 
@@ -23,8 +17,8 @@ pub knot-probe-check-spec : {M : Type 1} → statement M
 knot-probe-check-spec =
     tie.close
     (tie.spec
-    probe-check-requires
-    cast-result
+    (λ c κs. search needs)
+    (λ c. search needs)
     mul-result
     add-result
     returns)

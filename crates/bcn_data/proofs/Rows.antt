@@ -62,10 +62,11 @@ module _ (p row : ℕ) (h : p < 64) (e : row ≡ packedRow2 p) where
 
 module _ (p row : ℕ) (h : p < 64) (e : row ≡ threeRow p) where
   pub small3 : row / 68719476736 < 256
+  unfolding threeRow
   small3 = let f = fits 1 p (omega arith) h in omega (arith, e, f .ones, f .twos, f .low, f .high)
 
   pub apart3 : record { ones = row % 65536; twos = row / 65536 % 65536; «fixup_index_2» = row / 4294967296 % 16; «fixup_index_3» = row / 68719476736 } ≡ row3 p
-  unfolding row3
+  unfolding threeRow row3
   apart3 =
       let f = fits 1 p (omega arith) h in
       let one : row % 65536 ≡ maskOf 1 3 p = low-part 65536 _ _ _ e (f .ones) in

@@ -9,9 +9,7 @@ use Rattle.laws.specs.Made.{made}
 use Rattle.laws.specs.First.{firstBelow}
 use Rattle.laws.specs.Packed.{before, unpacked}
 use Rattle.bcn_spec.specs.Answers.{done}
-use Rattle.bcn_spec.specs.Bits.{blockSize}
-use Rattle.bcn_spec.specs.Rows.{partitionSet3, fixupsOf}
-use Rattle.bc7_spec.specs.Rows.{regionOf}
+use Rattle.bcn_spec.specs.Rows.{partitionSet3, fixupsOf, regionOf}
 use Rattle.bc7_spec.specs.Modes.{modes, modeAt}
 use Rattle.bc7_spec.specs.Layout.{runBits, runIn}
 use Rattle.bc7_spec.specs.Fields.{modeIn, modeOf, partitionIn, rotationIn, selectionIn, storedIn, pbitIn, firstIndexIn, secondIndexIn}

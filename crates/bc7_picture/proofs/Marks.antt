@@ -1,16 +1,14 @@
 -- The regions and the fix-up pixels of a partition, as the code has them: one test over all rows. Assumes nothing.
-use mathlib.Core.Path.{_≡_, _∙_, refl, sym, ap, subst}
+use mathlib.Core.Path.{_≡_, sym, subst}
 use mathlib.Core.Bool.{Bool}
 use mathlib.Core.List.{List, [], _∷_}
-use Prim.Native.Nat.{ℕ, zero, suc, zero-le, _+_, _<_, _≤_}
+use Prim.Native.Nat.{ℕ, zero-le, _<_, _≤_}
 use native.Mathlib.Omega.{arith}
 use lib.Dec.{T, eqb, ltb, eqb→eq, ltb→lt, lit<}
-use lib.ListN.{getD}
-use Rattle.laws.specs.Pick.{pick, both}
+use Rattle.laws.specs.Pick.{both}
 use Rattle.laws.specs.Every.{below, same}
 use Rattle.laws.proofs.Tests.{both-left, both-right, below-at, same-eq}
-use Rattle.bcn_spec.specs.Rows.{partitionSet3, fixupsOf}
-use Rattle.bc7_spec.specs.Rows.{regionOf}
+use Rattle.bcn_spec.specs.Rows.{partitionSet3, fixupsOf, regionOf}
 use Rattle.bcn_util.proofs.Indexing.{Rising}
 use Rattle.bcn_data.specs.declared.Subset2Map.{Subset2Map}
 use Rattle.bcn_data.specs.declared.Subset3Map.{Subset3Map}

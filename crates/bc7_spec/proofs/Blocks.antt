@@ -1,16 +1,15 @@
 -- Document 03's "Worked blocks", C1 to C11: one table, and a single theorem over it. Assumes nothing.
 use mathlib.Core.Bool.{Bool}
 use mathlib.Core.List.{List, [], _∷_, _++_}
-use Prim.Native.Nat.{ℕ, _+_, _/_, _%_}
+use Prim.Native.Nat.{ℕ, _/_, _%_}
 use lib.Dec.{T, eqb}
 use lib.ListN.{replicate}
-use Rattle.laws.specs.Pick.{pick, both}
+use Rattle.laws.specs.Pick.{both}
 use Rattle.laws.specs.Every.{every, same}
 use Rattle.laws.specs.Made.{made}
 use Rattle.laws.specs.First.{firstBelow}
 use Rattle.laws.specs.Packed.{before, unpacked}
-use Rattle.bcn_spec.specs.Rows.{partitionSet3, fixupsOf}
-use Rattle.bc7_spec.specs.Rows.{regionOf}
+use Rattle.bcn_spec.specs.Rows.{partitionSet3, fixupsOf, regionOf}
 use Rattle.bc7_spec.specs.Modes.{modes, modeAt}
 use Rattle.bc7_spec.specs.Layout.{runBits, runIn}
 use Rattle.bc7_spec.specs.Fields.{modeIn, modeOf, partitionIn, rotationIn, selectionIn, storedIn, pbitIn, firstIndexIn, secondIndexIn}

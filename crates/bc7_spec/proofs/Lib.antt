@@ -1,5 +1,4 @@
 pub mod Runs
-pub mod Partitions
 pub mod Quoted
 pub mod Values
 pub mod Blocks

@@ -7,9 +7,8 @@ use lib.ListN.{getD}
 use Rattle.laws.specs.Pick.{both}
 use Rattle.laws.specs.Every.{below}
 use Rattle.bcn_spec.specs.Regions.{regionsIn}
-use Rattle.bcn_spec.specs.Rows.{partitionSet3, rowOf, fixupsOf}
-use Rattle.bc7_spec.specs.Rows.{regionOf}
-use Rattle.bc7_spec.proofs.Partitions.{fixupIn}
+use Rattle.bcn_spec.specs.Rows.{partitionSet3, rowOf, fixupsOf, regionOf}
+use Rattle.bcn_spec.proofs.Rows.{fixupIn}
 
 -- digits in a base, the first the lowest
 abbrev ofDigits : ℕ → List ℕ → ℕ

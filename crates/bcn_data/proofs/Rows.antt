@@ -10,8 +10,6 @@ use Rattle.laws.specs.Every.{below}
 use Rattle.laws.proofs.Tests.{both-left, both-right, below-at}
 use Rattle.bcn_spec.specs.Regions.{partitions, mapOf, fixupOf}
 use Rattle.bcn_spec.specs.Rows.{partitionSet3, fixupsOf}
-use Rattle.bcn_data.specs.declared.Subset2Map.{Subset2Map}
-use Rattle.bcn_data.specs.declared.Subset3Map.{Subset3Map}
 use Rattle.bcn_data.specs.Subsets.{subset2, maskOf, fixupAt, row2, row3, packedRow2, threeRow}
 
 -- ---- every map has sixteen bits, and every fix-up pixel four

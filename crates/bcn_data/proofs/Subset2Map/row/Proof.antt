@@ -1,7 +1,7 @@
 -- `Subset2Map::row` meets its contract: the first rows are BC6H's; of the others the number is taken apart. Assumes nothing.
 use borrow.Author.Needs.{needs}
 use mathlib.Core.Path.{_≡_, _∙_, sym, ap}
-use Prim.Native.Nat.{ℕ, _+_, _-_}
+use Prim.Native.Nat.{_+_, _-_}
 use native.Mathlib.Omega.{arith}
 use Rattle.bcn_data.specs.Subsets.{packedRow2, laterRow}
 use Rattle.bcn_data.proofs.Arms.{row-is}

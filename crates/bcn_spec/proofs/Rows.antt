@@ -1,17 +1,16 @@
--- The partition rows and their rule, one test over all of them. Assumes nothing.
+-- The rows of one, two and three regions: their rule, one test over all of them. Assumes nothing.
 use mathlib.Core.Path.{_≡_}
-use mathlib.Core.Bool.{Bool, true}
+use mathlib.Core.Bool.{Bool}
 use mathlib.Core.List.{List, [], _∷_}
-use Prim.Native.Nat.{ℕ, zero, suc, _+_, _-_, _<_, _≤_}
+use Prim.Native.Nat.{ℕ, zero, suc, _-_, _<_, _≤_}
 use native.Mathlib.Nat.{not-suc-le-zero}
 use lib.Dec.{T, eqb, ltb, eqb→eq, ltb→lt}
 use lib.ListN.{length, getD}
 use Rattle.laws.specs.Pick.{pick, both}
 use Rattle.laws.specs.Every.{below}
 use Rattle.laws.proofs.Tests.{both-left, both-right, below-at}
 use Rattle.bcn_spec.specs.Regions.{regionsIn}
-use Rattle.bcn_spec.specs.Rows.{partitionSet3, rowOf, fixupsOf}
-use Rattle.bc7_spec.specs.Rows.{regionOf}
+use Rattle.bcn_spec.specs.Rows.{partitionSet3, rowOf, regionOf, fixupsOf}
 
 -- the first pixel of a list that lies in region r
 abbrev pub fixupAmong : (ℕ → ℕ) → ℕ → List ℕ → ℕ

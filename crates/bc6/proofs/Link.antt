@@ -31,7 +31,9 @@ use Rattle.bc6h_spec.proofs.Shown.{endpoint-in, unsigned-finite}
 use Rattle.bc6h_spec.proofs.Finite.{narrow-finite}
 use Rattle.bcn_data.specs.declared.Subset2Map.{Subset2Map}
 use Rattle.bcn_data.specs.Subsets.{subset2}
+use Rattle.bcn_util.specs.declared.BitStream.{BitStream}
 use Rattle.bcn_util.specs.declared.Indexes.{Indexes}
+use Rattle.bcn_util.specs.Stream.{number}
 use Rattle.bcn_util.specs.Indexed.{indexesOf}
 use Rattle.bcn_util.proofs.Indexing.{index-read}
 use Rattle.bcn_data.proofs.Fixups.{fixup-range}
@@ -218,3 +220,10 @@ one-picked n rest x er ex =
           ∙ index-read 4 (lit≤ tt) (0 ∷ []) (zero-le, (lit< tt, tt)) rest k h
           ∙ ap (λ (y : ℕ). indexIn 4 (0 ∷ []) y k) er;
     }
+
+-- of one stream and of another that is the same
+pub same-picks : {s t : BitStream} {picks : Picks} → s ≡ t → Picked (number s) picks → Picked (number t) picks
+same-picks {picks = picks} e = subst (λ (x : BitStream). Picked (number x) picks) e
+
+pub same-indices : {s t : BitStream} {word : ℕ} → s ≡ t → OnePicked (number s) word → OnePicked (number t) word
+same-indices {word = word} e = subst (λ (x : BitStream). OnePicked (number x) word) e

@@ -1,10 +1,11 @@
 -- What `block_pixels` answers, and what the lent values then are. Assumes nothing.
 use mathlib.Core.Path.{_≡_}
-use mathlib.Core.List.{List, _++_}
+use mathlib.Core.Bool.{not}
+use mathlib.Core.List.{List, [], _∷_, _++_}
 use Prim.Native.Nat.{ℕ, zero, suc}
 use lib.Dec.{eqb, ltb}
 use lib.ListN.{length, drop}
-use Rattle.laws.specs.Pick.{pick}
+use Rattle.laws.specs.Checks.{firstMet}
 use Rattle.bcn_spec.specs.Answers.{done, badFormat, badBlock, shortOutput}
 use Rattle.bcn_spec.specs.Bits.{blockSize}
 use Rattle.bc6h_spec.specs.Fields.{modeOf}
@@ -14,7 +15,8 @@ use Rattle.bc6.specs.declared.Pixels.{Pixels}
 
 -- "pixels of a block: 1, 2, 3": the first check that is met, from the format, the block's length and the room
 unfoldable pub refusalOf : ℕ → ℕ → ℕ → ℕ
-refusalOf format size room = pick (ltb 1 format) badFormat (pick (eqb size blockSize) (pick (ltb room valueCount) shortOutput done) badBlock)
+refusalOf format size room =
+    firstMet ((ltb 1 format, badFormat) ∷ (not (eqb size blockSize), badBlock) ∷ (ltb room valueCount, shortOutput) ∷ [])
 
 -- "It answers the mode number. A reserved mode is done, with mode number 0; a refusal has mode number 0 too."
 -- "answer a count: how many of the values written equal 0xFC00. A reserved block and a refusal count zero."

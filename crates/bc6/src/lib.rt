@@ -51,14 +51,14 @@ fn show_unsigned(lo: u64, hi: u64, out: &mut [u16]) -> u16
     requires { ⌜ (1 ≤ modeIn (number (record { lo = lo; hi = hi }))) × (48 ≤ length (now out)) ⌝ }
     ensures { λ r. ⌜ PaintedAs (pictureAs false (fieldsAt 0 (modeIn (number (record { lo = lo; hi = hi }))) (number (record { lo = lo; hi = hi })))) (now (out .entry)) r (now (out .exit)) ⌝ }
 {
-    let stream = BitStream { lo, hi };
+    let stream = BitStream::of(lo, hi);
     let ends = bc6_by_mode::unsigned_ends(lo, hi);
     if lo % 4 != 3 {
         let picks = two_picks(stream);
-        bc6_two_regions::paint_two_unsigned(ends, picks.map, picks.indices, out);
+        bc6_paint::two_regions::paint_two_unsigned(ends, picks.map, picks.indices, out);
         return 0;
     }
-    bc6_one_region::paint_one_unsigned(ends, one_indices(stream), out);
+    bc6_paint::one_region::paint_one_unsigned(ends, one_indices(stream), out);
     0
 }
 
@@ -66,14 +66,14 @@ fn show_signed(lo: u64, hi: u64, out: &mut [u16]) -> u16
     requires { ⌜ (1 ≤ modeIn (number (record { lo = lo; hi = hi }))) × (48 ≤ length (now out)) ⌝ }
     ensures { λ r. ⌜ PaintedAs (pictureAs true (fieldsAt 1 (modeIn (number (record { lo = lo; hi = hi }))) (number (record { lo = lo; hi = hi })))) (now (out .entry)) r (now (out .exit)) ⌝ }
 {
-    let stream = BitStream { lo, hi };
+    let stream = BitStream::of(lo, hi);
     let ends = bc6_by_mode::signed_ends(lo, hi);
     if lo % 4 != 3 {
         let picks = two_picks(stream);
-        bc6_two_regions::paint_two_signed(ends, picks.map, picks.indices, out);
+        bc6_paint::two_regions::paint_two_signed(ends, picks.map, picks.indices, out);
         return 0;
     }
-    bc6_one_region::paint_one_signed(ends, one_indices(stream), out)
+    bc6_paint::one_region::paint_one_signed(ends, one_indices(stream), out)
 }
 
 // Sixteen black pixels: 48 zeros.

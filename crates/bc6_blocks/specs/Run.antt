@@ -1,11 +1,11 @@
 -- What `blocks_pixels` answers, and what the lent values then are: document 02's T-01 and T-02. Assumes nothing.
 use mathlib.Core.Path.{_≡_}
-use mathlib.Core.Bool.{Bool}
-use mathlib.Core.List.{List, _++_}
+use mathlib.Core.Bool.{Bool, not}
+use mathlib.Core.List.{List, [], _∷_, _++_}
 use Prim.Native.Nat.{ℕ, zero, suc, _*_, _/_, _%_}
 use lib.Dec.{eqb, ltb}
 use lib.ListN.{length, take, drop}
-use Rattle.laws.specs.Pick.{pick}
+use Rattle.laws.specs.Checks.{firstMet}
 use Rattle.laws.specs.Made.{made, countOf, join}
 use Rattle.bcn_spec.specs.Answers.{done, badFormat, shortOutput, unevenBlocks}
 use Rattle.bcn_spec.specs.Bits.{blockSize, blocksIn, blockAt}
@@ -23,7 +23,8 @@ runOf signed blocks n = join (made (shownAt signed blocks) n)
 
 -- "order 1, 9, 3, where 3 means fewer than 48 values a block"
 unfoldable pub runRefusal : ℕ → ℕ → ℕ → ℕ
-runRefusal format size room = pick (ltb 1 format) badFormat (pick (eqb (size % blockSize) 0) (pick (ltb room (valueCount * (size / blockSize))) shortOutput done) unevenBlocks)
+runRefusal format size room =
+    firstMet ((ltb 1 format, badFormat) ∷ (not (eqb (size % blockSize) 0), unevenBlocks) ∷ (ltb room (valueCount * (size / blockSize)), shortOutput) ∷ [])
 
 -- "it answers that number", the number of blocks, and "how many of the values written equal 0xFC00"; "a refusal count[s] zero"
 abbrev pub runInfinities : ℕ → List ℕ → ℕ

@@ -7,8 +7,9 @@ use Rattle.laws.specs.Pick.{pick}
 use Rattle.bc6h_spec.specs.Layout.{precision, ownWidth, transformed}
 use Rattle.bc6h_spec.specs.Fields.{modeIn}
 use Rattle.bc6h_spec.specs.Picture.{firstEnd, otherEnd}
-use Rattle.bc6_runs.specs.Ends.{placesOf}
-use Rattle.bc6_endpoints.specs.Ends.{wordOf}
+use Rattle.bc6_runs.specs.declared.Channels.{Channels}
+use Rattle.bc6_runs.specs.Ends.{placesOf, ChannelsRead}
+use Rattle.bc6_endpoints.specs.Ends.{wordOf, ChannelEnds, WholeEnds, Sixteen}
 use Rattle.bc6_paint.specs.declared.Ends.{Ends}
 use Rattle.bc6_paint.specs.Values.{endIn}
 
@@ -27,3 +28,29 @@ pub record EndsOf (count : ℕ) (s : Bool) (m n : ℕ) (r : Ends) : Type 0 where
 pub record BlockEnds (s : Bool) (n : ℕ) (r : Ends) : Type 0 where
   pub two : modeIn n ≤ 10 → EndsOf 4 s (modeIn n) n r
   pub one : 10 < modeIn n → EndsOf 2 s (modeIn n) n r
+
+-- ---- worked out of the numbers that mode m stores
+
+-- the first endpoint whole, the others as differences from it
+pub record MovedEnds (s : Bool) (m n : ℕ) (r : Ends) : Type 0 where
+  pub stored : Channels
+  pub read : ChannelsRead m n stored
+  pub red : ChannelEnds s (precision m) (ownWidth m 0) (stored .red) (r .red)
+  pub green : ChannelEnds s (precision m) (ownWidth m 1) (stored .green) (r .green)
+  pub blue : ChannelEnds s (precision m) (ownWidth m 2) (stored .blue) (r .blue)
+
+-- all of them whole
+pub record StoredEnds (s : Bool) (m n : ℕ) (r : Ends) : Type 0 where
+  pub stored : Channels
+  pub read : ChannelsRead m n stored
+  pub red : WholeEnds s (precision m) (stored .red) (r .red)
+  pub green : WholeEnds s (precision m) (stored .green) (r .green)
+  pub blue : WholeEnds s (precision m) (stored .blue) (r .blue)
+
+-- mode 14, in either format: sixteen bits, and a difference from them
+pub record SixteenEnds (n : ℕ) (r : Ends) : Type 0 where
+  pub stored : Channels
+  pub read : ChannelsRead 14 n stored
+  pub red : Sixteen (stored .red) (r .red)
+  pub green : Sixteen (stored .green) (r .green)
+  pub blue : Sixteen (stored .blue) (r .blue)

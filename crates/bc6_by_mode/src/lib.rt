@@ -1,7 +1,8 @@
 // A block's ends, from its two words: read, transformed and unquantised on i32, four of a channel in an array. A block of one region has the
 // first two.
 //
-// Each mode has a function of its own in each format, so that its numbers are literals.
+// Each mode has a function of its own in each format, so that its numbers are literals. What such a function promises is what its calls
+// promise, and no more: the prover finds it by itself, and one law over the modes makes of it what a block's ends are.
 use bc6_endpoints::moved_16;
 use bc6_endpoints::moved_signed;
 use bc6_endpoints::moved_unsigned;
@@ -12,10 +13,10 @@ ghost use mathlib.Core.Bool.{true, false};
 ghost use Prim.Native.Nat.{_≤_};
 ghost use Rattle.bcn_util.specs.Stream.{number};
 ghost use Rattle.bc6h_spec.specs.Fields.{modeIn};
-ghost use Rattle.bc6_by_mode.specs.Words.{EndsOf, BlockEnds};
+ghost use Rattle.bc6_by_mode.specs.Words.{MovedEnds, StoredEnds, SixteenEnds, BlockEnds};
 
 fn ends_1_unsigned(lo: u64, hi: u64) -> Ends
-    ensures { λ r. ⌜ EndsOf 4 false 1 (number (record { lo = lo; hi = hi })) r ⌝ }
+    ensures { λ r. ⌜ MovedEnds false 1 (number (record { lo = lo; hi = hi })) r ⌝ }
 {
     let c = bc6_runs::channels_1(lo, hi);
     let r = c.red;
@@ -28,7 +29,7 @@ fn ends_1_unsigned(lo: u64, hi: u64) -> Ends
 }
 
 fn ends_2_unsigned(lo: u64, hi: u64) -> Ends
-    ensures { λ r. ⌜ EndsOf 4 false 2 (number (record { lo = lo; hi = hi })) r ⌝ }
+    ensures { λ r. ⌜ MovedEnds false 2 (number (record { lo = lo; hi = hi })) r ⌝ }
 {
     let c = bc6_runs::channels_2(lo, hi);
     let r = c.red;
@@ -41,7 +42,7 @@ fn ends_2_unsigned(lo: u64, hi: u64) -> Ends
 }
 
 fn ends_3_unsigned(lo: u64, hi: u64) -> Ends
-    ensures { λ r. ⌜ EndsOf 4 false 3 (number (record { lo = lo; hi = hi })) r ⌝ }
+    ensures { λ r. ⌜ MovedEnds false 3 (number (record { lo = lo; hi = hi })) r ⌝ }
 {
     let c = bc6_runs::channels_3(lo, hi);
     let r = c.red;
@@ -54,7 +55,7 @@ fn ends_3_unsigned(lo: u64, hi: u64) -> Ends
 }
 
 fn ends_4_unsigned(lo: u64, hi: u64) -> Ends
-    ensures { λ r. ⌜ EndsOf 4 false 4 (number (record { lo = lo; hi = hi })) r ⌝ }
+    ensures { λ r. ⌜ MovedEnds false 4 (number (record { lo = lo; hi = hi })) r ⌝ }
 {
     let c = bc6_runs::channels_4(lo, hi);
     let r = c.red;
@@ -67,7 +68,7 @@ fn ends_4_unsigned(lo: u64, hi: u64) -> Ends
 }
 
 fn ends_5_unsigned(lo: u64, hi: u64) -> Ends
-    ensures { λ r. ⌜ EndsOf 4 false 5 (number (record { lo = lo; hi = hi })) r ⌝ }
+    ensures { λ r. ⌜ MovedEnds false 5 (number (record { lo = lo; hi = hi })) r ⌝ }
 {
     let c = bc6_runs::channels_5(lo, hi);
     let r = c.red;
@@ -80,7 +81,7 @@ fn ends_5_unsigned(lo: u64, hi: u64) -> Ends
 }
 
 fn ends_6_unsigned(lo: u64, hi: u64) -> Ends
-    ensures { λ r. ⌜ EndsOf 4 false 6 (number (record { lo = lo; hi = hi })) r ⌝ }
+    ensures { λ r. ⌜ MovedEnds false 6 (number (record { lo = lo; hi = hi })) r ⌝ }
 {
     let c = bc6_runs::channels_6(lo, hi);
     let r = c.red;
@@ -93,7 +94,7 @@ fn ends_6_unsigned(lo: u64, hi: u64) -> Ends
 }
 
 fn ends_7_unsigned(lo: u64, hi: u64) -> Ends
-    ensures { λ r. ⌜ EndsOf 4 false 7 (number (record { lo = lo; hi = hi })) r ⌝ }
+    ensures { λ r. ⌜ MovedEnds false 7 (number (record { lo = lo; hi = hi })) r ⌝ }
 {
     let c = bc6_runs::channels_7(lo, hi);
     let r = c.red;
@@ -106,7 +107,7 @@ fn ends_7_unsigned(lo: u64, hi: u64) -> Ends
 }
 
 fn ends_8_unsigned(lo: u64, hi: u64) -> Ends
-    ensures { λ r. ⌜ EndsOf 4 false 8 (number (record { lo = lo; hi = hi })) r ⌝ }
+    ensures { λ r. ⌜ MovedEnds false 8 (number (record { lo = lo; hi = hi })) r ⌝ }
 {
     let c = bc6_runs::channels_8(lo, hi);
     let r = c.red;
@@ -119,7 +120,7 @@ fn ends_8_unsigned(lo: u64, hi: u64) -> Ends
 }
 
 fn ends_9_unsigned(lo: u64, hi: u64) -> Ends
-    ensures { λ r. ⌜ EndsOf 4 false 9 (number (record { lo = lo; hi = hi })) r ⌝ }
+    ensures { λ r. ⌜ MovedEnds false 9 (number (record { lo = lo; hi = hi })) r ⌝ }
 {
     let c = bc6_runs::channels_9(lo, hi);
     let r = c.red;
@@ -132,7 +133,7 @@ fn ends_9_unsigned(lo: u64, hi: u64) -> Ends
 }
 
 fn ends_10_unsigned(lo: u64, hi: u64) -> Ends
-    ensures { λ r. ⌜ EndsOf 4 false 10 (number (record { lo = lo; hi = hi })) r ⌝ }
+    ensures { λ r. ⌜ StoredEnds false 10 (number (record { lo = lo; hi = hi })) r ⌝ }
 {
     let c = bc6_runs::channels_10(lo, hi);
     let r = c.red;
@@ -145,9 +146,9 @@ fn ends_10_unsigned(lo: u64, hi: u64) -> Ends
 }
 
 fn ends_11_unsigned(lo: u64, hi: u64) -> Ends
-    ensures { λ r. ⌜ EndsOf 4 false 11 (number (record { lo = lo; hi = hi })) r ⌝ }
+    ensures { λ r. ⌜ StoredEnds false 11 (number (record { lo = lo; hi = hi })) r ⌝ }
 {
-    let c = bc6_pair::read_pair(lo, hi, 0);
+    let c = bc6_runs::one_region::read_pair(lo, hi, 0);
     let r = c.red;
     let g = c.green;
     let b = c.blue;
@@ -158,9 +159,9 @@ fn ends_11_unsigned(lo: u64, hi: u64) -> Ends
 }
 
 fn ends_12_unsigned(lo: u64, hi: u64) -> Ends
-    ensures { λ r. ⌜ EndsOf 4 false 12 (number (record { lo = lo; hi = hi })) r ⌝ }
+    ensures { λ r. ⌜ MovedEnds false 12 (number (record { lo = lo; hi = hi })) r ⌝ }
 {
-    let c = bc6_pair::read_pair(lo, hi, 1);
+    let c = bc6_runs::one_region::read_pair(lo, hi, 1);
     let r = c.red;
     let g = c.green;
     let b = c.blue;
@@ -171,9 +172,9 @@ fn ends_12_unsigned(lo: u64, hi: u64) -> Ends
 }
 
 fn ends_13_unsigned(lo: u64, hi: u64) -> Ends
-    ensures { λ r. ⌜ EndsOf 4 false 13 (number (record { lo = lo; hi = hi })) r ⌝ }
+    ensures { λ r. ⌜ MovedEnds false 13 (number (record { lo = lo; hi = hi })) r ⌝ }
 {
-    let c = bc6_pair::read_pair(lo, hi, 2);
+    let c = bc6_runs::one_region::read_pair(lo, hi, 2);
     let r = c.red;
     let g = c.green;
     let b = c.blue;
@@ -184,7 +185,7 @@ fn ends_13_unsigned(lo: u64, hi: u64) -> Ends
 }
 
 fn ends_1_signed(lo: u64, hi: u64) -> Ends
-    ensures { λ r. ⌜ EndsOf 4 true 1 (number (record { lo = lo; hi = hi })) r ⌝ }
+    ensures { λ r. ⌜ MovedEnds true 1 (number (record { lo = lo; hi = hi })) r ⌝ }
 {
     let c = bc6_runs::channels_1(lo, hi);
     let r = c.red;
@@ -197,7 +198,7 @@ fn ends_1_signed(lo: u64, hi: u64) -> Ends
 }
 
 fn ends_2_signed(lo: u64, hi: u64) -> Ends
-    ensures { λ r. ⌜ EndsOf 4 true 2 (number (record { lo = lo; hi = hi })) r ⌝ }
+    ensures { λ r. ⌜ MovedEnds true 2 (number (record { lo = lo; hi = hi })) r ⌝ }
 {
     let c = bc6_runs::channels_2(lo, hi);
     let r = c.red;
@@ -210,7 +211,7 @@ fn ends_2_signed(lo: u64, hi: u64) -> Ends
 }
 
 fn ends_3_signed(lo: u64, hi: u64) -> Ends
-    ensures { λ r. ⌜ EndsOf 4 true 3 (number (record { lo = lo; hi = hi })) r ⌝ }
+    ensures { λ r. ⌜ MovedEnds true 3 (number (record { lo = lo; hi = hi })) r ⌝ }
 {
     let c = bc6_runs::channels_3(lo, hi);
     let r = c.red;
@@ -223,7 +224,7 @@ fn ends_3_signed(lo: u64, hi: u64) -> Ends
 }
 
 fn ends_4_signed(lo: u64, hi: u64) -> Ends
-    ensures { λ r. ⌜ EndsOf 4 true 4 (number (record { lo = lo; hi = hi })) r ⌝ }
+    ensures { λ r. ⌜ MovedEnds true 4 (number (record { lo = lo; hi = hi })) r ⌝ }
 {
     let c = bc6_runs::channels_4(lo, hi);
     let r = c.red;
@@ -236,7 +237,7 @@ fn ends_4_signed(lo: u64, hi: u64) -> Ends
 }
 
 fn ends_5_signed(lo: u64, hi: u64) -> Ends
-    ensures { λ r. ⌜ EndsOf 4 true 5 (number (record { lo = lo; hi = hi })) r ⌝ }
+    ensures { λ r. ⌜ MovedEnds true 5 (number (record { lo = lo; hi = hi })) r ⌝ }
 {
     let c = bc6_runs::channels_5(lo, hi);
     let r = c.red;
@@ -249,7 +250,7 @@ fn ends_5_signed(lo: u64, hi: u64) -> Ends
 }
 
 fn ends_6_signed(lo: u64, hi: u64) -> Ends
-    ensures { λ r. ⌜ EndsOf 4 true 6 (number (record { lo = lo; hi = hi })) r ⌝ }
+    ensures { λ r. ⌜ MovedEnds true 6 (number (record { lo = lo; hi = hi })) r ⌝ }
 {
     let c = bc6_runs::channels_6(lo, hi);
     let r = c.red;
@@ -262,7 +263,7 @@ fn ends_6_signed(lo: u64, hi: u64) -> Ends
 }
 
 fn ends_7_signed(lo: u64, hi: u64) -> Ends
-    ensures { λ r. ⌜ EndsOf 4 true 7 (number (record { lo = lo; hi = hi })) r ⌝ }
+    ensures { λ r. ⌜ MovedEnds true 7 (number (record { lo = lo; hi = hi })) r ⌝ }
 {
     let c = bc6_runs::channels_7(lo, hi);
     let r = c.red;
@@ -275,7 +276,7 @@ fn ends_7_signed(lo: u64, hi: u64) -> Ends
 }
 
 fn ends_8_signed(lo: u64, hi: u64) -> Ends
-    ensures { λ r. ⌜ EndsOf 4 true 8 (number (record { lo = lo; hi = hi })) r ⌝ }
+    ensures { λ r. ⌜ MovedEnds true 8 (number (record { lo = lo; hi = hi })) r ⌝ }
 {
     let c = bc6_runs::channels_8(lo, hi);
     let r = c.red;
@@ -288,7 +289,7 @@ fn ends_8_signed(lo: u64, hi: u64) -> Ends
 }
 
 fn ends_9_signed(lo: u64, hi: u64) -> Ends
-    ensures { λ r. ⌜ EndsOf 4 true 9 (number (record { lo = lo; hi = hi })) r ⌝ }
+    ensures { λ r. ⌜ MovedEnds true 9 (number (record { lo = lo; hi = hi })) r ⌝ }
 {
     let c = bc6_runs::channels_9(lo, hi);
     let r = c.red;
@@ -301,7 +302,7 @@ fn ends_9_signed(lo: u64, hi: u64) -> Ends
 }
 
 fn ends_10_signed(lo: u64, hi: u64) -> Ends
-    ensures { λ r. ⌜ EndsOf 4 true 10 (number (record { lo = lo; hi = hi })) r ⌝ }
+    ensures { λ r. ⌜ StoredEnds true 10 (number (record { lo = lo; hi = hi })) r ⌝ }
 {
     let c = bc6_runs::channels_10(lo, hi);
     let r = c.red;
@@ -314,9 +315,9 @@ fn ends_10_signed(lo: u64, hi: u64) -> Ends
 }
 
 fn ends_11_signed(lo: u64, hi: u64) -> Ends
-    ensures { λ r. ⌜ EndsOf 4 true 11 (number (record { lo = lo; hi = hi })) r ⌝ }
+    ensures { λ r. ⌜ StoredEnds true 11 (number (record { lo = lo; hi = hi })) r ⌝ }
 {
-    let c = bc6_pair::read_pair(lo, hi, 0);
+    let c = bc6_runs::one_region::read_pair(lo, hi, 0);
     let r = c.red;
     let g = c.green;
     let b = c.blue;
@@ -327,9 +328,9 @@ fn ends_11_signed(lo: u64, hi: u64) -> Ends
 }
 
 fn ends_12_signed(lo: u64, hi: u64) -> Ends
-    ensures { λ r. ⌜ EndsOf 4 true 12 (number (record { lo = lo; hi = hi })) r ⌝ }
+    ensures { λ r. ⌜ MovedEnds true 12 (number (record { lo = lo; hi = hi })) r ⌝ }
 {
-    let c = bc6_pair::read_pair(lo, hi, 1);
+    let c = bc6_runs::one_region::read_pair(lo, hi, 1);
     let r = c.red;
     let g = c.green;
     let b = c.blue;
@@ -340,9 +341,9 @@ fn ends_12_signed(lo: u64, hi: u64) -> Ends
 }
 
 fn ends_13_signed(lo: u64, hi: u64) -> Ends
-    ensures { λ r. ⌜ EndsOf 4 true 13 (number (record { lo = lo; hi = hi })) r ⌝ }
+    ensures { λ r. ⌜ MovedEnds true 13 (number (record { lo = lo; hi = hi })) r ⌝ }
 {
-    let c = bc6_pair::read_pair(lo, hi, 2);
+    let c = bc6_runs::one_region::read_pair(lo, hi, 2);
     let r = c.red;
     let g = c.green;
     let b = c.blue;
@@ -354,9 +355,9 @@ fn ends_13_signed(lo: u64, hi: u64) -> Ends
 
 // In mode 14 the ends of both formats have the same sixteen bits.
 fn ends_14(lo: u64, hi: u64) -> Ends
-    ensures { λ r. ⌜ EndsOf 2 false 14 (number (record { lo = lo; hi = hi })) r × EndsOf 2 true 14 (number (record { lo = lo; hi = hi })) r ⌝ }
+    ensures { λ r. ⌜ SixteenEnds (number (record { lo = lo; hi = hi })) r ⌝ }
 {
-    let c = bc6_pair::read_pair(lo, hi, 6);
+    let c = bc6_runs::one_region::read_pair(lo, hi, 6);
     let r = c.red;
     let g = c.green;
     let b = c.blue;

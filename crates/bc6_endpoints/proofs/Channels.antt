@@ -95,6 +95,9 @@ narrow-told p z r e = e
 -- ---- a channel whose ends are differences
 
 module _ {p w : ℕ} {n : List ℤ} (k : Channel p w n) where
+  other : (e : ℕ) → e < 4 → 1 ≤ e → Below (2 ^ w) (endAt n e)
+  other = below-four (λ e. 1 ≤ e → Below (2 ^ w) (endAt n e)) (λ l. absurd (omega arith)) (λ l. k .second) (λ l. k .third) (λ l. k .fourth)
+
   few-p : 2 ^ p ≤ 65536
   few-p = bits-16 p (omega (arith, k .narrow .most))
 
@@ -105,13 +108,13 @@ module _ {p w : ℕ} {n : List ℤ} (k : Channel p w n) where
   base-is = back (k .first) few-p ∙ whole-number (k .first)
 
   other-is : (e : ℕ) → 1 ≤ e → e < 4 → toZ w32 (ofZ w32 (endAt n e)) ≡ pos (storedIn n e)
-  other-is e l h = back (k .other e l h) few-w ∙ whole-number (k .other e l h)
+  other-is e l h = back (other e h l) few-w ∙ whole-number (other e h l)
 
   pub first-asks : Apart p w (toZ w32 (ofZ w32 (endAt n 0))) (pos 0)
   first-asks = record { narrow = k .narrow; whole = handed (k .first) few-p; few = record { nonneg = tt; below = pow-pos w } }
 
   pub other-asks : (e : ℕ) → 1 ≤ e → e < 4 → Apart p w (toZ w32 (ofZ w32 (endAt n 0))) (toZ w32 (ofZ w32 (endAt n e)))
-  other-asks e l h = record { narrow = k .narrow; whole = handed (k .first) few-p; few = handed (k .other e l h) few-w }
+  other-asks e l h = record { narrow = k .narrow; whole = handed (k .first) few-p; few = handed (other e h l) few-w }
 
   module _ (s : Bool) where
     first-done : (r : ℤ) → r ≡ endOf s p w (toZ w32 (ofZ w32 (endAt n 0))) (pos 0) → r ≡ wholeOf s p (storedIn n 0)
@@ -134,15 +137,18 @@ module _ {p w : ℕ} {n : List ℤ} (k : Channel p w n) where
 -- ---- a channel that is stored whole
 
 module _ {p : ℕ} {n : List ℤ} (k : Whole p n) where
+  each : (e : ℕ) → e < 4 → Below (2 ^ p) (endAt n e)
+  each = below-four (λ e. Below (2 ^ p) (endAt n e)) (k .first) (k .second) (k .third) (k .fourth)
+
   few-bits : 2 ^ p ≤ 65536
   few-bits = bits-16 p (omega (arith, k .narrow .most))
 
   pub whole-asks : (e : ℕ) → e < 4 → Apart p p (pos 0) (toZ w32 (ofZ w32 (endAt n e)))
-  whole-asks e h = record { narrow = k .narrow; whole = record { nonneg = tt; below = pow-pos p }; few = handed (k .each e h) few-bits }
+  whole-asks e h = record { narrow = k .narrow; whole = record { nonneg = tt; below = pow-pos p }; few = handed (each e h) few-bits }
 
   module _ (s : Bool) where
     one-done : (e : ℕ) → e < 4 → (r : ℤ) → r ≡ endOf s p p (pos 0) (toZ w32 (ofZ w32 (endAt n e))) → r ≡ wholeOf s p (storedIn n e)
-    one-done e h r q = q ∙ ap (endOf s p p (pos 0)) (back (k .each e h) few-bits ∙ whole-number (k .each e h)) ∙ from-zero s p (storedIn n e) (size (k .each e h))
+    one-done e h r q = q ∙ ap (endOf s p p (pos 0)) (back (each e h) few-bits ∙ whole-number (each e h)) ∙ from-zero s p (storedIn n e) (size (each e h))
 
     pub whole-done : {a b c d : ℤ} → a ≡ endOf s p p (pos 0) (toZ w32 (ofZ w32 (endAt n 0))) → b ≡ endOf s p p (pos 0) (toZ w32 (ofZ w32 (endAt n 1)))
         → c ≡ endOf s p p (pos 0) (toZ w32 (ofZ w32 (endAt n 2))) → d ≡ endOf s p p (pos 0) (toZ w32 (ofZ w32 (endAt n 3))) → WholeEnds s p n (a ∷ b ∷ c ∷ d ∷ [])

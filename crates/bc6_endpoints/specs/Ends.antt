@@ -56,7 +56,9 @@ pub record Apart (p w : ℕ) (base x : ℤ) : Type 0 where
 pub record Channel (p w : ℕ) (n : List ℤ) : Type 0 where
   pub narrow : Narrow p w
   pub first : Below (2 ^ p) (endAt n 0)
-  pub other : (e : ℕ) → 1 ≤ e → e < 4 → Below (2 ^ w) (endAt n e)
+  pub second : Below (2 ^ w) (endAt n 1)
+  pub third : Below (2 ^ w) (endAt n 2)
+  pub fourth : Below (2 ^ w) (endAt n 3)
 
 pub record ChannelEnds (signed : Bool) (p w : ℕ) (n r : List ℤ) : Type 0 where
   pub each : (e : ℕ) → e < 4 → endAt r e ≡ endFrom signed p w (storedIn n) e
@@ -64,7 +66,10 @@ pub record ChannelEnds (signed : Bool) (p w : ℕ) (n r : List ℤ) : Type 0 whe
 -- all of p bits, stored whole
 pub record Whole (p : ℕ) (n : List ℤ) : Type 0 where
   pub narrow : Narrow p p
-  pub each : (e : ℕ) → e < 4 → Below (2 ^ p) (endAt n e)
+  pub first : Below (2 ^ p) (endAt n 0)
+  pub second : Below (2 ^ p) (endAt n 1)
+  pub third : Below (2 ^ p) (endAt n 2)
+  pub fourth : Below (2 ^ p) (endAt n 3)
 
 pub record WholeEnds (signed : Bool) (p : ℕ) (n r : List ℤ) : Type 0 where
   pub each : (e : ℕ) → e < 4 → endAt r e ≡ wholeOf signed p (storedIn n e)

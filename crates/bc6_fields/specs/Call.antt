@@ -1,10 +1,11 @@
 -- What the field call answers. Assumes nothing.
 use mathlib.Core.Path.{_≡_}
-use mathlib.Core.List.{List}
+use mathlib.Core.Bool.{not}
+use mathlib.Core.List.{List, [], _∷_}
 use Prim.Native.Nat.{ℕ, zero, suc}
 use lib.Dec.{eqb, ltb}
 use lib.ListN.{length}
-use Rattle.laws.specs.Pick.{pick}
+use Rattle.laws.specs.Checks.{firstMet}
 use Rattle.bcn_spec.specs.Answers.{done, badFormat, badBlock, reservedMode}
 use Rattle.bcn_spec.specs.Bits.{blockSize}
 use Rattle.bc6h_spec.specs.Fields.{modeOf, noFields, fieldsOf}
@@ -12,7 +13,8 @@ use Rattle.bc6_fields.specs.declared.FieldsRead.{FieldsRead}
 
 -- "the field call now takes a format and checks 1, 2, 4": the format, the block's length, its mode
 abbrev pub refusalOf : ℕ → ℕ → ℕ → ℕ
-refusalOf format size mode = pick (ltb 1 format) badFormat (pick (eqb size blockSize) (pick (eqb mode 0) reservedMode done) badBlock)
+refusalOf format size mode =
+    firstMet ((ltb 1 format, badFormat) ∷ (not (eqb size blockSize), badBlock) ∷ (eqb mode 0, reservedMode) ∷ [])
 
 -- "On refusal every number in the field record is 0."
 abbrev pub answerAt : ℕ → ℕ → List ℕ → FieldsRead

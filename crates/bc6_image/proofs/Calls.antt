@@ -1,18 +1,20 @@
 -- The calls over a face: their refusals, their one outcome, and what a caller learns from it. Assumes nothing.
 use mathlib.Core.Path.{_≡_, _∙_, refl, sym, ap}
-use mathlib.Core.Bool.{Bool, true, false}
-use mathlib.Core.List.{List}
+use mathlib.Core.Bool.{Bool, true, false, not}
+use mathlib.Core.List.{List, [], _∷_}
 use Prim.Native.Nat.{ℕ, zero, suc, _+_, _-_, _*_, _/_, _%_, _≤_, _<_}
 use native.Mathlib.Nat.{zero-mul, mul-add, mul-comm, mul-le-mul-left, mul-mod-right, mul-div-right, div-add-mod, le-div-iff-mul-le}
 use native.Mathlib.Omega.{arith}
 use lib.Dec.{eqb, leb, ltb}
 use lib.ListN.{length, getD, take, drop, List·getD-append}
 use lib.Seq.{getD-take, getD-drop}
-use borrow.Author.Tests.{lt-ltb, le-ltb, le-leb, lt-leb, eq-eqb, ne-eqb, ltb-true, ltb-false, leb-true, eqb-true, eqb-false}
+use borrow.Author.Tests.{lt-ltb, le-ltb, le-leb, lt-leb, eq-eqb, ne-eqb, ltb-true, ltb-false, leb-true, eqb-true, eqb-false, not-false}
 use Rattle.laws.specs.Pick.{pick, both}
+use Rattle.laws.specs.Checks.{firstMet}
+use Rattle.laws.proofs.Checks.{none-met}
 use Rattle.laws.proofs.Tests.{cases, both-true}
 use Rattle.bcn_spec.specs.Answers.{done, badFormat, shortOutput, badBlocks}
-use Rattle.bcn_spec.specs.Bits.{blockSize}
+use Rattle.bcn_spec.specs.Bits.{blockSize, blocksIn, blockAt}
 use Rattle.bc6h_spec.specs.Picture.{isSigned}
 use Rattle.bc6h_spec.specs.Block.{pixelsOf}
 use Rattle.bc6h_spec.proofs.Values.{length-pixels}
@@ -20,7 +22,6 @@ use Rattle.bc6.specs.declared.Pixels.{Pixels}
 use Rattle.bc6.specs.Call.{refusalOf, Painted}
 use Rattle.bc6.proofs.Calls.{written}
 use Rattle.bc6_blocks.specs.declared.BlocksPixels.{BlocksPixels}
-use Rattle.bcn_spec.specs.Bits.{blocksIn, blockAt}
 use Rattle.bc6_blocks.specs.Run.{runRefusal, runAnswer, RunPainted}
 use Rattle.bc6_blocks.proofs.Calls.{block-by-block}
 use Rattle.bc6_image.specs.declared.FacePixels.{FacePixels}
@@ -92,7 +93,7 @@ module _ (alpha : Bool) (size format width height pitch room : ℕ) where
       bytes : size ≡ 16 * (width * height)
       bytes = eqb-true size (16 * (width * height)) b
 
-      by-room : {number : ℕ} (t : Bool) → roomy alpha width height pitch room ≡ t → number ≡ pick t done shortOutput
+      by-room : {number : ℕ} (t : Bool) → roomy alpha width height pitch room ≡ t → number ≡ firstMet ((not t, shortOutput) ∷ [])
           → number ≡ faceRefusal alpha size format width height pitch room
       unfolding faceRefusal
       by-room t r e = rw (le-ltb _ _ f, b, r) e
@@ -152,25 +153,22 @@ module _ (alpha : Bool) (size format width height pitch room : ℕ) where
   pub known : faceRefusal alpha size format width height pitch room ≡ done → Known
   unfolding faceRefusal roomy
   known z =
-      cases (ltb 1 format)
-      (λ t. absurd (omega (arith, rw t at z)))
-      (λ t. cases (eqb size (blockSize * (width * height)))
-      (λ b. record {
-        format-known = ltb-false 1 format t;
+      let none = none-met ((ltb 1 format, badFormat) ∷ (not (eqb size (blockSize * (width * height))), badBlocks) ∷ (not (roomy alpha width height pitch room), shortOutput) ∷ []) tt z in
+      let parts = parted (not-false (roomy alpha width height pitch room) (none .1 .1 .0)) in
+      record {
+        format-known = ltb-false 1 format (none .0);
         fits = record {
-          bytes = eqb-true size (16 * (width * height)) b;
-          pitched = λ some. leb-true _ _ (parts t b some .0);
-          enough = λ some. leb-true _ _ (parts t b some .1);
+          bytes = eqb-true size (16 * (width * height)) (not-false (eqb size (blockSize * (width * height))) (none .1 .0));
+          pitched = λ some. leb-true _ _ (parts some .0);
+          enough = λ some. leb-true _ _ (parts some .1);
         };
-      })
-      (λ b. absurd (omega (arith, rw (t, b) at z))))
+      }
     where
-      parts : ltb 1 format ≡ false → eqb size (blockSize * (width * height)) ≡ true → 0 < width * height
+      parted : roomy alpha width height pitch room ≡ true → 0 < width * height
           → (leb (rowSize alpha width) pitch ≡ true) × (leb (pitch * (4 * height - 1) + rowSize alpha width) room ≡ true)
-      parts t b some =
-          let n : eqb (width * height) 0 ≡ false = ne-eqb (width * height) 0 (λ e. omega arith) in
+      parted r some =
           both-true (leb (rowSize alpha width) pitch) (leb (pitch * (4 * height - 1) + rowSize alpha width) room)
-          (cases (both (leb (rowSize alpha width) pitch) (leb (pitch * (4 * height - 1) + rowSize alpha width) room)) (λ y. y) (λ y. absurd (omega (arith, rw (t, b, n, y) at z))))
+          (rw (ne-eqb (width * height) 0 (λ e. omega arith)) at r)
 
 -- ---- the outcome
 

@@ -1,17 +1,17 @@
 -- A face of blocks as rows of pixels, in two layouts; what the calls over one answer, and what the lent values then are. Assumes nothing.
 use mathlib.Core.Path.{_≡_}
-use mathlib.Core.Bool.{Bool}
-use mathlib.Core.List.{List}
+use mathlib.Core.Bool.{Bool, not}
+use mathlib.Core.List.{List, [], _∷_}
 use Prim.Native.Nat.{ℕ, zero, suc, _+_, _-_, _*_, _/_, _%_, _≤_, _<_}
 use lib.Dec.{eqb, leb, ltb}
 use lib.ListN.{length, getD}
 use Rattle.laws.specs.Pick.{pick, both, either}
+use Rattle.laws.specs.Checks.{firstMet}
 use Rattle.laws.specs.Made.{made}
 use Rattle.bcn_spec.specs.Answers.{done, badFormat, shortOutput, badBlocks}
-use Rattle.bcn_spec.specs.Bits.{blockSize}
+use Rattle.bcn_spec.specs.Bits.{blockSize, blockAt}
 use Rattle.bc6h_spec.specs.Picture.{isSigned}
 use Rattle.bc6h_spec.specs.Block.{pixelsOf}
-use Rattle.bcn_spec.specs.Bits.{blockAt}
 use Rattle.bc6_blocks.specs.Run.{runInfinities}
 use Rattle.bc6_image.specs.declared.FacePixels.{FacePixels}
 
@@ -72,8 +72,7 @@ roomy alpha width height pitch room =
 -- 1, then 15, then 3
 unfoldable pub faceRefusal : Bool → ℕ → ℕ → ℕ → ℕ → ℕ → ℕ → ℕ
 faceRefusal alpha size format width height pitch room =
-    pick (ltb 1 format) badFormat
-    (pick (eqb size (blockSize * (width * height))) (pick (roomy alpha width height pitch room) done shortOutput) badBlocks)
+    firstMet ((ltb 1 format, badFormat) ∷ (not (eqb size (blockSize * (width * height))), badBlocks) ∷ (not (roomy alpha width height pitch room), shortOutput) ∷ [])
 
 -- how many values are minus infinity, as the call over a run of the same blocks counts them; a refusal counts none
 abbrev pub faceAnswer : ℕ → List ℕ → ℕ → FacePixels

@@ -1,6 +1,6 @@
 -- A loop that paints pixels k and 8 + k in a turn, a channel of both after the other: values m and 24 + m. Assumes nothing.
 use mathlib.Core.Path.{_≡_, _∙_, refl, sym, ap, subst}
-use mathlib.Core.Bool.{Bool}
+use mathlib.Core.Bool.{Bool, true, false}
 use mathlib.Core.List.{List, [], _∷_, _++_, append-nil, append-assoc}
 use Prim.Native.Nat.{ℕ, zero, suc, _+_, _-_, _*_, _/_, _%_, _^_, _≤_, _<_}
 use native.Mathlib.Nat.{add-zero, add-suc, mul-add}
@@ -13,7 +13,7 @@ use lib.Pow.{shr-shr, field, mod-mod-pow}
 use Rattle.laws.specs.Pick.{pick}
 use Rattle.laws.specs.Bit.{bit}
 use Rattle.laws.specs.Made.{made, countOf}
-use Rattle.laws.proofs.Rows.{made-none, made-store, length-made, count-le}
+use Rattle.laws.proofs.Rows.{made-none, made-store}
 use Rattle.laws.proofs.Counts.{count-append, count-last}
 use Rattle.bc6h_spec.specs.Half.{minusInfinity}
 use Rattle.bc6_paint.specs.Values.{heldAt, channelOf, endIn, digit, maskOf, TurnOf, shadeOf, selected, shadeIn, valueOf, counted, PaintedAs}
@@ -87,24 +87,27 @@ module _ {f : ℕ → ℕ} {m : ℕ} {l out : List ℕ} (e : Fronts f m l out) w
 -- of the values that are painted
 pub record Counts (f : ℕ → ℕ) (m infinite : ℕ) : Type 0 where
   pub is : infinite ≡ countOf minusInfinity (made f m) + countOf minusInfinity (made (later f) m)
+  pub few : infinite ≤ 2 * m
 
 pub none-counted : (f : ℕ → ℕ) → Counts f 0 0
 unfolding made countOf
-none-counted f = record { is = refl }
+none-counted f = record { is = refl; few = lit≤ tt }
 
 one-more : (f : ℕ → ℕ) (m : ℕ) → countOf minusInfinity (made f (m + 1)) ≡ countOf minusInfinity (made f m) + counted (f m)
 unfolding made
 one-more f m = rw (add-one m) (count-last minusInfinity (made f m) (f m))
 
-module _ {f : ℕ → ℕ} {m infinite : ℕ} (e : Counts f m infinite) where
-  pub few-counted : m ≤ 24 → infinite ≤ 48
-  few-counted h =
-      omega (arith, e .is, count-le minusInfinity (made f m), length-made f m, count-le minusInfinity (made (later f) m), length-made (later f) m)
-
-  pub pair-counted : {x y t : ℕ} (n : ℕ) → n ≡ m + 1 → t ≡ counted x + counted y → x ≡ f m → y ≡ f (24 + m) → Counts f n (infinite + t)
-  pair-counted {x} {y} {t} n en et ex ey =
-      subst (λ (k : ℕ). Counts f k (infinite + t)) (sym en)
-      (record { is = omega (arith, e .is, et ∙ (λ i. counted (ex i) + counted (ey i)), one-more f m, one-more (later f) m) })
+pub pair-counted : {f : ℕ → ℕ} {m infinite x y t : ℕ} → Counts f m infinite → (n : ℕ) → n ≡ m + 1 → t ≡ counted x + counted y → x ≡ f m → y ≡ f (24 + m) → Counts f n (infinite + t)
+pair-counted {f} {m} {infinite} {x} {y} {t} e n en et ex ey =
+    subst (λ (k : ℕ). Counts f k (infinite + t)) (sym en)
+    (record {
+      is = omega (arith, e .is, et ∙ (λ i. counted (ex i) + counted (ey i)), one-more f m, one-more (later f) m);
+      few = omega (arith, e .few, et, at-most (eqb x minusInfinity), at-most (eqb y minusInfinity));
+    })
+  where
+    at-most : (b : Bool) → pick b 1 0 ≤ 1
+    at-most true = lit≤ tt
+    at-most false = lit≤ tt
 
 -- every value is painted and counted
 pub all-counted : {f : ℕ → ℕ} {m infinite : ℕ} {l out : List ℕ} → Fronts f m l out → Counts f m infinite → 24 ≤ m → PaintedAs (made f 48) l infinite out
@@ -117,26 +120,6 @@ all-counted {f} {m} {infinite} e n g =
     }
 
 -- ---- a turn: three pairs
-
--- what the stores of a turn ask
-pub record Stores (k : ℕ) (out : List ℕ) : Type 0 where
-  pub below : k < 8
-  pub room : 48 ≤ length out
-
-pub stores-of : {f : ℕ → ℕ} {m k : ℕ} {l out : List ℕ} → Fronts f m l out → k < 8 → Stores k out
-stores-of e h = record { below = h; room = omega (arith, e .long, e .room) }
-
-module _ {k : ℕ} {out : List ℕ} (t : Stores k out) where
-  -- the same once a pair is stored
-  pub stores-on : {after : List ℕ} (i j x y : ℕ) → after ≡ set (set out i x) j y → Stores k after
-  stores-on i j x y e = record { below = t .below; room = rw e (simp length-set (t .room)) }
-
-  -- what a channel asks: the first, and those after it
-  pub first-asks : {second : ℕ → Bool} {weight : ℕ → ℕ} {u : Turn} → TurnOf second weight k u → (u .w ≤ 64) × (u .w8 ≤ 64) × (3 * k + 24 < length out)
-  first-asks e = (e .most, e .most8, omega arith)
-
-  pub next-asks : {second : ℕ → Bool} {weight : ℕ → ℕ} {u : Turn} → TurnOf second weight k u → (n : ℕ) → n ≤ 2 → (u .w ≤ 64) × (u .w8 ≤ 64) × (3 * k + n + 24 < length out)
-  next-asks e n h = (e .most, e .most8, omega arith)
 
 -- x and y have the values of pixels k and 8 + k, channel by channel
 pub record Shades (f : ℕ → ℕ) (k : ℕ) (x y : ℕ → ℕ) : Type 0 where

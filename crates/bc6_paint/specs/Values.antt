@@ -6,7 +6,7 @@ use Prim.Native.Nat.{ℕ, _+_, _*_, _/_, _%_, _^_, _≤_}
 use lib.Bits.{bitAnd, bitOr, bitXor}
 use lib.Dec.{eqb}
 use lib.IntN.{ℤ, pos}
-use lib.ListN.{getD, set, drop}
+use lib.ListN.{length, getD, set, drop}
 use Rattle.laws.specs.Pick.{pick}
 use Rattle.laws.specs.Bit.{bit}
 use Rattle.laws.specs.Made.{countOf}
@@ -105,9 +105,15 @@ pairAt signed t ends at out = set (set out at (shadeIn signed ends (t .second) (
 abbrev pub counted : ℕ → ℕ
 counted value = pick (eqb value minusInfinity) 1 0
 
+-- the two in unsigned format
+pub record PairStored (t : Turn) (ends : List ℤ) (at : ℕ) (out after : List ℕ) : Type 0 where
+  pub holds : after ≡ pairAt false t ends at out
+  pub long : length after ≡ length out
+
 -- the two in signed format, and how many of them are minus infinity
-pub record Pair (t : Turn) (ends : List ℤ) (at : ℕ) (out : List ℕ) (infinite : ℕ) (after : List ℕ) : Type 0 where
+pub record PairCounted (t : Turn) (ends : List ℤ) (at : ℕ) (out : List ℕ) (infinite : ℕ) (after : List ℕ) : Type 0 where
   pub holds : after ≡ pairAt true t ends at out
+  pub long : length after ≡ length out
   pub counts : infinite ≡ counted (shadeIn true ends (t .second) (t .w)) + counted (shadeIn true ends (t .second8) (t .w8))
   pub few : infinite ≤ 2
 

@@ -1,5 +1,8 @@
-// What a block's values are (specs), what its pixels have, and the values of a channel of two of them. A turn of the loops, which are the crates
-// bc6_one_region and bc6_two_regions, paints pixels k and k + 8. Names that end in 8 are of pixel k + 8.
+// What a block's values are (specs), what its pixels have, and the values of a channel of two of them. A turn of the loops, which are in
+// `one_region` and `two_regions`, paints pixels k and k + 8. Names that end in 8 are of pixel k + 8.
+pub mod one_region;
+pub mod two_regions;
+
 use bc6_half::finish_signed;
 use bc6_half::finish_unsigned;
 use bc6_half::interpolate;
@@ -15,7 +18,7 @@ ghost use lib.IntN.{pos};
 ghost use lib.ListN.{length, getD};
 ghost use Rattle.laws.specs.Pick.{pick};
 ghost use Rattle.laws.specs.Bit.{bit};
-ghost use Rattle.bc6_paint.specs.Values.{digit, oneSecond, oneWeight, twoSecond, twoWeight, maskOf, TurnOf, pointOf, selected, pairAt, Pair};
+ghost use Rattle.bc6_paint.specs.Values.{digit, oneSecond, oneWeight, twoSecond, twoWeight, maskOf, TurnOf, pointOf, selected, PairStored, PairCounted};
 
 // A block's ends, unquantised: of two regions four a channel, of one region the first two.
 pub struct Ends {
@@ -139,7 +142,7 @@ fn point_signed(second: u16, a: u16, b: u16, c: u16, d: u16, w: u16) -> i32
 // that the compiler takes eight at a time.
 pub fn channel_unsigned(t: Turn, ends: [i32; 4], at: usize, out: &mut [u16])
     requires { ⌜ (t .w ≤ 64) × (t .w8 ≤ 64) × (at + 24 < length (now out)) ⌝ }
-    ensures { λ _. ⌜ now (out .exit) ≡ pairAt false t ends at (now (out .entry)) ⌝ }
+    ensures { λ _. ⌜ PairStored t ends at (now (out .entry)) (now (out .exit)) ⌝ }
 {
     let a = kept_16(ends[0]);
     let b = kept_16(ends[1]);
@@ -154,7 +157,7 @@ pub fn channel_unsigned(t: Turn, ends: [i32; 4], at: usize, out: &mut [u16])
 // The same in signed format. It answers how many of the two values are minus infinity.
 pub fn channel_signed(t: Turn, ends: [i32; 4], at: usize, out: &mut [u16]) -> u16
     requires { ⌜ (t .w ≤ 64) × (t .w8 ≤ 64) × (at + 24 < length (now out)) ⌝ }
-    ensures { λ r. ⌜ Pair t ends at (now (out .entry)) r (now (out .exit)) ⌝ }
+    ensures { λ r. ⌜ PairCounted t ends at (now (out .entry)) r (now (out .exit)) ⌝ }
 {
     let a = kept_16(ends[0]);
     let b = kept_16(ends[1]);

@@ -1,10 +1,11 @@
 -- What `fields_pixels` answers, and what the lent values then are. Assumes nothing.
 use mathlib.Core.Path.{_≡_}
-use mathlib.Core.List.{List, _++_}
+use mathlib.Core.Bool.{not}
+use mathlib.Core.List.{List, [], _∷_, _++_}
 use Prim.Native.Nat.{ℕ, zero, suc}
 use lib.Dec.{ltb}
 use lib.ListN.{length, drop}
-use Rattle.laws.specs.Pick.{pick}
+use Rattle.laws.specs.Checks.{firstMet}
 use Rattle.bc6h_spec.specs.declared.Fields.{Fields}
 use Rattle.bcn_spec.specs.Answers.{done, badFormat, shortOutput, invalidRecord}
 use Rattle.bc6h_spec.specs.Picture.{valueCount, picture}
@@ -12,7 +13,8 @@ use Rattle.bc6_valid.specs.Validity.{valid}
 
 -- 1, 10, 3: the first check that is met, from the record and the room
 abbrev pub refusalOf : Fields → ℕ → ℕ
-refusalOf f room = pick (ltb 1 (f .format)) badFormat (pick (valid f) (pick (ltb room valueCount) shortOutput done) invalidRecord)
+refusalOf f room =
+    firstMet ((ltb 1 (f .format), badFormat) ∷ (not (valid f), invalidRecord) ∷ (ltb room valueCount, shortOutput) ∷ [])
 
 -- "A refusal changes no lent byte or value. Done writes exactly the first 48 values ..; the rest stays."
 abbrev pub valuesAt : ℕ → Fields → List ℕ → List ℕ

@@ -1,4 +1,4 @@
--- Tables of runs: what can be read of them, and the numbers of a mode's channels. Assumes nothing.
+-- Tables of runs: what can be read of them, and the four numbers that they make. Assumes nothing.
 use mathlib.Core.Path.{_≡_, _∙_, refl, sym, ap, ap₂, subst}
 use mathlib.Core.Bool.{Bool, true, false}
 use mathlib.Core.List.{List, [], _∷_, _++_}
@@ -19,12 +19,8 @@ use Rattle.laws.specs.Pick.{pick}
 use Rattle.laws.specs.Every.{every, below}
 use Rattle.laws.proofs.Num.{widened}
 use Rattle.laws.proofs.Tests.{both-left, both-right, below-at}
-use Rattle.bc6h_spec.specs.Layout.{row}
-use Rattle.bc6h_spec.specs.Fields.{gathered}
-use Rattle.bc6_runs.specs.declared.Channels.{Channels}
 use Rattle.bcn_util.specs.Runs.{Run, part, sum, readable, most}
-use Rattle.bc6_runs.specs.Ends.{runIn, endOf, runsOf, sumAt, fits, fourOf, placesOf, ChannelsRead}
-use Rattle.bc6_runs.proofs.Gathering.{runs, run-law}
+use Rattle.bc6_runs.specs.Ends.{runIn, endOf, runsOf, sumAt, fits, fourOf}
 
 -- ---- one run
 
@@ -172,20 +168,3 @@ module _ (n : ℕ) (codes : List ℕ) (t : T (fits codes)) (k : ℕ) (h : k < le
       ∙ four-store (sumAt n (take k codes)) (sumAt n (take (suc k) codes)) (part n (runIn (getD codes k 0))) e z in-four (λ j. one-more n codes t k j h)
       (toZ-ofZ w32 _ sum-fits ∙ sum-is ∙ ap (λ (x : ℕ). pos (sumAt n (take k codes) e + x)) told)
       ∙ ap (λ (j : ℕ). fourOf (sumAt n (take j codes))) (sym (add-one k))
-
--- ---- the endpoints of a mode: a table that the compiler sees is, by computing, the runs of its row
-
--- the numbers of channel c, by the runs of its places
-abbrev pub rowSums : List ℕ → ℕ → ℕ → ℕ → ℕ
-rowSums l n c e = sum n (runs l 0 (3 * e + c))
-
-module _ (mode n : ℕ) where
-  row-read : (c : ℕ) {r : List ℤ} → r ≡ fourOf (rowSums (row mode) n c) → r ≡ fourOf (placesOf mode n c)
-  row-read c is =
-      is
-      ∙ four-same (rowSums (row mode) n c) (placesOf mode n c) (run-law (row mode) n (3 * 0 + c)) (run-law (row mode) n (3 * 1 + c)) (run-law (row mode) n (3 * 2 + c))
-      (run-law (row mode) n (3 * 3 + c))
-
-  pub channels-read : {r : Channels} → r .red ≡ fourOf (rowSums (row mode) n 0) → r .green ≡ fourOf (rowSums (row mode) n 1)
-      → r .blue ≡ fourOf (rowSums (row mode) n 2) → ChannelsRead mode n r
-  channels-read er eg eb = record { red = row-read 0 er; green = row-read 1 eg; blue = row-read 2 eb }

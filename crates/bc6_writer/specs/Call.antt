@@ -1,10 +1,11 @@
 -- What the writer answers, and what the lent bytes then are. Assumes nothing.
 use mathlib.Core.Path.{_≡_}
-use mathlib.Core.List.{List}
+use mathlib.Core.Bool.{not}
+use mathlib.Core.List.{List, [], _∷_}
 use Prim.Native.Nat.{ℕ, zero, suc}
 use lib.Dec.{eqb, ltb}
 use lib.ListN.{length}
-use Rattle.laws.specs.Pick.{pick}
+use Rattle.laws.specs.Checks.{firstMet}
 use Rattle.bc6h_spec.specs.declared.Fields.{Fields}
 use Rattle.bcn_spec.specs.Answers.{done, badFormat, invalidRecord, badBuffer}
 use Rattle.bcn_spec.specs.Bits.{blockSize}
@@ -13,7 +14,8 @@ use Rattle.bc6_valid.specs.Validity.{valid}
 
 -- "Refusals: 10, invalid record; 11, lent block buffer not 16 bytes; order 1, 10, 11"
 abbrev pub refusalOf : Fields → ℕ → ℕ
-refusalOf f room = pick (ltb 1 (f .format)) badFormat (pick (valid f) (pick (eqb room blockSize) done badBuffer) invalidRecord)
+refusalOf f room =
+    firstMet ((ltb 1 (f .format), badFormat) ∷ (not (valid f), invalidRecord) ∷ (not (eqb room blockSize), badBuffer) ∷ [])
 
 -- "nothing is written" on refusal; else the block
 abbrev pub bytesAt : ℕ → Fields → List ℕ → List ℕ

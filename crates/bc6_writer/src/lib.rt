@@ -97,7 +97,7 @@ fn table_words(mode: usize, places: [u16; 14]) -> BitStream
     let end = start + bc6_table::table_bits(mode);
     let lo = scattered_bits(&codes[start..middle], places);
     let hi = scattered_bits(&codes[middle..end], places);
-    BitStream { lo, hi }
+    BitStream::of(lo, hi)
 }
 
 // ---- the block
@@ -127,7 +127,7 @@ fn block_words(fields: Fields) -> BitStream
     let above = (bc6_table::table_bits(mode) - 64) as u64;
     let lo = low.lo;
     let hi = (packed_indices(fields) << above) + low.hi;
-    BitStream { lo, hi }
+    BitStream::of(lo, hi)
 }
 
 fn byte_of(words: BitStream, k: usize) -> u8

@@ -1,10 +1,11 @@
 -- What `bc7_pixels` answers, and what the lent bytes then are. Assumes nothing.
 use mathlib.Core.Path.{_≡_}
-use mathlib.Core.List.{List, _++_}
+use mathlib.Core.Bool.{not}
+use mathlib.Core.List.{List, [], _∷_, _++_}
 use Prim.Native.Nat.{ℕ, zero, suc}
 use lib.Dec.{eqb, ltb}
 use lib.ListN.{length, drop}
-use Rattle.laws.specs.Pick.{pick}
+use Rattle.laws.specs.Checks.{firstMet}
 use Rattle.bcn_spec.specs.Answers.{done, badBlock, shortOutput}
 use Rattle.bcn_spec.specs.Bits.{blockSize}
 use Rattle.bc7_spec.specs.Fields.{modeOf}
@@ -13,7 +14,7 @@ use Rattle.bc7.specs.declared.Bc7Pixels.{Bc7Pixels}
 
 -- "Refusals: 2, then 3 for fewer than 64 bytes of output": the first check that is met, from the block's length and the room
 unfoldable pub refusalOf : ℕ → ℕ → ℕ
-refusalOf size room = pick (eqb size blockSize) (pick (ltb room byteCount) shortOutput done) badBlock
+refusalOf size room = firstMet ((not (eqb size blockSize), badBlock) ∷ (ltb room byteCount, shortOutput) ∷ [])
 
 -- "The call answers its number and the mode as a number. The mode number is the specification's own, 0 to 7, and 8 for a reserved block. ..
 -- A refusal has mode number 0"

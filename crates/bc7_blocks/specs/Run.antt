@@ -1,14 +1,14 @@
 -- What `bc7_blocks_pixels` answers, and what the lent bytes then are: T-13's call over a run of blocks, as document 02's T-01. Assumes nothing.
 use mathlib.Core.Path.{_≡_}
-use mathlib.Core.List.{List, _++_}
+use mathlib.Core.Bool.{not}
+use mathlib.Core.List.{List, [], _∷_, _++_}
 use Prim.Native.Nat.{ℕ, zero, suc, _*_, _/_, _%_}
 use lib.Dec.{eqb, ltb}
 use lib.ListN.{length, drop}
-use Rattle.laws.specs.Pick.{pick}
+use Rattle.laws.specs.Checks.{firstMet}
 use Rattle.laws.specs.Made.{made, join}
 use Rattle.bcn_spec.specs.Answers.{done, shortOutput, unevenBlocks}
-use Rattle.bcn_spec.specs.Bits.{blockSize}
-use Rattle.bcn_spec.specs.Bits.{blocksIn, blockAt}
+use Rattle.bcn_spec.specs.Bits.{blockSize, blocksIn, blockAt}
 use Rattle.bc7_spec.specs.Block.{byteCount, bytesOf}
 use Rattle.bc7_blocks.specs.declared.Bc7BlocksPixels.{Bc7BlocksPixels}
 
@@ -21,7 +21,8 @@ runOf blocks n = join (made (shownAt blocks) n)
 
 -- 9, then 3, "where 3 means fewer than" 64 bytes "a block"
 unfoldable pub runRefusal : ℕ → ℕ → ℕ
-runRefusal size room = pick (eqb (size % blockSize) 0) (pick (ltb room (byteCount * (size / blockSize))) shortOutput done) unevenBlocks
+runRefusal size room =
+    firstMet ((not (eqb (size % blockSize) 0), unevenBlocks) ∷ (ltb room (byteCount * (size / blockSize)), shortOutput) ∷ [])
 
 -- "it answers that number", the number of blocks
 abbrev pub runAnswer : ℕ → List ℕ → Bc7BlocksPixels

@@ -1,16 +1,15 @@
 -- Document 03's "Worked blocks", C1 to C11: one table, and a single theorem over it. Assumes nothing.
 use mathlib.Core.Bool.{Bool}
 use mathlib.Core.List.{List, [], _∷_, _++_}
-use Prim.Native.Nat.{ℕ, _+_, _/_, _%_}
+use Prim.Native.Nat.{ℕ, _/_, _%_}
 use lib.Dec.{T, eqb}
 use lib.ListN.{replicate}
-use Rattle.laws.specs.Pick.{pick, both}
+use Rattle.laws.specs.Pick.{both}
 use Rattle.laws.specs.Every.{every, same}
 use Rattle.laws.specs.Made.{made}
 use Rattle.laws.specs.First.{firstBelow}
 use Rattle.laws.specs.Packed.{before, unpacked}
-use Rattle.bcn_spec.specs.Rows.{partitionSet3, fixupsOf}
-use Rattle.bcn_spec.specs.Rows.{rowRegion}
+use Rattle.bcn_spec.specs.Rows.{partitionSet3, fixupsOf, regionOf}
 use Rattle.bc7_spec.specs.Modes.{modes, modeAt}
 use Rattle.bc7_spec.specs.Layout.{runBits, runIn}
 use Rattle.bc7_spec.specs.Fields.{modeIn, modeOf, partitionIn, rotationIn, selectionIn, storedIn, pbitIn, firstIndexIn, secondIndexIn}
@@ -91,7 +90,7 @@ abbrev shows : Row → Bool
 shows r = both (eqb (modeOf (r .bytes)) (r .mode)) (same (bytesOf (r .bytes)) (quads (r .pixels)))
 
 all-blocks : T (every shows blocks)
-unfolding made firstBelow before unpacked partitionSet3 rowRegion fixupsOf modes modeAt runBits runIn
+unfolding made firstBelow before unpacked partitionSet3 regionOf fixupsOf modes modeAt runBits runIn
     modeIn modeOf partitionIn rotationIn selectionIn storedIn pbitIn firstIndexIn secondIndexIn
     lowered widened weightOf bySecond between turned endIn weightIn valueIn byteIn bytesOf
 all-blocks = tt

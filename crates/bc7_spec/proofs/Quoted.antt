@@ -7,8 +7,7 @@ use lib.ListN.{getD}
 use Rattle.laws.specs.Pick.{both}
 use Rattle.laws.specs.Every.{below}
 use Rattle.bcn_spec.specs.Regions.{regionsIn}
-use Rattle.bcn_spec.specs.Rows.{partitionSet3, rowOf, fixupsOf}
-use Rattle.bcn_spec.specs.Rows.{rowRegion}
+use Rattle.bcn_spec.specs.Rows.{partitionSet3, rowOf, fixupsOf, regionOf}
 use Rattle.bcn_spec.proofs.Rows.{fixupIn}
 
 -- digits in a base, the first the lowest
@@ -62,9 +61,9 @@ three? p =
     (both (eqb (fixupIn 3 p 1) (getD fixups31 p 0)) (eqb (fixupIn 3 p 2) (getD fixups32 p 0)))
 
 all-two : T (below two? 64)
-unfolding partitionSet3 rowRegion fixupsOf
+unfolding partitionSet3 regionOf fixupsOf
 all-two = tt
 
 all-three : T (below three? 64)
-unfolding partitionSet3 rowRegion fixupsOf
+unfolding partitionSet3 regionOf fixupsOf
 all-three = tt

@@ -10,8 +10,6 @@ use Rattle.laws.specs.Every.{below}
 use Rattle.laws.proofs.Tests.{both-left, both-right, below-at}
 use Rattle.bcn_spec.specs.Regions.{partitions, mapOf, fixupOf}
 use Rattle.bcn_spec.specs.Rows.{partitionSet3, fixupsOf}
-use Rattle.bcn_data.specs.declared.Subset2Map.{Subset2Map}
-use Rattle.bcn_data.specs.declared.Subset3Map.{Subset3Map}
 use Rattle.bcn_data.specs.Subsets.{subset2, maskOf, fixupAt, row2, row3, packedRow2, threeRow}
 
 -- ---- every map has sixteen bits, and every fix-up pixel four
@@ -62,10 +60,11 @@ module _ (p row : ℕ) (h : p < 64) (e : row ≡ packedRow2 p) where
 
 module _ (p row : ℕ) (h : p < 64) (e : row ≡ threeRow p) where
   pub small3 : row / 68719476736 < 256
+  unfolding threeRow
   small3 = let f = fits 1 p (omega arith) h in omega (arith, e, f .ones, f .twos, f .low, f .high)
 
   pub apart3 : record { ones = row % 65536; twos = row / 65536 % 65536; «fixup_index_2» = row / 4294967296 % 16; «fixup_index_3» = row / 68719476736 } ≡ row3 p
-  unfolding row3
+  unfolding threeRow row3
   apart3 =
       let f = fits 1 p (omega arith) h in
       let one : row % 65536 ≡ maskOf 1 3 p = low-part 65536 _ _ _ e (f .ones) in

@@ -1,7 +1,8 @@
 -- The maps and the fix-up pixels of a partition, as one value. Assumes nothing.
+use mathlib.Core.Path.{_≡_}
 use mathlib.Core.List.{List, [], _∷_}
 use Prim.Native.Nat.{ℕ, _+_, _*_}
-use lib.Dec.{eqb}
+use lib.Dec.{T, eqb}
 use lib.ListN.{getD}
 use Rattle.laws.specs.Pick.{pick}
 use Rattle.laws.specs.Bit.{ofBits}
@@ -41,14 +42,20 @@ row3 partition =
     }
 
 -- the same as one number: BC6H's rows, rows 32 to 63 of two regions, and the rows of three
-abbrev pub packedRow : ℕ → ℕ
+unfoldable pub packedRow : ℕ → ℕ
 packedRow partition = mapOf partition + 65536 * fixupOf partition
 
 abbrev pub packedRow2 : ℕ → ℕ
 packedRow2 partition = maskOf 1 2 partition + 65536 * fixupAt 1 2 partition
 
-abbrev pub laterRow : ℕ → ℕ
+unfoldable pub laterRow : ℕ → ℕ
 laterRow row = packedRow2 (row + 32)
 
-abbrev pub threeRow : ℕ → ℕ
+unfoldable pub threeRow : ℕ → ℕ
 threeRow partition = maskOf 1 3 partition + 65536 * (maskOf 2 3 partition + 65536 * (fixupAt 1 3 partition + 16 * fixupAt 2 3 partition))
+
+-- r is the number of the row that a partition has, by the number of an arm
+pub record RowIs (row : ℕ → ℕ) (partition r : ℕ) : Type 0 where
+  pub number : ℕ
+  pub at : partition ≡ number
+  pub is : T (eqb (row number) r)

@@ -1,8 +1,8 @@
--- The partition rows and their rule, one test over all of them. Assumes nothing.
+-- The rows of one, two and three regions: their rule, one test over all of them. Assumes nothing.
 use mathlib.Core.Path.{_≡_}
-use mathlib.Core.Bool.{Bool, true}
+use mathlib.Core.Bool.{Bool}
 use mathlib.Core.List.{List, [], _∷_}
-use Prim.Native.Nat.{ℕ, zero, suc, _+_, _-_, _<_, _≤_}
+use Prim.Native.Nat.{ℕ, zero, suc, _-_, _<_, _≤_}
 use native.Mathlib.Nat.{not-suc-le-zero}
 use lib.Dec.{T, eqb, ltb, eqb→eq, ltb→lt}
 use lib.ListN.{length, getD}
@@ -10,7 +10,7 @@ use Rattle.laws.specs.Pick.{pick, both}
 use Rattle.laws.specs.Every.{below}
 use Rattle.laws.proofs.Tests.{both-left, both-right, below-at}
 use Rattle.bcn_spec.specs.Regions.{regionsIn}
-use Rattle.bcn_spec.specs.Rows.{partitionSet3, rowOf, rowRegion, fixupsOf}
+use Rattle.bcn_spec.specs.Rows.{partitionSet3, rowOf, regionOf, fixupsOf}
 
 -- the first pixel of a list that lies in region r
 abbrev pub fixupAmong : (ℕ → ℕ) → ℕ → List ℕ → ℕ
@@ -19,16 +19,16 @@ fixupAmong region r (x ∷ xs) = pick (eqb (region x) r) x (fixupAmong region r 
 
 -- the fix-up pixel of region r
 abbrev pub fixupIn : ℕ → ℕ → ℕ → ℕ
-fixupIn regions p r = fixupAmong (rowRegion regions p) r (fixupsOf regions p)
+fixupIn regions p r = fixupAmong (regionOf regions p) r (fixupsOf regions p)
 
 pub record Rule (regions p : ℕ) : Type 0 where
   pub pixels : length (regionsIn (rowOf regions p)) ≡ 16
-  pub region-fits : (k : ℕ) → k < 16 → rowRegion regions p k < regions
+  pub region-fits : (k : ℕ) → k < 16 → regionOf regions p k < regions
   -- "Each region has one fix-up pixel, lying in it. Region 0's is always pixel 0."
   pub first : fixupIn regions p 0 ≡ 0
   pub one-each : length (fixupsOf regions p) ≡ regions
   pub fixup-fits : (r : ℕ) → r < regions → fixupIn regions p r < 16
-  pub fixup-in : (r : ℕ) → r < regions → rowRegion regions p (fixupIn regions p r) ≡ r
+  pub fixup-in : (r : ℕ) → r < regions → regionOf regions p (fixupIn regions p r) ≡ r
   -- in order of pixels
   pub rising : (i : ℕ) → i < regions - 1 → getD (fixupsOf regions p) i 0 < getD (fixupsOf regions p) (suc i) 0
   pub listed-fits : (i : ℕ) → i < regions → getD (fixupsOf regions p) i 0 < 16
@@ -38,13 +38,13 @@ module _ (regions p : ℕ) where
   pixels? = eqb (length (regionsIn (rowOf regions p))) 16
 
   abbrev region? : ℕ → Bool
-  region? k = ltb (rowRegion regions p k) regions
+  region? k = ltb (regionOf regions p k) regions
 
   abbrev fits? : ℕ → Bool
   fits? r = ltb (fixupIn regions p r) 16
 
   abbrev in? : ℕ → Bool
-  in? r = eqb (rowRegion regions p (fixupIn regions p r)) r
+  in? r = eqb (regionOf regions p (fixupIn regions p r)) r
 
   abbrev rising? : ℕ → Bool
   rising? i = ltb (getD (fixupsOf regions p) i 0) (getD (fixupsOf regions p) (suc i) 0)
@@ -89,7 +89,7 @@ abbrev all? : ℕ → Bool
 all? i = below (rule? (suc i)) (rowCount (suc i))
 
 all : T (below all? 3)
-unfolding partitionSet3 rowRegion fixupsOf
+unfolding partitionSet3 regionOf fixupsOf
 all = tt
 
 pub rule : (regions p : ℕ) → 1 ≤ regions → regions ≤ 3 → p < rowCount regions → Rule regions p

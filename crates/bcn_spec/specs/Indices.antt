@@ -6,6 +6,7 @@ use lib.Dec.{eqb}
 use Rattle.laws.specs.Pick.{pick, either}
 use Rattle.laws.specs.Packed.{unpacked}
 
+-- whether a pixel is one of those in a list
 abbrev pub has : List ℕ → ℕ → Bool
 has [] pixel = false
 has (x ∷ xs) pixel = either (eqb pixel x) (has xs pixel)
@@ -14,6 +15,7 @@ has (x ∷ xs) pixel = either (eqb pixel x) (has xs pixel)
 abbrev pub storedBits : ℕ → List ℕ → ℕ → ℕ
 storedBits bits fixups pixel = pick (has fixups pixel) (bits - 1) bits
 
--- "pixel 0 first": the index of a pixel, from the number that the bits above the table's make. A top bit that is not stored is zero.
+-- "pixel 0 first": the index of a pixel, from the number that a block's bits make from the first index on. A top bit that is not stored
+-- is zero.
 abbrev pub indexIn : ℕ → List ℕ → ℕ → ℕ → ℕ
 indexIn bits fixups rest pixel = unpacked (storedBits bits fixups) rest pixel

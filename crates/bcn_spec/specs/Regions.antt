@@ -1,4 +1,4 @@
--- Which pixel lies in which of two regions. Assumes nothing.
+-- The rows of two regions: which pixel lies in which, and the fix-up pixel of region 1. Assumes nothing.
 use mathlib.Core.Bool.{Bool}
 use mathlib.Core.List.{List, [], _∷_, map}
 use Prim.Native.Nat.{ℕ, suc, _-_}
@@ -10,7 +10,7 @@ use lib.ListN.{getD, take}
 use Rattle.laws.specs.Pick.{pick}
 use Rattle.laws.specs.Bit.{ofBits}
 
--- Two regions, row by row
+-- PARTITION_SET_2, a row for each partition number
 abbrev pub partitionSet2 : List String
 partitionSet2 =
     "001100110011001-1" ∷
@@ -78,7 +78,7 @@ partitionSet2 =
     "00-10001011101110" ∷
     "010001000111011-1" ∷ []
 
--- "Partition: the first 32 rows of PARTITION_SET_2."
+-- BC6H's rows: "Partition: the first 32 rows of PARTITION_SET_2."
 unfoldable pub partitions : List String
 partitions = take 32 partitionSet2
 
@@ -102,7 +102,7 @@ fixupIn (Text._∷_ c cs) = pick (isDash c) 0 (suc (fixupIn cs))
 abbrev pub mapIn : String → ℕ
 mapIn row = ofBits (regionsIn row)
 
--- the map and the fix-up pixel of a partition number
+-- the map and the fix-up pixel of one of BC6H's rows
 abbrev pub mapOf : ℕ → ℕ
 mapOf partition = getD (map mapIn partitions) partition 0
 

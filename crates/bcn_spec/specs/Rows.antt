@@ -1,6 +1,8 @@
--- The rows of one, two and three regions, and their fix-up pixels. Assumes nothing.
+-- The rows of one, two and three regions: which pixel lies in which, and their fix-up pixels. "Two and three regions: the rows below,
+-- chosen by the partition number": character k is the region of pixel k, and a dash stands before the fix-up pixel of each region but
+-- region 0, "in order of pixels, not of regions". Assumes nothing.
 use mathlib.Core.List.{List, [], _∷_}
-use Prim.Native.Nat.{ℕ, zero, suc}
+use Prim.Native.Nat.{ℕ, suc}
 use Prim.Native.String.{String}
 use Prim.Native.String as Text
 use lib.ListN.{getD}
@@ -11,11 +13,7 @@ use Rattle.bcn_spec.specs.Regions.{partitionSet2, isDash, regionsIn}
 abbrev pub oneRegion : List String
 oneRegion = "0000000000000000" ∷ []
 
--- "Two and three regions: the rows below, chosen by the partition number": character k is the region of pixel k, and a dash stands
--- before the fix-up pixel of each region but region 0, "in order of pixels, not of regions".
--- Two regions: `partitionSet2`, of which "rows 0 to 31 are those of BC6H".
-
--- Three regions, row by row
+-- PARTITION_SET_3, a row for each partition number
 unfoldable pub partitionSet3 : List String
 partitionSet3 =
     "001-100110221222-2" ∷
@@ -91,8 +89,8 @@ abbrev pub rowOf : ℕ → ℕ → String
 rowOf regions partition = getD (rowsOf regions) partition ""
 
 -- the region of a pixel: the row without its dashes
-unfoldable pub rowRegion : ℕ → ℕ → ℕ → ℕ
-rowRegion regions partition pixel = getD (regionsIn (rowOf regions partition)) pixel 0
+unfoldable pub regionOf : ℕ → ℕ → ℕ → ℕ
+regionOf regions partition pixel = getD (regionsIn (rowOf regions partition)) pixel 0
 
 -- the pixels that a dash stands before, from pixel k on
 abbrev pub dashesFrom : ℕ → String → List ℕ

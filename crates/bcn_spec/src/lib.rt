@@ -1,5 +1,4 @@
 // What both formats share with the store and the files: the numbers that calls answer, and the size of a block.
-
 ghost use mathlib.Core.Path.{_≡_};
 ghost use Rattle.bcn_spec.specs.Answers.{answers};
 ghost use Rattle.bcn_spec.specs.Bits.{blockSize};

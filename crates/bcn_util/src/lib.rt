@@ -46,6 +46,13 @@ fn word_at(block: &[u8], at: usize) -> u64
 }
 
 impl BitStream {
+    // The stream of two words, the lower first.
+    pub fn of(lo: u64, hi: u64) -> BitStream
+        ensures { λ r. ⌜ r ≡ record { lo = lo; hi = hi } ⌝ }
+    {
+        BitStream { lo, hi }
+    }
+
     pub fn new(block: &[u8]) -> BitStream
         requires { ⌜ length (now block) ≡ 16 ⌝ }
         ensures { λ r. ⌜ number r ≡ numberOf (now (block .entry)) ⌝ }

@@ -4,7 +4,7 @@ use mathlib.Core.Path.{refl}
 use mathlib.Core.Bool.{false}
 use lib.Dec.{lit≤}
 use Rattle.bc6.proofs.Codes.{words-two, words-one}
-use Rattle.bc6.proofs.Link.{two-painted, one-written}
+use Rattle.bc6.proofs.Link.{two-painted, one-written, same-picks, same-indices}
 use Rattle.bc6.proofs.show_unsigned.Statement.{statement}
 use Rattle.bc6.proofs.show_unsigned.Tie as tie
 
@@ -14,8 +14,9 @@ returns c =
     let picks = paint .before .before in
     let test = picks .before in
     let ends = test .before in
-    let s = ends .before .before in
-    two-painted false 0 _ (lit≤ tt) (s .pre .0) (ends .unsigned-ends .ensures) (words-two _ _ (test .if1 .taken)) _ (picks .two-picks .ensures) (paint .paint-two-unsigned .ensures)
+    let stream = ends .before in
+    let s = stream .before .before in
+    two-painted false 0 _ (lit≤ tt) (s .pre .0) (ends .unsigned-ends .ensures) (words-two _ _ (test .if1 .taken)) _ (same-picks (stream .of .ensures) (picks .two-picks .ensures)) (paint .paint-two-unsigned .ensures)
 
 returns-2 : tie.Need-returns-2
 returns-2 c =
@@ -23,14 +24,16 @@ returns-2 c =
     let indices = paint .before .before in
     let test = indices .before in
     let ends = test .before in
-    let s = ends .before .before in
-    one-written false 0 _ (lit≤ tt) (s .pre .0) (ends .unsigned-ends .ensures) (words-one _ _ (test .if1 .left)) _ (indices .one-indices .ensures) refl (paint .paint-one-unsigned .ensures)
+    let stream = ends .before in
+    let s = stream .before .before in
+    one-written false 0 _ (lit≤ tt) (s .pre .0) (ends .unsigned-ends .ensures) (words-one _ _ (test .if1 .left)) _ (same-indices (stream .of .ensures) (indices .one-indices .ensures)) refl (paint .paint-one-unsigned .ensures)
 
 pub show-unsigned-spec : {M : Type 1} → statement M
 show-unsigned-spec =
     tie.close
     (tie.spec
-    (λ c κs. c .before .pre .0)
+    (λ c κs. search needs)
+    (λ c κs. c .before .before .pre .0)
     (λ c κs. search needs)
     (λ c κs. search needs)
     (λ c. search needs)

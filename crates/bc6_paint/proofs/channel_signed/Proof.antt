@@ -51,6 +51,7 @@ returns c =
     let y = half-drawn true (ends-drawn l) (t .second8) (t .w8) (s .pre .1) _ _ (read (q .ok) (q .ensures)) (high .finish-signed .ensures) in
     record {
       holds = set-comm (a .out .now) (a .at + 24) (a .at) _ _ (λ e. omega arith) ∙ (λ i. set (set (a .out .now) (a .at) (shade _ _ x i)) (a .at + 24) (shade _ _ y i));
+      long = simp length-set;
       counts = λ i. adds _ _ _ x (c .before .counted .ensures .0) i + adds _ _ _ y (c .counted2 .ensures .0) i;
       few = omega (arith, c .before .counted .ensures .1, c .counted2 .ensures .1);
     }

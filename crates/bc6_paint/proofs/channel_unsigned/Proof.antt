@@ -2,7 +2,7 @@
 use borrow.Author.Needs.{needs}
 use mathlib.Core.Bool.{false}
 use Prim.Native.Nat.{_+_}
-use lib.ListN.{set}
+use lib.ListN.{set, length-set}
 use Rattle.bc6_paint.proofs.Points.{held-is, Drawn, half-drawn, shade}
 use Rattle.bc6_paint.proofs.channel_unsigned.Statement.{statement}
 use Rattle.bc6_paint.proofs.channel_unsigned.Tie as tie
@@ -32,7 +32,10 @@ returns c =
     let t = a .t in
     let low = half-drawn false (ends-drawn l) (t .second) (t .w) (s .pre .0) _ _ (first .before .point-unsigned .ensures) (first .finish-unsigned .ensures) in
     let high = half-drawn false (ends-drawn l) (t .second8) (t .w8) (s .pre .1) _ _ (c .before .point-unsigned2 .ensures) (c .finish-unsigned2 .ensures) in
-    λ i. set (set (a .out .now) (a .at) (shade _ _ low i)) (a .at + 24) (shade _ _ high i)
+    record {
+      holds = λ i. set (set (a .out .now) (a .at) (shade _ _ low i)) (a .at + 24) (shade _ _ high i);
+      long = simp length-set;
+    }
 
 pub channel-unsigned-spec : {M : Type 1} → statement M
 channel-unsigned-spec =

@@ -1,7 +1,8 @@
 -- `bc6_writer::block_words` meets its contract: the indices above the rest. Assumes nothing.
 use borrow.Author.Needs.{needs}
-use Prim.Native.Nat.{_<_, _^_}
+use mathlib.Core.Path.{_∙_, ap}
 use native.Mathlib.Omega.{arith}
+use Rattle.bcn_util.specs.Stream.{number}
 use Rattle.bc6_writer.proofs.Scattering.{bits-range}
 use Rattle.bc6_writer.proofs.Joining as laws
 use Rattle.bc6_writer.proofs.block_words.Statement.{statement}
@@ -22,8 +23,12 @@ add-hi c =
 
 returns : tie.Need-returns
 returns c =
-    let w = c .before .before .before .table-words .result in
-    laws.number-is _ (c .before .before .before .before .before .before .pre) (c .before .before .before .before .places-of .ensures) (w .lo) (w .hi) _ _ (c .before .before .before .table-words .ensures) (c .before .packed-indices .ensures) (c .before .before .table-bits .ensures)
+    let indices = c .before .before in
+    let bits = indices .before in
+    let words = bits .before in
+    let w = words .table-words .result in
+    ap number (c .of .ensures)
+    ∙ laws.number-is _ (words .before .before .before .pre) (words .before .places-of .ensures) (w .lo) (w .hi) _ _ (words .table-words .ensures) (indices .packed-indices .ensures) (bits .table-bits .ensures)
 
 pub block-words-spec : {M : Type 1} → statement M
 block-words-spec =
@@ -37,4 +42,5 @@ block-words-spec =
     (λ c κs. search needs)
     shl-hi
     add-hi
+    (λ c κs. search needs)
     returns)

@@ -1,8 +1,9 @@
 -- `bc6_writer::table_words` meets its contract: a row of the table, in two parts. Assumes nothing.
 use borrow.Author.Needs.{needs}
-use mathlib.Core.Path.{_≡_}
+use mathlib.Core.Path.{_≡_, _∙_, ap}
 use Prim.Native.Nat.{_+_, _≤_}
 use native.Mathlib.Omega.{arith}
+use Rattle.bcn_util.specs.Stream.{number}
 use Rattle.bc6_writer.proofs.Scattering as laws
 use Rattle.bc6_writer.proofs.table_words.Statement.{statement}
 use Rattle.bc6_writer.proofs.table_words.Tie as tie
@@ -40,11 +41,14 @@ requires-high c κs =
 
 returns : tie.Need-returns
 returns c =
-    let p = c .before .before .before .before .before .before .before .before .before .pre in
-    laws.words-joined _ (p .0) (p .1) _ (c .before .before .before .scattered-bits .ensures)
-    (laws.low-part _ (p .0) (p .1) (c .before .before .before .before .before .before .before .before .codes .ensures) (c .before .before .before .before .before .before .before .row-start .ensures))
-    (c .scattered-bits2 .ensures)
-    (laws.high-part _ (p .0) (p .1) (c .before .before .before .before .before .before .before .before .codes .ensures) (c .before .before .before .before .before .before .before .row-start .ensures) (c .before .before .before .before .before .before .table-bits .ensures))
+    let high = c .before in
+    let low = high .before .before .before in
+    let bits = low .before .before .before in
+    let start = bits .before in
+    let p = start .before .before .pre in
+    ap number (c .of .ensures)
+    ∙ laws.words-joined _ (p .0) (p .1) _ (low .scattered-bits .ensures) (laws.low-part _ (p .0) (p .1) (start .before .codes .ensures) (start .row-start .ensures)) (high .scattered-bits2 .ensures)
+    (laws.high-part _ (p .0) (p .1) (start .before .codes .ensures) (start .row-start .ensures) (bits .table-bits .ensures))
 
 pub table-words-spec : {M : Type 1} → statement M
 table-words-spec =
@@ -63,4 +67,5 @@ table-words-spec =
     part-high-start
     part-high-end
     requires-high
+    (λ c κs. search needs)
     returns)

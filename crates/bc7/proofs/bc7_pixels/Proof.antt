@@ -1,7 +1,6 @@
 -- `bc7::bc7_pixels` meets its contract. Assumes nothing.
 use borrow.Author.Needs.{needs}
 use mathlib.Core.Path.{_≡_, _∙_}
-use Prim.Native.Nat.{ℕ}
 use Rattle.bcn_util.specs.Stream.{number}
 use Rattle.bc7_spec.specs.Fields.{modeIn}
 use Rattle.bc7.proofs.Calls.{painted-block, painted-output, painted-done}

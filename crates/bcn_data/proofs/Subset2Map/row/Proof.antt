@@ -1,9 +1,10 @@
 -- `Subset2Map::row` meets its contract: the first rows are BC6H's; of the others the number is taken apart. Assumes nothing.
 use borrow.Author.Needs.{needs}
 use mathlib.Core.Path.{_≡_, _∙_, sym, ap}
-use Prim.Native.Nat.{ℕ, _+_, _-_}
+use Prim.Native.Nat.{_+_, _-_}
 use native.Mathlib.Omega.{arith}
-use Rattle.bcn_data.specs.Subsets.{packedRow2}
+use Rattle.bcn_data.specs.Subsets.{packedRow2, laterRow}
+use Rattle.bcn_data.proofs.Arms.{row-is}
 use Rattle.bcn_data.proofs.Rows.{small2, apart2, first-rows}
 use Rattle.bcn_data.proofs.Subset2Map.row.Statement.{statement}
 use Rattle.bcn_data.proofs.Subset2Map.row.Tie as tie
@@ -12,10 +13,11 @@ returns : tie.Need-returns
 returns c = c .of .ensures ∙ sym (first-rows _ (c .before .if1 .taken))
 
 number : (c : tie.After-later-row) → c .later-row .result ≡ packedRow2 (c .before .before .args .partition)
+unfolding laterRow
 number c =
     let p = c .before .before .args .partition in
     let back : p - 32 + 32 ≡ p = omega arith in
-    c .later-row .ensures ∙ ap packedRow2 back
+    row-is (c .later-row .ensures) ∙ ap packedRow2 back
 
 returns-2 : tie.Need-returns-2
 returns-2 c = apart2 _ _ (c .before .before .pre) (number c)

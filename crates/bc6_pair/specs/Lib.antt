@@ -1,2 +1,0 @@
-pub mod Threes
-pub mod Ends

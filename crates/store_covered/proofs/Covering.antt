@@ -25,7 +25,8 @@ use Rattle.store_spec.specs.Twins.{twinMark, Alike, firstTwin, Listed}
 use Rattle.store_spec.proofs.Shown.{is-record, is-refused}
 use Rattle.store_spec.proofs.Marking.{first-alike}
 use Rattle.store_covered.specs.CleanUp.{Covered, Copy, ByDemand3, coveredPair, covered, byDemand3}
-use Rattle.store_covered.proofs.Theorem.{one-picture, marked-first, clean-up}
+use Rattle.store_spec.proofs.Listing.{marked-first}
+use Rattle.store_covered.proofs.Theorem.{one-picture, clean-up}
 
 -- ---- two blocks
 

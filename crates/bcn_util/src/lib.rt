@@ -5,8 +5,9 @@ ghost use Prim.Native.Nat.{_+_, _-_, _*_, _/_, _%_, _^_, _≤_, _<_};
 ghost use lib.ListN.{length};
 ghost use Rattle.laws.specs.Packed.{opened};
 ghost use Rattle.bcn_spec.specs.Bits.{numberOf};
-ghost use Rattle.bcn_util.specs.Stream.{number, LowBytes, Read};
+ghost use Rattle.bcn_util.specs.Stream.{number, Read};
 ghost use Rattle.bcn_util.specs.Indexed.{indexesOf, indexAt};
+use raw_bytes::u64_at;
 
 // The bits of a block that are left: two words, moved as one.
 pub struct BitStream {
@@ -18,31 +19,6 @@ pub struct BitStream {
 pub struct Consumed {
     pub bits: u64,
     pub rest: BitStream,
-}
-
-fn wide(byte: u8) -> u64
-    ensures { λ r. ⌜ (r ≡ byte) × (r < 256) ⌝ }
-{
-    byte as u64
-}
-
-// The four bytes from `at` on, little end first.
-fn half_at(block: &[u8], at: usize) -> u64
-    requires { ⌜ at + 4 ≤ length (now block) ⌝ }
-    ensures { λ r. ⌜ LowBytes (now (block .entry)) at 4 r ⌝ }
-{
-    wide(block[at])
-        + 0x100 * wide(block[at + 1])
-        + 0x1_0000 * wide(block[at + 2])
-        + 0x100_0000 * wide(block[at + 3])
-}
-
-// The eight bytes from `at` on.
-fn word_at(block: &[u8], at: usize) -> u64
-    requires { ⌜ at + 8 ≤ length (now block) ⌝ }
-    ensures { λ r. ⌜ LowBytes (now (block .entry)) at 8 r ⌝ }
-{
-    half_at(block, at) + 0x1_0000_0000 * half_at(block, at + 4)
 }
 
 impl BitStream {
@@ -58,8 +34,8 @@ impl BitStream {
         ensures { λ r. ⌜ number r ≡ numberOf (now (block .entry)) ⌝ }
     {
         BitStream {
-            lo: word_at(block, 0),
-            hi: word_at(block, 8),
+            lo: u64_at(block, 0),
+            hi: u64_at(block, 8),
         }
     }
 

@@ -7,6 +7,7 @@ use lib.ListN.{length, getD, take, drop, replicate}
 use Rattle.laws.specs.Pick.{pick, both}
 use Rattle.laws.specs.Every.{same}
 use Rattle.laws.specs.Made.{made}
+use Rattle.raw_bytes.specs.Bytes.{lowFirst}
 use Rattle.bcn_spec.specs.Bits.{blockSize}
 use Rattle.bc6h_spec.specs.Picture.{valueCount}
 use Rattle.bc6.specs.Call.{refusalOf, answerAt, valuesAt}
@@ -24,14 +25,14 @@ blockIn entry = take blockSize (drop 1 entry)
 
 -- value k, low byte first, of the bytes that hold the values
 unfoldable pub valueIn : List ℕ → ℕ → ℕ
-valueIn bytes k = getD bytes (2 * k) 0 + getD bytes (2 * k + 1) 0 * 0x100
+valueIn bytes k = lowFirst bytes (2 * k) 2
 
 unfoldable pub valuesIn : List ℕ → List ℕ
 valuesIn bytes = made (valueIn bytes) valueCount
 
 -- the count of minus infinities
 unfoldable pub infiniteIn : List ℕ → ℕ
-infiniteIn entry = getD entry 19 0 + getD entry 20 0 * 0x100
+infiniteIn entry = lowFirst entry 19 2
 
 -- what our call answers to an entry's block: room for 48 values, all of them zero before
 abbrev pub numberFor : List ℕ → ℕ

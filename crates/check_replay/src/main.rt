@@ -3,6 +3,7 @@
 // many agree.
 use libc::STDIN_FILENO;
 use libc::STDOUT_FILENO;
+use raw_bytes::u16_at;
 ghost use mathlib.Core.Path.{_≡_};
 ghost use mathlib.Core.List.{[], _∷_};
 ghost use Prim.Native.Nat.{_/_, _<_, _≤_};
@@ -29,18 +30,12 @@ impl Entry {
     const VALUES: usize = 21;
 }
 
-fn wide(byte: u8) -> u16
-    ensures { λ r. ⌜ (r ≡ byte) × (r < 256) ⌝ }
-{
-    byte as u16
-}
-
 // Value k of an entry's values, low byte first.
 fn value_at(bytes: &[u8], k: usize) -> u16
     requires { ⌜ (length (now bytes) ≡ 96) × (k < valueCount) ⌝ }
     ensures { λ r. ⌜ r ≡ valueIn (now (bytes .entry)) k ⌝ }
 {
-    wide(bytes[2 * k]) + wide(bytes[2 * k + 1]) * 0x100
+    u16_at(bytes, 2 * k)
 }
 
 fn same_values(values: &[u16], bytes: &[u8]) -> bool
@@ -60,7 +55,7 @@ fn infinite_in(entry: &[u8]) -> u16
     requires { ⌜ length (now entry) ≡ entrySize ⌝ }
     ensures { λ r. ⌜ r ≡ infiniteIn (now (entry .entry)) ⌝ }
 {
-    wide(entry[Entry::COUNT]) + wide(entry[Entry::COUNT + 1]) * 0x100
+    u16_at(entry, Entry::COUNT)
 }
 
 // Whether our call answers an entry's block as the entry says.

@@ -2,6 +2,7 @@
 
 ghost use Prim.Native.Nat.{_+_, _≤_, _<_};
 ghost use lib.ListN.{length};
+use raw_bytes::u8_to_u64;
 use run_streams::Input;
 use run_streams::first_bytes;
 use run_streams::read_input;
@@ -9,24 +10,19 @@ use run_streams::write_text;
 use store_records::Record;
 use store_records::record_at;
 use store_records::record_block;
+use store_records::record_count;
 use store_spec::TwinList;
 use store_twins::twin_list;
 use text::put;
 use text::put_count;
 
-struct Limits {
-    untouched: u8,
-}
+// One record more than a store may have, and the bytes of such a store and one more.
+const RECORDS: usize = TwinList::RECORDS + 1;
 
-impl Limits {
-    // One record more than a store may have, and the bytes of such a store and one more.
-    const RECORDS: usize = TwinList::RECORDS + 1;
+const INPUT: usize = RECORDS * Record::SIZE + 1;
 
-    const INPUT: usize = Limits::RECORDS * Record::SIZE + 1;
-
-    // What the lent marks hold before a call.
-    const UNTOUCHED: u8 = 9;
-}
+// What the lent marks hold before a call.
+const UNTOUCHED: u8 = 9;
 
 // What is answered for record n.
 fn print_record(text: &mut [u8], store: &[u8], n: usize)
@@ -55,13 +51,9 @@ fn put_marks(text: &mut [u8], at: usize, marks: &[u8], lent: usize) -> usize
     requires { ⌜ lent < length (now marks) ⌝ }
     ensures { λ r. ⌜ r ≤ at + 54 ⌝ }
 {
-    let mut end = put_count(text, at, b" first ", wide(marks[0]));
-    end = put_count(text, end, b" next ", wide(marks[lent]));
+    let mut end = put_count(text, at, b" first ", u8_to_u64(marks[0]));
+    end = put_count(text, end, b" next ", u8_to_u64(marks[lent]));
     put(text, end, b"\n")
-}
-
-fn wide(mark: u8) -> u64 {
-    mark as u64
 }
 
 fn list_lent(store: &[u8], marks: &mut [u8], lent: usize) -> TwinList
@@ -87,7 +79,7 @@ fn print_list(text: &mut [u8], store: &[u8], marks: &mut [u8], lent: usize)
 fn print_limits(text: &mut [u8], store: &[u8], marks: &mut [u8])
     requires { ⌜ 256 ≤ length (now text) ⌝ }
 {
-    let count = store.len() / Record::SIZE;
+    let count = record_count(store);
     if count == 0 {
         print_at(text, store, marks, 0);
         return;
@@ -104,11 +96,11 @@ fn print_at(text: &mut [u8], store: &[u8], marks: &mut [u8], n: usize)
 }
 
 fn main() {
-    let mut input = [0u8; Limits::INPUT];
+    let mut input = [0u8; INPUT];
     let Input::Whole(size) = read_input(&mut input) else {
         return;
     };
-    let mut marks = [Limits::UNTOUCHED; Limits::RECORDS];
+    let mut marks = [UNTOUCHED; RECORDS];
     let mut text = [0u8; 256];
     print_limits(&mut text, first_bytes(&input, size), &mut marks);
 }

@@ -2,7 +2,6 @@
 use mathlib.Core.Path.{_≡_, refl, sym, _∙_, ap}
 use mathlib.Core.List.{List, [], append-nil}
 use Prim.Native.Nat.{ℕ, _+_, _-_, _*_, _/_, _%_, _≤_, _<_}
-use native.Mathlib.Nat.{div-div-eq-div-mul}
 use native.Mathlib.Omega.{arith}
 use lib.Dec.{lit<}
 use lib.ListN.{length, getD, take, drop, length-take, length-drop}
@@ -10,6 +9,7 @@ use lib.Seq.{ext-getD, getD-take, getD-drop}
 use Rattle.laws.proofs.Joined.{run-value}
 use Rattle.bcn_spec.specs.Answers.{done}
 use Rattle.bcn_spec.specs.Bits.{blockSize}
+use Rattle.raw_bytes.proofs.Bytes.{four-back}
 use Rattle.probe_places.specs.declared.Fault.{Fault}
 use Rattle.probe_places.specs.Places.{placeSize, faceCount, placesIn, byteAt, tileIn, formatIn, faceIn, columnIn, rowIn, placeIn, blockIn}
 use Rattle.probe_places.proofs.Checks.{Fine, fine-so, on-face}
@@ -58,20 +58,8 @@ module _ (blocks : List ℕ) (format edge first : ℕ) where
     pub built-tile : tileIn (builtOf blocks format edge first) n ≡ tileFor first n
     unfolding tileIn headOf
     built-tile =
-        let a : byteAt (builtOf blocks format edge first) n 0 ≡ tileFor first n % 0x100 = head-is 0 (lit< tt) in
-        let b : byteAt (builtOf blocks format edge first) n 1 ≡ tileFor first n / 0x100 % 0x100 = head-is 1 (lit< tt) in
-        let c : byteAt (builtOf blocks format edge first) n 2 ≡ tileFor first n / 0x10000 % 0x100 = head-is 2 (lit< tt) in
-        let d : byteAt (builtOf blocks format edge first) n 3 ≡ tileFor first n / 0x1000000 % 0x100 = head-is 3 (lit< tt) in
-        rw (a, b, c, d) (four (tileFor first n) (omega arith))
-      where
-        by-bytes : (t a b c : ℕ) → t < 0x100000000 → a ≡ t / 0x100 → b ≡ a / 0x100 → c ≡ b / 0x100
-            → t % 0x100 + a % 0x100 * 0x100 + b % 0x100 * 0x10000 + c % 0x100 * 0x1000000 ≡ t
-        by-bytes t a b c s e f g = omega arith
-
-        four : (t : ℕ) → t < 0x100000000 → t % 0x100 + t / 0x100 % 0x100 * 0x100 + t / 0x10000 % 0x100 * 0x10000 + t / 0x1000000 % 0x100 * 0x1000000 ≡ t
-        four t s =
-            by-bytes t (t / 0x100) (t / 0x10000) (t / 0x1000000) s refl (sym (div-div-eq-div-mul t 0x100 0x100))
-            (sym (div-div-eq-div-mul t 0x10000 0x100))
+        four-back (builtOf blocks format edge first) (n * placeSize) (tileFor first n) (omega arith) (head-is 0 (lit< tt)) (head-is 1 (lit< tt))
+        (head-is 2 (lit< tt)) (head-is 3 (lit< tt))
 
     block-at : (k : ℕ) → k < 16 → byteAt (builtOf blocks format edge first) n (16 + k) ≡ getD blocks (16 * n + k) 0
     unfolding recordOf

@@ -13,6 +13,7 @@ use bcn_spec::Answer;
 use bcn_spec::Block;
 use probe::ProbePixel;
 use probe_places::Place;
+use raw_bytes::u32_to_usize;
 
 // What the call answers: its number, and how many records were written.
 pub struct Built {
@@ -35,12 +36,6 @@ impl Built {
             records,
         }
     }
-}
-
-fn wide(value: u32) -> usize
-    ensures { λ r. ⌜ r ≡ value ⌝ }
-{
-    value as usize
 }
 
 // The records of a probe of the edge.
@@ -166,7 +161,7 @@ fn build_refusal(size: usize, format: u8, edge: usize, room: usize) -> u8
 pub fn probe_build(blocks: &[u8], format: u8, edge: u32, first_tile: u32, out: &mut [u8]) -> Built
     ensures { λ r. ⌜ BuiltTo (now (blocks .entry)) format edge «first_tile» (now (out .entry)) r (now (out .exit)) ⌝ }
 {
-    let side = wide(edge);
+    let side = u32_to_usize(edge);
     let refusal = build_refusal(blocks.len(), format, side, out.len());
     if refusal != Answer::DONE {
         return Built::refused(refusal);
@@ -180,7 +175,7 @@ pub fn probe_edge(store: &[u8]) -> u32
     ensures { λ r. ⌜ r ≡ edgeOf (length (now (store .entry))) ⌝ }
 {
     for k in 0..16u32 {
-        if Place::SIZE * record_count(wide(k + 1)) == store.len() {
+        if Place::SIZE * record_count(u32_to_usize(k + 1)) == store.len() {
             return k + 1;
         }
     }

@@ -12,11 +12,12 @@ use Rattle.laws.specs.Pick.{pick}
 use Rattle.laws.proofs.Tests.{cases, both-true}
 use Rattle.laws.proofs.Rows.{getD-made}
 use Rattle.bcn_spec.specs.Answers.{done, placedRecord}
-use Rattle.store_records.specs.Store.{recordsIn, byteOf, formatOf, tileOf, blockOf, Unrefused}
+use Rattle.raw_bytes.proofs.Bytes.{bytes-same}
+use Rattle.store_records.specs.Store.{recordSize, recordsIn, byteOf, formatOf, tileOf, blockOf, Unrefused}
 use Rattle.store_records.proofs.Refusals.{known, spare-is}
 use Rattle.store_records.proofs.Refusals as checks
 use Rattle.probe_places.specs.declared.Place.{Place}
-use Rattle.probe_places.specs.Places.{placeLimit, placesIn, byteAt, tileIn, formatIn, placeIn, blockIn, IsUnplaced, placed, unplaced, placeRefusal, placeRecordRefusal}
+use Rattle.probe_places.specs.Places.{placeSize, placeLimit, placesIn, byteAt, tileIn, formatIn, placeIn, blockIn, IsUnplaced, placed, unplaced, placeRefusal, placeRecordRefusal}
 use Rattle.probe_moves.specs.Moves.{placedByte, placedAt, placedStore, oldByte, oldAt, oldStore, backRefusal}
 use Rattle.probe_places.proofs.Checks.{Fine, fine, fine-so}
 use Rattle.probe_moves.proofs.Moving.{byte-kept, byte-face, byte-zero, byte-block, back-kept, back-zero, back-block, placed-length, old-length}
@@ -184,12 +185,7 @@ module _ (old : List ℕ) (n : ℕ) (u : Unrefused old n) where
   pub moved-tile : tileIn (placedStore old) n ≡ tileOf old n
   unfolding tileIn tileOf
   moved-tile =
-      rw (
-        placed-at old n inside 0 (lit< tt) ∙ sym (byte-kept old n 0 (lit< tt)),
-        placed-at old n inside 1 (lit< tt) ∙ sym (byte-kept old n 1 (lit< tt)),
-        placed-at old n inside 2 (lit< tt) ∙ sym (byte-kept old n 2 (lit< tt)),
-        placed-at old n inside 3 (lit< tt) ∙ sym (byte-kept old n 3 (lit< tt)),
-      )
+      bytes-same (placedStore old) old (n * placeSize) (n * recordSize) 4 (λ k l. placed-at old n inside k (omega arith) ∙ sym (byte-kept old n k (omega arith)))
 
   pub moved-block : blockIn (placedStore old) n ≡ blockOf old n
   unfolding blockIn blockOf

@@ -3,12 +3,15 @@
 use mathlib.Core.Path.{_≡_, refl, sym, _∙_, ap, ap₂}
 use mathlib.Core.List.{List, [], _∷_}
 use Prim.Native.Nat.{ℕ, zero, suc, _+_, _*_, _%_, _≤_, _<_}
+use native.Mathlib.Nat.{add-assoc}
 use native.Mathlib.Omega.{arith}
-use lib.ListN.{length, length-take, length-drop}
+use lib.ListN.{length, getD, length-take, length-drop}
 use borrow.Author.Tests.{lt-ltb, le-ltb, eq-eqb, ne-eqb, ltb-true, ltb-false, eqb-true, not-false}
 use Rattle.laws.proofs.Checks.{none-met, no-number}
 use Rattle.bcn_spec.specs.Answers.{done, longStore, unevenStore, noRecord}
 use Rattle.bcn_spec.specs.Bits.{blockSize}
+use Rattle.raw_bytes.specs.Bytes.{lowFirst}
+use Rattle.raw_bytes.proofs.Bytes.{two-bytes}
 use Rattle.probe_places.specs.declared.Place.{Place}
 use Rattle.probe_places.specs.declared.PlacedRecord.{PlacedRecord}
 use Rattle.probe_places.specs.declared.PlacedReading.{PlacedReading}
@@ -60,8 +63,13 @@ known-of {store} {n} e z = known store n (sym e ∙ z)
 -- ---- the record call
 
 pub tile-pairs : (store : List ℕ) (n : ℕ) → pairAt store n 0 + pairAt store n 2 * 0x10000 ≡ tileIn store n
-unfolding tileIn
+unfolding tileIn lowFirst
 tile-pairs store n = omega arith
+
+pub pair-read : (store : List ℕ) (n k : ℕ) → lowFirst store (n * placeSize + k) 2 ≡ pairAt store n k
+pair-read store n k =
+    sym (two-bytes store (n * placeSize + k))
+    ∙ ap (λ (i : ℕ). getD store (n * placeSize + k) 0 + getD store i 0 * 0x100) (add-assoc (n * placeSize) k 1)
 
 pub read-refused : (store : List ℕ) (n : ℕ) {r : ℕ} → r ≡ placedRefusal store n → (r ≡ done → ⊥) → PlacedRead store n (reading.Refused r)
 read-refused store n {r} e z = record { answers = e; gives = go (placedRefusal store n) e }

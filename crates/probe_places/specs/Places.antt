@@ -10,6 +10,7 @@ use Rattle.laws.specs.Checks.{firstMet}
 use Rattle.laws.specs.Every.{below}
 use Rattle.bcn_spec.specs.Answers.{badFormat, spareByte, badPlace}
 use Rattle.bcn_spec.specs.Bits.{blockSize}
+use Rattle.raw_bytes.specs.Bytes.{lowFirst}
 use Rattle.probe_places.specs.declared.Place.{Place}
 
 -- "The new record has 32 bytes, still with no header: tile (4), format (1), face (1), column (2), row (2), six zero bytes, block (16)."
@@ -42,7 +43,7 @@ abbrev pub pairAt : List ℕ → ℕ → ℕ → ℕ
 pairAt store n k = byteAt store n k + byteAt store n (k + 1) * 0x100
 
 unfoldable pub tileIn : List ℕ → ℕ → ℕ
-tileIn store n = byteAt store n 0 + byteAt store n 1 * 0x100 + byteAt store n 2 * 0x10000 + byteAt store n 3 * 0x1000000
+tileIn store n = lowFirst store (n * placeSize) 4
 
 abbrev pub formatIn : List ℕ → ℕ → ℕ
 formatIn store n = byteAt store n 4

@@ -8,6 +8,7 @@ ghost use Rattle.probe_places.specs.Places.{placeSize, placeHead, placeL
 ghost use Rattle.probe_places.specs.Readings.{placedRefusal, numberOf, placedPart, PlacedRead};
 use bcn_spec::Answer;
 use bcn_spec::Block;
+use raw_bytes::u16_at;
 
 // Where a record stands: face 0 to 5, or 255 where it is not placed.
 pub struct Place {
@@ -111,19 +112,12 @@ impl Fault {
     }
 }
 
-fn wide(byte: u8) -> u16
-    ensures { λ r. ⌜ (r ≡ byte) × (r < 256) ⌝ }
-{
-    byte as u16
-}
-
 // Two bytes of record n, low byte first.
 fn pair_at(store: &[u8], n: usize, k: usize) -> u16
     requires { ⌜ (n < placesIn (now store)) × (k < 16) ⌝ }
     ensures { λ r. ⌜ r ≡ pairAt (now (store .entry)) n k ⌝ }
 {
-    let at = n * Place::SIZE;
-    wide(store[at + k]) + wide(store[at + (k + 1)]) * 0x100
+    u16_at(store, n * Place::SIZE + k)
 }
 
 // The tile number of record n, whatever else the record holds.

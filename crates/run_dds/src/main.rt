@@ -9,7 +9,8 @@ use bcn_spec::Answer;
 use dds::DdsRead;
 use libc::STDIN_FILENO;
 use libc::STDOUT_FILENO;
-use text::same_bytes;
+use raw_bytes::same_bytes;
+use raw_bytes::u32_at;
 ghost use mathlib.Core.Path.{_≡_};
 ghost use Prim.Native.Nat.{_/_, _%_, _≤_};
 ghost use Rattle.dds.specs.Dds.{sizeLimit, sizedRefusal, readAt};
@@ -17,6 +18,9 @@ ghost use Rattle.run_dds.specs.Told.{reportOf};
 
 // The most bytes that blocks have.
 const MOST: usize = 16777216;
+
+// The letters of --make.
+const MAKE: usize = 6;
 
 // The bytes of a wish.
 const WISH: usize = 9;
@@ -100,19 +104,17 @@ fn make_file() {
     let mut wish = [0u8; WISH];
     let got = io::read_full(STDIN_FILENO, &mut wish);
     if got == WISH {
-        grant_wish(
-            wish[0],
-            dds::word(&wish, 1),
-            dds::word(&wish, 5),
-            count_rest(),
-        );
+        grant_wish(wish[0], u32_at(&wish, 1), u32_at(&wish, 5), count_rest());
     }
 }
 
 fn is_make() -> bool {
     let mut word = [0u8; 8];
     let size = os::arg(1, &mut word);
-    same_bytes(&word[..size], b"--make")
+    if size != MAKE {
+        return false;
+    }
+    same_bytes(&word[..size], b"--make", size)
 }
 
 fn main() {

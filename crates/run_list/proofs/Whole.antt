@@ -5,9 +5,9 @@ use mathlib.Core.List.{List}
 use Prim.Native.Nat.{ℕ, zero, suc}
 use lib.ListN.{length}
 use Rattle.bcn_spec.specs.Answers.{done}
-use Rattle.store_records.specs.Store.{recordsIn}
+use Rattle.store_records.specs.Store.{recordsIn, mostRecords}
 use Rattle.store_spec.specs.declared.TwinList.{TwinList}
-use Rattle.store_spec.specs.Twins.{mostRecords, listRefusal, answerAt, Listed}
+use Rattle.store_spec.specs.Twins.{listRefusal, answerAt, Listed}
 use Rattle.store_spec.proofs.Listing as listed
 use Rattle.store_strict.specs.Strict.{StrictlyListed}
 use Rattle.store_strict.proofs.Strictness as strictly

@@ -5,17 +5,19 @@ ghost use mathlib.Core.Path.{_≡_};
 ghost use Prim.Native.Nat.{_+_, _*_, _≤_};
 ghost use lib.ListN.{length};
 ghost use Rattle.bcn_spec.specs.Answers.{done};
-ghost use Rattle.store_spec.specs.Twins.{mostRecords, Listed};
+ghost use Rattle.store_records.specs.Store.{mostRecords};
+ghost use Rattle.store_spec.specs.Twins.{Listed};
 ghost use Rattle.text.specs.Text.{Written};
 ghost use Rattle.run_list.specs.Listing.{listingRefusal, listingOf};
 use bcn_spec::Answer;
+use raw_bytes::same_bytes;
 use run_streams::Input;
 use run_streams::StoreInput;
 use run_streams::first_bytes;
 use run_streams::read_input;
 use run_streams::tell;
 use run_streams::write_text;
-use store_records::Record;
+use store_records::record_count;
 use store_spec::TwinList;
 use store_strict::first_damaged;
 use store_strict::strict_twin_list;
@@ -23,20 +25,13 @@ use store_twins::twin_list;
 use text::put;
 use text::put_count;
 use text::put_refusal;
-use text::same_bytes;
 use text_list::put_counts;
 use text_list::put_records;
 
-struct Listing {
-    end: usize,
-}
+// The most bytes of a line, and the room for a line a record and one more.
+const LINE: usize = 128;
 
-impl Listing {
-    // The most bytes of a line, and the room for a line a record and one more.
-    const LINE: usize = 128;
-
-    const ROOM: usize = (TwinList::RECORDS + 1) * Listing::LINE;
-}
+const ROOM: usize = (TwinList::RECORDS + 1) * LINE;
 
 fn list_records(store: &[u8], marks: &mut [u8], strict: bool) -> TwinList
     requires { ⌜ length (now marks) ≡ mostRecords ⌝ }
@@ -67,13 +62,16 @@ fn put_listing(text: &mut [u8], store: &[u8], strict: bool) -> usize
 fn is_strict() -> bool {
     let mut word = [0u8; 8];
     let size = os::arg(1, &mut word);
-    same_bytes(&word[..size], b"--strict")
+    if size != 8 {
+        return false;
+    }
+    same_bytes(&word, b"--strict", 8)
 }
 
 // Which record is the first damaged one, on standard error.
 fn tell_damaged(store: &[u8]) {
     let first = first_damaged(store);
-    if first >= store.len() / Record::SIZE {
+    if first >= record_count(store) {
         return;
     }
     let mut text = [0u8; 64];
@@ -87,7 +85,7 @@ fn main() {
     let Input::Whole(size) = read_input(&mut input) else {
         return;
     };
-    let mut text = [0u8; Listing::ROOM];
+    let mut text = [0u8; ROOM];
     let strict = is_strict();
     let store = first_bytes(&input, size);
     let end = put_listing(&mut text, store, strict);

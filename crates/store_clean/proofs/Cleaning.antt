@@ -78,12 +78,12 @@ module _ (store lent : List ℕ) where
   cleaned-refused zero a z e = absurd (z refl)
   cleaned-refused (suc k) a z e = let s = sym a in record { answers = rw s e; holds = rw s }
 
-  pub cleaned-done : {after : List ℕ} {n kept : ℕ} → cleanRefusal (length store) (length lent) ≡ done → SoFar store lent after n kept
-      → recordsIn store ≤ n → CleanedInto store lent (record { answer = done; kept = kept; removed = recordsIn store - kept }) after
-  cleaned-done {after} {n} {kept} a s l =
+  pub cleaned-done : {after : List ℕ} {count n kept : ℕ} → count ≡ recordsIn store → cleanRefusal (length store) (length lent) ≡ done → SoFar store lent after n kept
+      → recordsIn store ≤ n → CleanedInto store lent (record { answer = done; kept = kept; removed = count - kept }) after
+  cleaned-done {after} {count} {n} {kept} c a s l =
       let q : n ≡ recordsIn store = omega (arith, s .inside) in
       let k : kept ≡ stayCount store = s .counted ∙ ap (staying (goes store)) q in
-      let g : recordsIn store - kept ≡ goneCount store = omega (arith, staying-adds (goes store) (recordsIn store)) in
+      let g : count - kept ≡ goneCount store = omega (arith, c, staying-adds (goes store) (recordsIn store)) in
       record {
         answers = ap₂ (λ (x y : ℕ). record { answer = done; kept = x; removed = y }) k g ∙ rw a;
         holds = rw a (s .written ∙ ap₂ (λ (m x : ℕ). left (goes store) store m ++ drop (x * recordSize) lent) q k);

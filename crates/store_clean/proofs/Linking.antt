@@ -18,6 +18,7 @@ use Rattle.bcn_spec.specs.Bits.{blockSize}
 use Rattle.store_records.specs.Store.{recordsIn, formatOf, blockOf, Unrefused}
 use Rattle.store_spec.specs.Shown.{Reserved, isRecord}
 use Rattle.store_spec.proofs.Shown.{is-record, is-refused}
+use Rattle.store_spec.specs.Scratch.{mixedOn}
 use Rattle.store_clean.specs.Clean.{Repeats, repeats, firstOf, goes}
 use Rattle.store_clean.specs.Links.{bucketCount, mixedUpto, bucketOf, bucketAt, isOf, lastOf, Linked, Met}
 use Rattle.store_clean.proofs.Repeating.{repeats-means, repeats-so, refused-stays, reserved-stays, goes-first, first-repeated, goes-by}
@@ -28,10 +29,10 @@ pub mixed-none : (format : ℕ) (block : List ℕ) (k : ℕ) → k ≡ format �
 unfolding mixedUpto
 mixed-none format block k e = rw e
 
-pub mixed-more : (format : ℕ) (block : List ℕ) (k mix byte : ℕ) → mix ≡ mixedUpto format block k → byte ≡ getD block k 0
-    → mix % 0x10000000000 * 0x9E3779 + byte ≡ mixedUpto format block (k + 1)
+pub mixed-more : (format : ℕ) (block : List ℕ) (k mix on byte : ℕ) → mix ≡ mixedUpto format block k → on ≡ mixedOn mix → byte ≡ getD block k 0
+    → on + byte ≡ mixedUpto format block (k + 1)
 unfolding mixedUpto
-mixed-more format block k mix byte p b = rw (add-one k, p, b)
+mixed-more format block k mix on byte p o b = rw (add-one k, o, p, b)
 
 pub bucket-is : (format : ℕ) (block : List ℕ) {mix : ℕ} → mix ≡ mixedUpto format block blockSize → mix / 0x1000000 % bucketCount ≡ bucketOf format block
 unfolding bucketOf

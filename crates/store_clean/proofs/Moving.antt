@@ -1,15 +1,15 @@
 -- A record in another store: whatever its 24 bytes decide is the same there. And so no record of a cleaned store goes.
 -- Assumes nothing.
 use mathlib.Core.Path.{_≡_, sym, _∙_, ap}
-use mathlib.Core.Bool.{false}
-use mathlib.Core.List.{List}
+use mathlib.Core.Bool.{false, not}
+use mathlib.Core.List.{List, [], _∷_}
 use Prim.Native.Nat.{ℕ, _*_, _%_, _≤_, _<_}
 use native.Mathlib.Omega.{arith}
 use lib.Dec.{ltb}
 use lib.ListN.{length, getD, take, drop, length-drop}
 use lib.Seq.{take-all, take-add, take-take, drop-at, drop-drop, length-take-le}
 use borrow.Author.Tests.{lt-ltb, le-ltb, eq-eqb, ltb-true, ltb-false}
-use Rattle.laws.specs.Pick.{pick}
+use Rattle.laws.specs.Checks.{firstMet}
 use Rattle.laws.proofs.Tests.{cases}
 use Rattle.laws.proofs.Sameness.{true-false, not-so}
 use Rattle.bcn_spec.specs.Answers.{done, badFormat, spareByte}
@@ -27,7 +27,7 @@ pub record Sized (store : List ℕ) : Type 0 where
   pub even : length store % recordSize ≡ 0
 
 sized-refusal : (store : List ℕ) (n : ℕ) → Sized store → n < recordsIn store
-    → recordRefusal store n ≡ pick (ltb 1 (formatOf store n)) badFormat (pick (spareZero store n) done spareByte)
+    → recordRefusal store n ≡ firstMet ((ltb 1 (formatOf store n), badFormat) ∷ (not (spareZero store n), spareByte) ∷ [])
 unfolding recordRefusal
 sized-refusal store n s h = rw (le-ltb _ _ (s .fits), eq-eqb _ _ (s .even), lt-ltb _ _ h)
 

@@ -10,6 +10,7 @@ use Rattle.laws.specs.Pick.{pick, both}
 use Rattle.bcn_spec.specs.Bits.{blockSize}
 use Rattle.store_records.specs.Store.{formatOf, blockOf, Unrefused}
 use Rattle.store_spec.specs.Shown.{isRecord}
+use Rattle.store_spec.specs.Scratch.{mixedOn}
 use Rattle.store_clean.specs.Clean.{repeats, goes}
 
 abbrev pub bucketCount : ℕ
@@ -18,7 +19,7 @@ bucketCount = 2048
 -- a number made of the format and the first bytes; that records with one bucket are the same is nowhere used
 unfoldable pub mixedUpto : ℕ → List ℕ → ℕ → ℕ
 mixedUpto format block zero = format + 1
-mixedUpto format block (suc k) = mixedUpto format block k % 0x10000000000 * 0x9E3779 + getD block k 0
+mixedUpto format block (suc k) = mixedOn (mixedUpto format block k) + getD block k 0
 
 -- eleven bits of it, to which every byte comes
 unfoldable pub bucketOf : ℕ → List ℕ → ℕ

@@ -5,19 +5,23 @@ ghost use mathlib.Core.Path.{_≡_};
 ghost use Prim.Native.Nat.{_+_, _*_, _≤_, _<_};
 ghost use lib.ListN.{length};
 ghost use lib.Seq.{paste};
-ghost use Rattle.laws.specs.Every.{same};
 ghost use Rattle.bcn_spec.specs.Bits.{blockSize};
-ghost use Rattle.store_records.specs.Store.{recordSize, recordsIn};
+ghost use Rattle.store_records.specs.Store.{recordSize, recordsIn, mostRecords};
 ghost use Rattle.store_clean.specs.Clean.{repeats, firstOf, recordOf, refusal, CleanedInto};
 ghost use Rattle.store_clean.specs.Links.{bucketCount, mixedUpto, bucketOf, Linked, Met};
 use bcn_spec::Answer;
 use bcn_spec::Block;
 use raw_bytes::copy_part;
+use raw_bytes::same_bytes;
+use raw_bytes::u8_to_u64;
+use raw_bytes::u16_to_usize;
 use store_marks::list_refusal;
 use store_records::Record;
 use store_records::RecordReading;
 use store_records::record_at;
 use store_records::record_block;
+use store_records::record_count;
+use store_scratch::mixed_on;
 use store_scratch::mode_at;
 use store_spec::TwinList;
 
@@ -43,32 +47,14 @@ impl Cleaned {
     }
 }
 
-fn same_block(a: &[u8], b: &[u8]) -> bool
-    requires { ⌜ (length (now a) ≡ blockSize) × (length (now b) ≡ blockSize) ⌝ }
-    ensures { λ r. ⌜ r ≡ same (now (a .entry)) (now (b .entry)) ⌝ }
-{
-    for k in 0..Block::SIZE {
-        if a[k] != b[k] {
-            return false;
-        }
-    }
-    true
-}
-
-fn wide(byte: u8) -> u64
-    ensures { λ r. ⌜ (r ≡ byte) × (r < 256) ⌝ }
-{
-    byte as u64
-}
-
 // A number that records of another format or with other bytes seldom share.
 fn mixed(format: u8, block: &[u8]) -> u64
     requires { ⌜ length (now block) ≡ blockSize ⌝ }
     ensures { λ r. ⌜ r ≡ mixedUpto format (now (block .entry)) blockSize ⌝ }
 {
-    let mut mix: u64 = wide(format) + 1;
+    let mut mix: u64 = u8_to_u64(format) + 1;
     for k in 0..Block::SIZE {
-        mix = mix % 0x10000000000 * 0x9E3779 + wide(block[k]);
+        mix = mixed_on(mix) + u8_to_u64(block[k]);
     }
     mix
 }
@@ -82,11 +68,11 @@ fn bucket_of(format: u8, block: &[u8]) -> usize
 
 // Of each record that is not refused the last one before it of the same bucket, plus one; 0 where there is none.
 pub fn link_records(store: &[u8], links: &mut [u16])
-    requires { ⌜ recordsIn (now store) ≤ 2000 ⌝ }
+    requires { ⌜ recordsIn (now store) ≤ mostRecords ⌝ }
     requires { ⌜ recordsIn (now store) ≤ length (now links) ⌝ }
     ensures { λ _. ⌜ Linked (now (store .entry)) (recordsIn (now (store .entry))) (now (links .exit)) ⌝ }
 {
-    let count = store.len() / Record::SIZE;
+    let count = record_count(store);
     let mut heads = [0u16; Cleaned::BUCKETS];
     for n in 0..count {
         let RecordReading::Record(found) = record_at(store, n) else {
@@ -115,7 +101,11 @@ pub fn is_repeat(store: &[u8], n: usize, earlier: usize) -> bool
     if mode == 0 {
         return false;
     }
-    same_block(record_block(store, n), record_block(store, earlier))
+    same_bytes(
+        record_block(store, n),
+        record_block(store, earlier),
+        Block::SIZE,
+    )
 }
 
 // The record that stays for record n where that is removed; n where it stays.
@@ -133,12 +123,6 @@ pub fn first_of(store: &[u8], n: usize) -> usize
     n
 }
 
-pub fn place(link: u16) -> usize
-    ensures { λ r. ⌜ r ≡ link ⌝ }
-{
-    link as usize
-}
-
 // An earlier record that record n repeats; n where there is none. A walk along the links, from the last record of its bucket to the first.
 pub fn repeated_along(store: &[u8], links: &[u16], n: usize) -> usize
     requires { ⌜ n < recordsIn (now store) ⌝ }
@@ -152,13 +136,13 @@ pub fn repeated_along(store: &[u8], links: &[u16], n: usize) -> usize
     if mode_at(store, n) == 0 {
         return n;
     }
-    let mut at = place(links[n]);
+    let mut at = u16_to_usize(links[n]);
     while at > 0 {
         let earlier = at - 1;
         if is_repeat(store, n, earlier) {
             return earlier;
         }
-        at = place(links[earlier]);
+        at = u16_to_usize(links[earlier]);
     }
     n
 }
@@ -188,7 +172,7 @@ pub fn clean_store(store: &[u8], out: &mut [u8]) -> Cleaned
     }
     let mut links = [0u16; TwinList::RECORDS];
     link_records(store, &mut links);
-    let count = store.len() / Record::SIZE;
+    let count = record_count(store);
     let mut kept: usize = 0;
     for n in 0..count {
         if repeated_along(store, &links, n) < n {

@@ -7,20 +7,21 @@ use native.Mathlib.Numerals.{add-one}
 use native.Mathlib.Omega.{arith}
 use lib.Dec.{eqb, ltb}
 use lib.ListN.{length}
-use borrow.Author.Tests.{lt-ltb, le-ltb, eq-eqb, ne-eqb, eqb-true, ltb-false}
+use borrow.Author.Tests.{lt-ltb, le-ltb, eq-eqb, ne-eqb, eqb-true, ltb-false, not-false}
 use Rattle.laws.specs.Pick.{pick}
 use Rattle.laws.proofs.Tests.{cases}
+use Rattle.laws.proofs.Checks.{none-met}
 use Rattle.bcn_spec.specs.Answers.{done, longStore, unevenStore, reservedBlock}
 use Rattle.bcn_spec.specs.Bits.{blockSize, numberOf}
 use Rattle.bc6h_spec.specs.Fields.{modeIn, modeOf}
-use Rattle.store_records.specs.Store.{recordRefusal, partAt}
+use Rattle.store_records.specs.Store.{recordRefusal, partAt, mostRecords}
 use Rattle.store_records.proofs.Refusals as plain
 use Rattle.store_records.proofs.Readings as plain-readings
 use Rattle.probe_places.specs.Places.{placeSize, placesIn}
 use Rattle.probe_places.specs.Readings.{placedRefusal, placedPart}
 use Rattle.probe_places.proofs.Readings as placed
 use Rattle.store_faulty.specs.declared.FaultCounts.{FaultCounts}
-use Rattle.store_faulty.specs.Faulty.{RecordForm, plainForm, placedForm, formOf, countIn, mostRecords, storeRefusal, isRefused, isDamaged, causeOf, howMany, countsOf, Counted}
+use Rattle.store_faulty.specs.Faulty.{RecordForm, plainForm, placedForm, formOf, countIn, storeChecks, storeRefusal, isRefused, isDamaged, causeOf, howMany, countsOf, Counted}
 
 -- ---- which form
 
@@ -58,13 +59,11 @@ module _ (form : RecordForm) (size : ℕ) where
 
   pub fits : storeRefusal form size ≡ done → size ≤ form .limit
   unfolding storeRefusal
-  fits z = cases (ltb (form .limit) size) (λ t. absurd (omega (arith, rw t at z))) (λ f. ltb-false _ _ f)
+  fits z = ltb-false _ _ (none-met (storeChecks form size) tt z .0)
 
   pub even : storeRefusal form size ≡ done → size % form .size ≡ 0
   unfolding storeRefusal
-  even z =
-      cases (ltb (form .limit) size) (λ t. absurd (omega (arith, rw t at z)))
-      (λ f. cases (eqb (size % form .size) 0) (λ t. eqb-true _ _ t) (λ u. absurd (omega (arith, rw (f, u) at z))))
+  even z = eqb-true _ _ (not-false _ (none-met (storeChecks form size) tt z .1 .0))
 
 pub few-records : (byte : ℕ) (store : List ℕ) → storeRefusal (formOf byte) (length store) ≡ done → countIn (formOf byte) store ≤ mostRecords
 few-records byte store z =

@@ -1,11 +1,12 @@
 -- Which records of a store are faulty, and why: one definition for both forms of a record. Assumes nothing.
 use mathlib.Core.Path.{_≡_}
 use mathlib.Core.Bool.{Bool, not}
-use mathlib.Core.List.{List}
+use mathlib.Core.List.{List, [], _∷_}
 use Prim.Native.Nat.{ℕ, zero, suc, _+_, _/_, _%_, _≤_}
 use lib.Dec.{eqb, ltb}
 use lib.ListN.{length}
 use Rattle.laws.specs.Pick.{pick, both}
+use Rattle.laws.specs.Checks.{firstMet}
 use Rattle.bcn_spec.specs.Answers.{done, longStore, unevenStore, reservedBlock}
 use Rattle.bc6h_spec.specs.Fields.{modeOf}
 use Rattle.store_records.specs.Store.{recordSize, storeLimit, recordRefusal, tileAt, blockOf}
@@ -34,13 +35,12 @@ formOf byte = pick (eqb byte placeSize) placedForm plainForm
 abbrev pub countIn : RecordForm → List ℕ → ℕ
 countIn form store = length store / form .size
 
--- the most records of a store, of either form
-abbrev pub mostRecords : ℕ
-mostRecords = 2000
-
 -- 5, then 6: of a store's size
+abbrev pub storeChecks : RecordForm → ℕ → List (Bool × ℕ)
+storeChecks form size = (ltb (form .limit) size, longStore) ∷ (not (eqb (size % form .size) 0), unevenStore) ∷ []
+
 unfoldable pub storeRefusal : RecordForm → ℕ → ℕ
-storeRefusal form size = pick (ltb (form .limit) size) longStore (pick (eqb (size % form .size) 0) done unevenStore)
+storeRefusal form size = firstMet (storeChecks form size)
 
 -- the record call refuses record n
 unfoldable pub isRefused : RecordForm → List ℕ → ℕ → Bool

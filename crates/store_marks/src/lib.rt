@@ -16,6 +16,7 @@ use bcn_spec::Answer;
 use store_records::Record;
 use store_records::RecordReading;
 use store_records::record_at;
+use store_records::record_count;
 use store_scratch::mode_at;
 use store_scratch::picture_in;
 use store_spec::Mark;
@@ -59,7 +60,7 @@ fn kept_alike(store: &[u8], scratch: &[u16], n: usize, format: u8, earlier: usiz
     if !holds_picture(store, earlier, format) {
         return false;
     }
-    let count = store.len() / Record::SIZE;
+    let count = record_count(store);
     same_picture(
         picture_in(scratch, count, earlier),
         picture_in(scratch, count, n),
@@ -73,7 +74,7 @@ pub fn mark_records(store: &[u8], scratch: &[u16], marks: &mut [u8])
     requires { ⌜ Kept (now store) (now scratch) ⌝ }
     ensures { λ _. ⌜ now (marks .exit) ≡ marksOf (now (store .entry)) ++ drop (recordsIn (now (store .entry))) (now (marks .entry)) ⌝ }
 {
-    let count = store.len() / Record::SIZE;
+    let count = record_count(store);
     for n in 0..count {
         let RecordReading::Record(found) = record_at(store, n) else {
             marks[n] = Mark::BAD;
@@ -121,7 +122,7 @@ pub fn list_refusal(store: &[u8], room: usize) -> u8
     if store.len() % Record::SIZE != 0 {
         return Answer::UNEVEN_STORE;
     }
-    if room < store.len() / Record::SIZE {
+    if room < record_count(store) {
         return Answer::SHORT_OUTPUT;
     }
     Answer::DONE

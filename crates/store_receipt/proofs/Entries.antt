@@ -12,6 +12,7 @@ use lib.ListN.{length, getD, take, drop, length-append, length-drop}
 use lib.Seq.{take-all, drop-at, take-append-le, drop-append-le, getD-take, getD-drop}
 use Rattle.laws.specs.Pick.{pick}
 use Rattle.laws.proofs.Tests.{cases}
+use Rattle.raw_bytes.specs.Bytes.{lowFirst}
 use Rattle.store_records.specs.Store.{recordsIn, byteOf}
 use Rattle.store_clean.specs.Clean.{firstOf, goes, going, goneCount}
 use Rattle.store_receipt.specs.Receipt.{entrySize, low, high, entryOf, entriesIn, entryByte, numberAt, staysAt, receiptUpto, receiptOf}
@@ -121,18 +122,20 @@ module _ (store : List ℕ) where
         ∙ ap (λ (x : List ℕ). getD x k 0) (entry-there (recordsIn store) n h t)
 
     pub number-told : numberAt (receiptOf store) (going (goes store) n) ≡ n
-    unfolding entryOf
+    unfolding entryOf lowFirst
     number-told =
         let a : entryByte (receiptOf store) (going (goes store) n) 0 ≡ low n = at-byte 0 (lit< tt) in
         let b : entryByte (receiptOf store) (going (goes store) n) 1 ≡ high n = at-byte 1 (lit< tt) in
         omega arith
 
     pub stays-told : staysAt (receiptOf store) (going (goes store) n) ≡ firstOf store n
-    unfolding entryOf
+    unfolding entryOf lowFirst
     stays-told =
+        let i : going (goes store) n * entrySize + 2 + 0 ≡ going (goes store) n * entrySize + 2 = omega arith in
+        let j : going (goes store) n * entrySize + 2 + 1 ≡ going (goes store) n * entrySize + 3 = omega arith in
         let a : entryByte (receiptOf store) (going (goes store) n) 2 ≡ low (firstOf store n) = at-byte 2 (lit< tt) in
         let b : entryByte (receiptOf store) (going (goes store) n) 3 ≡ high (firstOf store n) = at-byte 3 (lit< tt) in
-        omega arith
+        rw (i, j) (omega arith)
 
     pub tile-told : (k : ℕ) → k < 4 → entryByte (receiptOf store) (going (goes store) n) (4 + k) ≡ byteOf store n k
     unfolding entryOf

@@ -8,8 +8,8 @@ use lib.ListN.{length, take, drop, set, replicate, length-set, length-replicate}
 use lib.Seq.{take-at, paste, length-paste}
 use Rattle.laws.proofs.Pasting.{pasted}
 use Rattle.bcn_spec.specs.Answers.{done}
-use Rattle.store_records.specs.Store.{recordSize, storeLimit, recordsIn}
-use Rattle.store_spec.specs.Twins.{mostRecords, listRefusal}
+use Rattle.store_records.specs.Store.{recordSize, storeLimit, recordsIn, mostRecords}
+use Rattle.store_spec.specs.Twins.{listRefusal}
 use Rattle.store_spec.proofs.Listing.{Whole, whole-when, fine}
 use Rattle.store_clean.specs.declared.Cleaned.{Cleaned}
 use Rattle.store_clean.specs.Clean.{firstOf, goes, recordOf, staying, going, goneCount, cleanRefusal, refusal, answerAt, CleanedInto}
@@ -144,12 +144,12 @@ module _ (store lent paper : List ℕ) where
   receipt-refused zero a z e = absurd (z refl)
   receipt-refused (suc k) a z e = let s = sym a in record { answers = rw s e; holds = rw s; tells = rw s }
 
-  pub receipt-done : {after written firsts : List ℕ} {n kept : ℕ} → receiptRefusal (length store) (length lent) (length paper) ≡ done
+  pub receipt-done : {after written firsts : List ℕ} {count n kept : ℕ} → count ≡ recordsIn store → receiptRefusal (length store) (length lent) (length paper) ≡ done
       → Telling store lent paper after written firsts n kept → recordsIn store ≤ n
-      → ReceiptInto store lent paper (record { answer = done; kept = kept; removed = recordsIn store - kept }) after written
-  receipt-done {after} {written} {firsts} {n} {kept} z s l =
+      → ReceiptInto store lent paper (record { answer = done; kept = kept; removed = count - kept }) after written
+  receipt-done {after} {written} {firsts} {count} {n} {kept} c z s l =
       let u = roomy-by (length store) (length lent) (length paper) z .unrefused in
-      let d = cleaned-done store lent u (s .cleaned) l in
+      let d = cleaned-done store lent c u (s .cleaned) l in
       let q : n ≡ recordsIn store = omega (arith, s .cleaned .inside) in
       let g : n - kept ≡ goneCount store =
       omega (arith, q, s .cleaned .counted ∙ ap (staying (goes store)) q, staying-adds (goes store) (recordsIn store)) in

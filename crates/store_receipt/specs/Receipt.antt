@@ -5,8 +5,9 @@ use Prim.Native.Nat.{ℕ, zero, suc, _+_, _*_, _/_, _%_, _≤_, _<_}
 use lib.ListN.{length, getD, take, drop}
 use Rattle.laws.specs.Pick.{pick}
 use Rattle.bcn_spec.specs.Answers.{done}
-use Rattle.store_records.specs.Store.{recordsIn, byteOf}
-use Rattle.store_spec.specs.Twins.{mostRecords, listRefusal, firstMet}
+use Rattle.raw_bytes.specs.Bytes.{lowFirst}
+use Rattle.store_records.specs.Store.{recordsIn, byteOf, mostRecords}
+use Rattle.store_spec.specs.Twins.{listRefusal, firstRefusal}
 use Rattle.store_clean.specs.declared.Cleaned.{Cleaned}
 use Rattle.store_clean.specs.Clean.{firstOf, goes, goneCount, cleanRefusal, answerAt, bytesAt, CleanedInto}
 use Rattle.store_clean.specs.Links.{Linked}
@@ -39,10 +40,10 @@ abbrev pub entryByte : List ℕ → ℕ → ℕ → ℕ
 entryByte receipt e k = getD receipt (e * entrySize + k) 0
 
 abbrev pub numberAt : List ℕ → ℕ → ℕ
-numberAt receipt e = entryByte receipt e 0 + entryByte receipt e 1 * 0x100
+numberAt receipt e = lowFirst receipt (e * entrySize) 2
 
 abbrev pub staysAt : List ℕ → ℕ → ℕ
-staysAt receipt e = entryByte receipt e 2 + entryByte receipt e 3 * 0x100
+staysAt receipt e = lowFirst receipt (e * entrySize + 2) 2
 
 abbrev pub entryAt : List ℕ → ℕ → Entry
 entryAt receipt e = record { number = numberAt receipt e; stays = staysAt receipt e }
@@ -65,7 +66,7 @@ receiptOf store = receiptUpto store (recordsIn store)
 
 -- 5, 6 and 3 as for the clean-up; 3 also where the receipt's room is below 8 bytes a record of the store, since how many go is not known before
 unfoldable pub receiptRefusal : ℕ → ℕ → ℕ → ℕ
-receiptRefusal size room paper = firstMet (cleanRefusal size room) (listRefusal size (paper / entrySize))
+receiptRefusal size room paper = firstRefusal (cleanRefusal size room) (listRefusal size (paper / entrySize))
 
 -- the receipt at the front of the lent bytes, whose rest stays as it was; a refusal changes no byte
 abbrev pub paperAt : ℕ → List ℕ → List ℕ → List ℕ

@@ -9,13 +9,15 @@ ghost use Rattle.store_clean.specs.Clean.{firstOf};
 ghost use Rattle.store_receipt.specs.Receipt.{entriesIn, entrySize, entryOf, entryAt, receiptRefusal, ReceiptInto, Walk, Tells};
 use bcn_spec::Answer;
 use raw_bytes::copy_part;
+use raw_bytes::u16_at;
+use raw_bytes::u16_to_usize;
 use store_clean::Cleaned;
 use store_clean::copy_record;
 use store_clean::link_records;
-use store_clean::place;
 use store_clean::repeated_along;
 use store_marks::list_refusal;
 use store_records::Record;
+use store_records::record_count;
 use store_spec::TwinList;
 
 // An entry without its tile: the number of a removed record, and of the record that stays for it.
@@ -35,21 +37,16 @@ impl Entry {
     pub const REST: usize = Record::SIZE - Entry::TILE;
 }
 
-fn wide(byte: u8) -> usize
-    ensures { λ r. ⌜ (r ≡ byte) × (r < 256) ⌝ }
-{
-    byte as usize
-}
-
 // Entry e of a receipt.
 pub fn entry_at(receipt: &[u8], e: usize) -> Entry
     requires { ⌜ e < entriesIn (now receipt) ⌝ }
     ensures { λ r. ⌜ r ≡ entryAt (now (receipt .entry)) e ⌝ }
 {
     let at = e * Entry::SIZE;
-    let number = wide(receipt[at]) + wide(receipt[at + 1]) * 0x100;
-    let stays = wide(receipt[at + 2]) + wide(receipt[at + 3]) * 0x100;
-    Entry { number, stays }
+    Entry {
+        number: u16_to_usize(u16_at(receipt, at)),
+        stays: u16_to_usize(u16_at(receipt, at + 2)),
+    }
 }
 
 // The number of the refusal, or done; `room` and `paper` are the bytes lent for the cleaned store and for the receipt.
@@ -73,7 +70,7 @@ fn first_along(store: &[u8], links: &[u16], firsts: &[u16], n: usize) -> usize
     if earlier >= n {
         return n;
     }
-    place(firsts[earlier])
+    u16_to_usize(firsts[earlier])
 }
 
 fn entry_of(store: &[u8], n: usize, first: usize) -> [u8; 8]
@@ -113,7 +110,7 @@ pub fn clean_with_receipt(store: &[u8], out: &mut [u8], receipt: &mut [u8]) -> C
     let mut links = [0u16; TwinList::RECORDS];
     link_records(store, &mut links);
     let mut firsts = [0u16; TwinList::RECORDS];
-    let count = store.len() / Record::SIZE;
+    let count = record_count(store);
     let mut kept: usize = 0;
     for n in 0..count {
         let first = first_along(store, &links, &firsts, n);

@@ -6,11 +6,12 @@ use Prim.Native.Nat.{ℕ, _+_, _*_, _/_, _%_, _≤_, _<_}
 use native.Mathlib.Omega.{arith}
 use lib.Dec.{eqb, ltb}
 use lib.ListN.{length, getD, length-take, length-drop}
-use borrow.Author.Tests.{lt-ltb, le-ltb, eq-eqb, ne-eqb, ltb-true, ltb-false, eqb-true, eqb-false}
+use borrow.Author.Tests.{lt-ltb, le-ltb, eq-eqb, ne-eqb, ltb-true, ltb-false, eqb-true, eqb-false, not-false}
 use Rattle.laws.proofs.Tests.{cases, both-true}
+use Rattle.laws.proofs.Checks.{none-met}
 use Rattle.bcn_spec.specs.Answers.{done, badFormat, longStore, unevenStore, spareByte, noRecord}
 use Rattle.bcn_spec.specs.Bits.{IsBlock, blockSize}
-use Rattle.store_records.specs.Store.{recordSize, storeLimit, recordsIn, byteOf, formatOf, spareZero, blockOf, recordRefusal, Unrefused}
+use Rattle.store_records.specs.Store.{recordSize, storeLimit, recordsIn, byteOf, formatOf, spareZero, blockOf, recordChecks, recordRefusal, Unrefused}
 
 module _ (store : List ℕ) (n : ℕ) where
   pub long : storeLimit < length store → recordRefusal store n ≡ longStore
@@ -59,13 +60,13 @@ pub record Known (store : List ℕ) (n : ℕ) : Type 0 where
 pub known : (store : List ℕ) (n : ℕ) → Unrefused store n → Known store n
 unfolding recordRefusal
 known store n z =
-    cases (ltb storeLimit (length store)) (λ t. absurd (omega (arith, rw t at z)))
-    (λ a. cases (eqb (length store % recordSize) 0)
-    (λ b. cases (ltb n (recordsIn store))
-    (λ d. cases (ltb 1 (formatOf store n)) (λ t. absurd (omega (arith, rw (a, b, d, t) at z)))
-    (λ f. record { fits = ltb-false _ _ a; whole = eqb-true _ _ b; below = ltb-true _ _ d; small = ltb-false _ _ f }))
-    (λ t. absurd (omega (arith, rw (a, b, t) at z))))
-    (λ t. absurd (omega (arith, rw (a, t) at z))))
+    let none = none-met (recordChecks store n) tt z in
+    record {
+      fits = ltb-false _ _ (none .0);
+      whole = eqb-true _ _ (not-false _ (none .1 .0));
+      below = ltb-true _ _ (not-false _ (none .1 .1 .0));
+      small = ltb-false _ _ (none .1 .1 .1 .0);
+    }
 
 -- a record's block has sixteen bytes
 pub block-length : {store : List ℕ} {n : ℕ} → Known store n → length (blockOf store n) ≡ blockSize
@@ -75,10 +76,7 @@ block-length k = simp (length-take, length-drop) (omega arith)
 -- the three spare bytes of a record that is not refused are zero
 spares : (store : List ℕ) (n : ℕ) → Unrefused store n → spareZero store n ≡ true
 unfolding recordRefusal
-spares store n z =
-    let k = known store n z in
-    cases (spareZero store n) (λ t. t)
-    (λ f. absurd (omega (arith, rw (le-ltb _ _ (k .fits), eq-eqb _ _ (k .whole), lt-ltb _ _ (k .below), le-ltb _ _ (k .small), f) at z)))
+spares store n z = not-false _ (none-met (recordChecks store n) tt z .1 .1 .1 .1 .0)
 
 pub spare-is : (store : List ℕ) (n k : ℕ) → Unrefused store n → 5 ≤ k → k < 8 → byteOf store n k ≡ 0
 spare-is store n k z l h =

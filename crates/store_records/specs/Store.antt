@@ -1,13 +1,15 @@
 -- A store is a list of bytes, a record every 24 of them. What the record call and the block call answer. Assumes nothing.
 use mathlib.Core.Path.{_≡_}
-use mathlib.Core.Bool.{Bool}
+use mathlib.Core.Bool.{Bool, not}
 use mathlib.Core.List.{List, [], _∷_}
 use Prim.Native.Nat.{ℕ, zero, suc, _+_, _*_, _/_, _%_}
 use lib.Dec.{eqb, ltb}
 use lib.ListN.{length, getD, take, drop}
 use Rattle.laws.specs.Pick.{pick, both}
+use Rattle.laws.specs.Checks.{firstMet}
 use Rattle.bcn_spec.specs.Answers.{done, badFormat, longStore, unevenStore, spareByte, noRecord}
 use Rattle.bcn_spec.specs.Bits.{blockSize}
+use Rattle.raw_bytes.specs.Bytes.{lowFirst}
 use Rattle.store_records.specs.declared.RecordReading.{RecordReading}
 use Rattle.store_records.specs.declared.RecordReading.the-variants.{Record, Refused}
 
@@ -22,6 +24,10 @@ headSize = 8
 abbrev pub storeLimit : ℕ
 storeLimit = 48000
 
+-- the most records of a store, with or without a place
+abbrev pub mostRecords : ℕ
+mostRecords = 2000
+
 abbrev pub recordsIn : List ℕ → ℕ
 recordsIn store = length store / recordSize
 
@@ -30,7 +36,7 @@ abbrev pub byteOf : List ℕ → ℕ → ℕ → ℕ
 byteOf store n k = getD store (n * recordSize + k) 0
 
 unfoldable pub tileOf : List ℕ → ℕ → ℕ
-tileOf store n = byteOf store n 0 + byteOf store n 1 * 0x100 + byteOf store n 2 * 0x10000 + byteOf store n 3 * 0x1000000
+tileOf store n = lowFirst store (n * recordSize) 4
 
 abbrev pub formatOf : List ℕ → ℕ → ℕ
 formatOf store n = byteOf store n 4
@@ -47,12 +53,16 @@ unfoldable pub tileAt : List ℕ → ℕ → ℕ
 tileAt store n = pick (ltb n (recordsIn store)) (tileOf store n) 0
 
 -- "record by number: 5, 6, 8, 1, 7", "first met wins"
+abbrev pub recordChecks : List ℕ → ℕ → List (Bool × ℕ)
+recordChecks store n =
+    (ltb storeLimit (length store), longStore) ∷
+    (not (eqb (length store % recordSize) 0), unevenStore) ∷
+    (not (ltb n (recordsIn store)), noRecord) ∷
+    (ltb 1 (formatOf store n), badFormat) ∷
+    (not (spareZero store n), spareByte) ∷ []
+
 unfoldable pub recordRefusal : List ℕ → ℕ → ℕ
-recordRefusal store n =
-    pick (ltb storeLimit (length store)) longStore
-    (pick (eqb (length store % recordSize) 0)
-    (pick (ltb n (recordsIn store)) (pick (ltb 1 (formatOf store n)) badFormat (pick (spareZero store n) done spareByte)) noRecord)
-    unevenStore)
+recordRefusal store n = firstMet (recordChecks store n)
 
 -- the record call does not refuse n
 abbrev pub Unrefused : List ℕ → ℕ → Type 0

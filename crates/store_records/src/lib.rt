@@ -2,10 +2,10 @@
 
 ghost use mathlib.Core.Path.{_≡_};
 ghost use mathlib.Core.List.{[], _∷_};
-ghost use Prim.Native.Nat.{_<_};
-ghost use Rattle.store_records.specs.Store.{recordSize, headSize, storeLimit, tileAt, numberOf, partAt, recordRefusal, Read};
+ghost use Rattle.store_records.specs.Store.{recordSize, headSize, storeLimit, recordsIn, tileAt, numberOf, partAt, recordRefusal, Read};
 use bcn_spec::Answer;
 use bcn_spec::Block;
+use raw_bytes::u32_at;
 
 pub struct Record {
     pub tile: u32,
@@ -47,24 +47,21 @@ impl Record {
     }
 }
 
-fn wide(byte: u8) -> u32
-    ensures { λ r. ⌜ (r ≡ byte) × (r < 256) ⌝ }
+// How many records a store has.
+pub fn record_count(store: &[u8]) -> usize
+    ensures { λ r. ⌜ r ≡ recordsIn (now (store .entry)) ⌝ }
 {
-    byte as u32
+    store.len() / Record::SIZE
 }
 
 // The tile number of record n, whatever else the record holds; 0 where there is no such record.
 pub fn tile_at(store: &[u8], n: usize) -> u32
     ensures { λ r. ⌜ r ≡ tileAt (now (store .entry)) n ⌝ }
 {
-    if n >= store.len() / Record::SIZE {
+    if n >= record_count(store) {
         return 0;
     }
-    let at = n * Record::SIZE;
-    wide(store[at])
-        + wide(store[at + 1]) * 0x100
-        + wide(store[at + 2]) * 0x10000
-        + wide(store[at + 3]) * 0x1000000
+    u32_at(store, n * Record::SIZE)
 }
 
 // Record n of a store.
@@ -77,7 +74,7 @@ pub fn record_at(store: &[u8], n: usize) -> RecordReading
     if store.len() % Record::SIZE != 0 {
         return RecordReading::Refused(Answer::UNEVEN_STORE);
     }
-    if n >= store.len() / Record::SIZE {
+    if n >= record_count(store) {
         return RecordReading::Refused(Answer::NO_RECORD);
     }
     let at = n * Record::SIZE;

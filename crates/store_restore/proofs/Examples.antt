@@ -4,6 +4,7 @@ use mathlib.Core.List.{List, [], _∷_, _++_}
 use Prim.Native.Nat.{ℕ}
 use Rattle.laws.specs.First.{firstBelow}
 use Rattle.bc6h_spec.specs.Fields.{modeOf, modeIn}
+use Rattle.raw_bytes.specs.Bytes.{lowFirst}
 use Rattle.store_records.specs.Store.{recordRefusal, blockOf}
 use Rattle.store_clean.specs.Clean.{repeats, firstOf, goes, recordOf, left, staying, cleanedOf}
 use Rattle.store_receipt.specs.Receipt.{entryOf, receiptUpto, receiptOf}
@@ -36,9 +37,9 @@ unfolding receiptUpto goes firstOf firstBelow repeats recordRefusal modeOf modeI
 alike-receipt = refl
 
 apart-restored : restoredOf (zeroRecord 7 0 ++ zeroRecord 8 1) (2 ∷ 0 ∷ 0 ∷ 0 ∷ 9 ∷ 0 ∷ 0 ∷ 0 ∷ []) ≡ apart
-unfolding restoredUpto isTold entryFor firstBelow recordOf staying putBack
+unfolding restoredUpto isTold entryFor firstBelow recordOf staying putBack lowFirst
 apart-restored = refl
 
 alike-restored : restoredOf (zeroRecord 7 0) (1 ∷ 0 ∷ 0 ∷ 0 ∷ 8 ∷ 0 ∷ 0 ∷ 0 ∷ 2 ∷ 0 ∷ 0 ∷ 0 ∷ 9 ∷ 0 ∷ 0 ∷ 0 ∷ []) ≡ alike
-unfolding restoredUpto isTold entryFor firstBelow recordOf staying putBack
+unfolding restoredUpto isTold entryFor firstBelow recordOf staying putBack lowFirst
 alike-restored = refl

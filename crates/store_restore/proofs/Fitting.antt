@@ -1,6 +1,6 @@
 -- Laws of a receipt that fits: its checks one by one, and that its numbers rise. Assumes nothing.
 use mathlib.Core.Path.{_≡_, sym, _∙_, ap, ap₂}
-use mathlib.Core.Bool.{true, false, not}
+use mathlib.Core.Bool.{Bool, true, false, not}
 use mathlib.Core.List.{List}
 use Prim.Native.Nat.{ℕ, zero, suc, _+_, _-_, _*_, _%_, _≤_, _<_}
 use native.Mathlib.Nat.{add-zero, add-suc}
@@ -8,17 +8,17 @@ use native.Mathlib.Numerals.{add-one}
 use native.Mathlib.Omega.{arith}
 use lib.Dec.{eqb, ltb}
 use lib.ListN.{length}
-use borrow.Author.Tests.{lt-ltb, le-ltb, eq-eqb, ne-eqb, ltb-true, ltb-false, eqb-true, not-true}
+use borrow.Author.Tests.{lt-ltb, le-ltb, eq-eqb, ne-eqb, ltb-true, ltb-false, eqb-true, not-true, not-false}
 use Rattle.laws.specs.Every.{below}
 use Rattle.laws.proofs.Tests.{cases, both-true, below-at}
+use Rattle.laws.proofs.Checks.{none-met}
 use Rattle.laws.proofs.Search.{holds, is-true}
 use Rattle.laws.proofs.Below.{below-all, below-fails, below-upto}
 use Rattle.bcn_spec.specs.Answers.{done, shortOutput, longStore, unevenStore, badReceipt}
-use Rattle.store_records.specs.Store.{recordSize, storeLimit}
-use Rattle.store_spec.specs.Twins.{mostRecords}
+use Rattle.store_records.specs.Store.{recordSize, storeLimit, mostRecords}
 use Rattle.store_receipt.specs.declared.Entry.{Entry}
 use Rattle.store_receipt.specs.Receipt.{entrySize, entriesIn, numberAt, staysAt, entryAt}
-use Rattle.store_restore.specs.Restore.{totalOf, leastAt, entryFits, receiptFits, restoreRefusal}
+use Rattle.store_restore.specs.Restore.{totalOf, leastAt, entryFits, receiptFits, restoreChecks, restoreRefusal}
 
 -- ---- an entry
 
@@ -133,6 +133,9 @@ module _ (receipt : List ℕ) (total : ℕ) where
 
 -- ---- the call's checks
 
+pub fits-of : (receipt : List ℕ) (whole total : ℕ) {r : Bool} → r ≡ receiptFits receipt whole → whole ≡ total → r ≡ receiptFits receipt total
+fits-of receipt whole total d e = d ∙ ap (receiptFits receipt) e
+
 module _ (cleaned receipt : List ℕ) (room : ℕ) where
   pub long : storeLimit < length cleaned → restoreRefusal cleaned receipt room ≡ longStore
   unfolding restoreRefusal
@@ -172,20 +175,14 @@ module _ (cleaned receipt : List ℕ) (room : ℕ) where
   pub restorable : restoreRefusal cleaned receipt room ≡ done → Restorable
   unfolding restoreRefusal
   restorable z =
-      cases (ltb storeLimit (length cleaned)) (λ t. absurd (omega (arith, rw t at z)))
-      (λ a. cases (ltb mostRecords (totalOf cleaned receipt)) (λ t. absurd (omega (arith, rw (a, t) at z)))
-      (λ b. cases (eqb (length cleaned % recordSize) 0)
-      (λ d. cases (receiptFits receipt (totalOf cleaned receipt))
-      (λ f. cases (ltb room (totalOf cleaned receipt * recordSize)) (λ t. absurd (omega (arith, rw (a, b, d, f, t) at z)))
-      (λ g. record {
-        fits = ltb-false _ _ a;
-        few = ltb-false _ _ b;
-        even = eqb-true _ _ d;
-        whole = whole-receipt receipt (totalOf cleaned receipt) f;
-        room-for = ltb-false _ _ g;
-      }))
-      (λ t. absurd (omega (arith, rw (a, b, d, t) at z))))
-      (λ t. absurd (omega (arith, rw (a, b, t) at z)))))
+      let none = none-met (restoreChecks cleaned receipt room) tt z in
+      record {
+        fits = ltb-false _ _ (none .0);
+        few = ltb-false _ _ (none .1 .0);
+        even = eqb-true _ _ (not-false _ (none .1 .1 .0));
+        whole = whole-receipt receipt (totalOf cleaned receipt) (not-false _ (none .1 .1 .1 .0));
+        room-for = ltb-false _ _ (none .1 .1 .1 .1 .0);
+      }
 
 pub restorable-when : {cleaned receipt : List ℕ} {room number : ℕ} → number ≡ restoreRefusal cleaned receipt room → number ≡ done
     → Restorable cleaned receipt room

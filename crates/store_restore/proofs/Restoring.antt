@@ -283,12 +283,12 @@ module _ (cleaned receipt lent : List ℕ) where
   restored-refused zero a z e = absurd (z refl)
   restored-refused (suc k) a z e = let s = sym a in record { answers = rw s e; holds = rw s }
 
-  pub restored-done : {after : List ℕ} {n used : ℕ} → restoreRefusal cleaned receipt (length lent) ≡ done → Back cleaned receipt lent after n used
-      → totalOf cleaned receipt ≤ n → RestoredInto cleaned receipt lent (record { answer = done; records = totalOf cleaned receipt }) after
-  restored-done {after} {n} z b l =
+  pub restored-done : {after : List ℕ} {total n used : ℕ} → total ≡ totalOf cleaned receipt → restoreRefusal cleaned receipt (length lent) ≡ done → Back cleaned receipt lent after n used
+      → totalOf cleaned receipt ≤ n → RestoredInto cleaned receipt lent (record { answer = done; records = total }) after
+  restored-done {after} {total} {n} t z b l =
       let q : n ≡ totalOf cleaned receipt = omega (arith, b .inside) in
       record {
-        answers = rw z;
+        answers = rw (z, t);
         holds = rw z (b .written ∙ ap (λ (m : ℕ). restoredUpto cleaned receipt m ++ drop (m * recordSize) lent) q);
       }
 

@@ -4,18 +4,19 @@ use mathlib.Core.Bool.{true, false}
 use mathlib.Core.List.{List, _++_}
 use mathlib.Core.Logic.{inl, inr}
 use Prim.Native.Nat.{ℕ, _+_, _*_, _≤_, _<_}
+use native.Mathlib.Nat.{add-assoc}
 use native.Mathlib.Omega.{arith}
-use lib.Dec.{lit<}
-use lib.ListN.{length, drop, length-append}
+use lib.ListN.{length, getD, drop, length-append}
 use Rattle.laws.proofs.Tests.{cases}
 use Rattle.bcn_spec.specs.Answers.{done}
+use Rattle.raw_bytes.proofs.Bytes.{bytes-same}
 use Rattle.store_records.specs.Store.{recordSize, recordsIn, tileOf}
 use Rattle.store_clean.specs.declared.Cleaned.{Cleaned}
 use Rattle.store_clean.specs.Clean.{goes, staying, going, cleanedOf, CleanedInto}
 use Rattle.store_clean.proofs.Cleaning as cleaning
 use Rattle.store_clean.proofs.Moving.{Sized, Moved, byte-moved, cleaned-sized}
 use Rattle.store_clean.proofs.Theorems.{stays-in-order}
-use Rattle.store_receipt.specs.Receipt.{receiptOf, ReceiptInto}
+use Rattle.store_receipt.specs.Receipt.{entrySize, receiptOf, ReceiptInto}
 use Rattle.store_receipt.proofs.Entries.{going-less, tile-told}
 use Rattle.store_receipt.proofs.Telling as telling
 use Rattle.store_restore.specs.declared.Restored.{Restored}
@@ -70,7 +71,7 @@ taken store lent paper after written r d fits even room entries =
 
 tile-moved : {other store : List ℕ} {k n : ℕ} → Moved other store k n → tileOf other k ≡ tileOf store n
 unfolding tileOf
-tile-moved m = rw (byte-moved m 0 (lit< tt), byte-moved m 1 (lit< tt), byte-moved m 2 (lit< tt), byte-moved m 3 (lit< tt))
+tile-moved {other} {store} {k} {n} m = bytes-same other store (k * recordSize) (n * recordSize) 4 (λ i l. byte-moved m i (omega arith))
 
 module _ {store lent after : List ℕ} {r : Cleaned} (d : CleanedInto store lent r after) (z : r .answer ≡ done) where
   room : r .kept * recordSize ≤ length after
@@ -86,7 +87,9 @@ module _ {store lent after : List ℕ} {r : Cleaned} (d : CleanedInto store lent
 entry-tile : (store : List ℕ) (n : ℕ) → n < recordsIn store → goes store n ≡ true → entryTile (receiptOf store) (going (goes store) n) ≡ tileOf store n
 unfolding tileOf
 entry-tile store n h t =
-    rw (tile-told store n h t 0 (lit< tt), tile-told store n h t 1 (lit< tt), tile-told store n h t 2 (lit< tt), tile-told store n h t 3 (lit< tt))
+    let e = going (goes store) n in
+    bytes-same (receiptOf store) store (e * entrySize + 4) (n * recordSize) 4
+    (λ k l. ap (λ (i : ℕ). getD (receiptOf store) i 0) (add-assoc (e * entrySize) 4 k) ∙ tile-told store n h t k l)
 
 in-receipt : (store receipt : List ℕ) (r : Cleaned) (n : ℕ) → receipt ≡ receiptOf store → r .removed ≡ going (goes store) (recordsIn store)
     → n < recordsIn store → goes store n ≡ true → (going (goes store) n < r .removed) × (entryTile receipt (going (goes store) n) ≡ tileOf store n)

@@ -1,17 +1,17 @@
 -- A store from its cleaned store and the receipt: which receipts fit, the bytes, and what the call answers. Assumes nothing.
 use mathlib.Core.Path.{_≡_}
 use mathlib.Core.Bool.{Bool, not}
-use mathlib.Core.List.{List, [], _++_}
+use mathlib.Core.List.{List, [], _∷_, _++_}
 use Prim.Native.Nat.{ℕ, zero, suc, _+_, _*_, _%_, _≤_, _<_}
 use lib.Dec.{eqb, ltb}
 use lib.ListN.{length, take, drop}
 use lib.Seq.{paste}
 use Rattle.laws.specs.Pick.{pick, both}
+use Rattle.laws.specs.Checks.{firstMet}
 use Rattle.laws.specs.Every.{below}
 use Rattle.laws.specs.First.{firstBelow}
 use Rattle.bcn_spec.specs.Answers.{done, shortOutput, longStore, unevenStore, badReceipt}
-use Rattle.store_records.specs.Store.{recordSize, storeLimit, recordsIn}
-use Rattle.store_spec.specs.Twins.{mostRecords}
+use Rattle.store_records.specs.Store.{recordSize, storeLimit, recordsIn, mostRecords}
 use Rattle.store_clean.specs.Clean.{recordOf, staying}
 use Rattle.store_receipt.specs.Receipt.{entrySize, entriesIn, numberAt, staysAt, tileBytes}
 use Rattle.store_restore.specs.declared.Restored.{Restored}
@@ -36,13 +36,16 @@ unfoldable pub receiptFits : List ℕ → ℕ → Bool
 receiptFits receipt total = both (eqb (length receipt % entrySize) 0) (below (entryFits receipt total) (entriesIn receipt))
 
 -- 5 (the cleaned store is longer than 48,000 bytes, or there are more than 2,000 records in all), 6, 25, 3: the first that is met
+abbrev pub restoreChecks : List ℕ → List ℕ → ℕ → List (Bool × ℕ)
+restoreChecks cleaned receipt room =
+    (ltb storeLimit (length cleaned), longStore) ∷
+    (ltb mostRecords (totalOf cleaned receipt), longStore) ∷
+    (not (eqb (length cleaned % recordSize) 0), unevenStore) ∷
+    (not (receiptFits receipt (totalOf cleaned receipt)), badReceipt) ∷
+    (ltb room (totalOf cleaned receipt * recordSize), shortOutput) ∷ []
+
 unfoldable pub restoreRefusal : List ℕ → List ℕ → ℕ → ℕ
-restoreRefusal cleaned receipt room =
-    pick (ltb storeLimit (length cleaned)) longStore
-    (pick (ltb mostRecords (totalOf cleaned receipt)) longStore
-    (pick (eqb (length cleaned % recordSize) 0)
-    (pick (receiptFits receipt (totalOf cleaned receipt)) (pick (ltb room (totalOf cleaned receipt * recordSize)) shortOutput done) badReceipt)
-    unevenStore))
+restoreRefusal cleaned receipt room = firstMet (restoreChecks cleaned receipt room)
 
 -- ---- the bytes
 

@@ -5,10 +5,11 @@ use mathlib.Core.Logic.{_⊎_}
 use Prim.Native.Nat.{ℕ, _+_, _*_, _%_, _≤_, _<_}
 use lib.ListN.{length, take, drop}
 use Rattle.bcn_spec.specs.Answers.{done}
+use Rattle.raw_bytes.specs.Bytes.{lowFirst}
 use Rattle.store_records.specs.Store.{recordSize, storeLimit, recordsIn, tileOf}
 use Rattle.store_clean.specs.declared.Cleaned.{Cleaned}
 use Rattle.store_clean.specs.Theorems.{cleanedBytes}
-use Rattle.store_receipt.specs.Receipt.{entrySize, entryByte, ReceiptInto}
+use Rattle.store_receipt.specs.Receipt.{entrySize, ReceiptInto}
 use Rattle.store_restore.specs.declared.Restored.{Restored}
 use Rattle.store_restore.specs.Restore.{RestoredInto}
 
@@ -40,7 +41,7 @@ Taken = (store lent paper after written : List ℕ) (r : Cleaned) → ReceiptInt
 
 -- the tile number of entry e
 abbrev pub entryTile : List ℕ → ℕ → ℕ
-entryTile receipt e = entryByte receipt e 4 + entryByte receipt e 5 * 0x100 + entryByte receipt e 6 * 0x10000 + entryByte receipt e 7 * 0x1000000
+entryTile receipt e = lowFirst receipt (e * entrySize + 4) 4
 
 -- a record of the cleaned store has the tile number
 pub record InCleaned (tile : ℕ) (r : Cleaned) (after : List ℕ) : Type 0 where

@@ -14,6 +14,7 @@ use store_clean::copy_record;
 use store_receipt::Entry;
 use store_receipt::entry_at;
 use store_records::Record;
+use store_records::record_count;
 use store_spec::TwinList;
 
 // Done, with how many records were restored; or a refusal's number.
@@ -71,7 +72,7 @@ fn restore_refusal(cleaned: &[u8], receipt: &[u8], room: usize) -> u8
     if cleaned.len() > Record::STORE {
         return Answer::LONG_STORE;
     }
-    let total = cleaned.len() / Record::SIZE + receipt.len() / Entry::SIZE;
+    let total = record_count(cleaned) + receipt.len() / Entry::SIZE;
     if total > TwinList::RECORDS {
         return Answer::LONG_STORE;
     }
@@ -123,7 +124,7 @@ pub fn restore_store(cleaned: &[u8], receipt: &[u8], out: &mut [u8]) -> Restored
     if refusal != Answer::DONE {
         return Restored::refused(refusal);
     }
-    let total = cleaned.len() / Record::SIZE + receipt.len() / Entry::SIZE;
+    let total = record_count(cleaned) + receipt.len() / Entry::SIZE;
     let mut used: usize = 0;
     for n in 0..total {
         if is_next(receipt, used, n) {

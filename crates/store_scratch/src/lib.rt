@@ -9,20 +9,22 @@ ghost use Rattle.laws.specs.Made.{made};
 ghost use Rattle.bc6h_spec.specs.Fields.{modeOf};
 ghost use Rattle.bc6h_spec.specs.Picture.{valueCount};
 ghost use Rattle.store_records.specs.Store.{recordsIn, formatOf, blockOf, Unrefused};
-ghost use Rattle.store_spec.specs.Scratch.{entrySize, kindAt, mixedUpto, printOf, printAt, pictureIn, Pictured};
+ghost use Rattle.store_spec.specs.Scratch.{entrySize, kindAt, mixedOn, mixedUpto, printOf, printAt, pictureIn, Pictured};
 use bc6_mode::extract_mode;
 use bc6h_spec::Picture;
 use bcn_util::BitStream;
-use store_records::Record;
+use raw_bytes::u16_to_u64;
 use store_records::RecordReading;
 use store_records::record_at;
 use store_records::record_block;
+use store_records::record_count;
 use store_spec::Scratch;
 
-fn wide(value: u16) -> u64
-    ensures { λ r. ⌜ (r ≡ value) × (r < 65536) ⌝ }
+// A number made of all but the high bits of another, to which the next values are added.
+pub fn mixed_on(mix: u64) -> u64
+    ensures { λ r. ⌜ (r ≡ mixedOn mix) × (r < 0x9E37790000000000) ⌝ }
 {
-    value as u64
+    mix % 0x10000000000 * 0x9E3779
 }
 
 // A number that records of another kind or with other values seldom share, from the three values of each pixel in turn.
@@ -33,10 +35,10 @@ fn mixed(kind: u64, picture: &[u16]) -> u64
     let mut mix: u64 = kind;
     for pixel in 0..16usize {
         let at = pixel * 3;
-        let low = wide(picture[at]);
-        let middle = wide(picture[at + 1]);
-        let high = wide(picture[at + 2]);
-        mix = mix % 0x10000000000 * 0x9E3779 + low + middle * 0x1000 + high * 0x1000000;
+        let low = u16_to_u64(picture[at]);
+        let middle = u16_to_u64(picture[at + 1]);
+        let high = u16_to_u64(picture[at + 2]);
+        mix = mixed_on(mix) + low + middle * 0x1000 + high * 0x1000000;
     }
     mix
 }
@@ -84,7 +86,7 @@ pub fn keep_prints(store: &[u8], scratch: &mut [u16])
     requires { ⌜ Pictured (now store) (now scratch) ⌝ }
     ensures { λ _. ⌜ now (scratch .exit) ≡ made (printAt (now (store .entry)) (now (scratch .entry))) (recordsIn (now (store .entry))) ++ drop (recordsIn (now (store .entry))) (now (scratch .entry)) ⌝ }
 {
-    let count = store.len() / Record::SIZE;
+    let count = record_count(store);
     for n in 0..count {
         let RecordReading::Record(found) = record_at(store, n) else {
             continue;

@@ -16,7 +16,7 @@ use Rattle.laws.proofs.Joined.{run-more, run-length, run-step, run-end, run-at}
 use Rattle.bc6h_spec.specs.Picture.{valueCount}
 use Rattle.store_records.specs.Store.{recordsIn, formatOf, Unrefused}
 use Rattle.store_spec.specs.Shown.{pictureAt, Reserved, isRecord}
-use Rattle.store_spec.specs.Scratch.{entrySize, noPicture, kindAt, mixedUpto, printOf, printAt, valueAt, slotAt, picturesOf, scratchOf, pictureIn, Pictured, Kept}
+use Rattle.store_spec.specs.Scratch.{entrySize, noPicture, kindAt, mixedOn, mixedUpto, printOf, printAt, valueAt, slotAt, picturesOf, scratchOf, pictureIn, Pictured, Kept}
 use Rattle.store_spec.proofs.Shown.{is-record, is-refused, picture-length}
 
 -- ---- the fingerprint
@@ -30,11 +30,16 @@ unfolding kindAt
 kind-format store n e = rw (ne-eqb _ _ e)
 
 -- a pixel more
-pub mixed-more : (kind : ℕ) (picture : List ℕ) (pixel mix red green blue : ℕ) → mix ≡ mixedUpto kind picture pixel
+pub mixed-more : (kind : ℕ) (picture : List ℕ) (pixel mix on red green blue : ℕ) → mix ≡ mixedUpto kind picture pixel → on ≡ mixedOn mix
     → red ≡ getD picture (pixel * 3) 0 → green ≡ getD picture (pixel * 3 + 1) 0 → blue ≡ getD picture (pixel * 3 + 2) 0
-    → mix % 0x10000000000 * 0x9E3779 + red + green * 0x1000 + blue * 0x1000000 ≡ mixedUpto kind picture (pixel + 1)
+    → on + red + green * 0x1000 + blue * 0x1000000 ≡ mixedUpto kind picture (pixel + 1)
 unfolding mixedUpto
-mixed-more kind picture pixel mix red green blue p r g b = rw (add-one pixel, p, r, g, b)
+mixed-more kind picture pixel mix on red green blue p o r g b = rw (add-one pixel, o, p, r, g, b)
+
+-- the picture of a record, in scratch space with a fingerprint for each record
+pub at-count : (store scratch : List ℕ) (count n : ℕ) → count ≡ recordsIn store → Pictured store scratch → n < recordsIn store → Unrefused store n
+    → pictureIn scratch count n ≡ pictureAt store n
+at-count store scratch count n e p h u = rw e (p .at n h u)
 
 -- ---- the pictures, one after the other
 
@@ -130,10 +135,10 @@ module _ (store lent : List ℕ) where
       ∙ ap (λ (j : ℕ). drop j lent) (sym split))
 
 -- the pictures were kept in the part behind the fingerprints' places
-pub put-behind : (store lent part : List ℕ) → recordsIn store ≤ length lent
+behind : (store lent part : List ℕ) → recordsIn store ≤ length lent
     → part ≡ picturesOf store (midOf (recordsIn store) (length lent - recordsIn store) lent)
     → putMid (recordsIn store) (length lent - recordsIn store) lent part ≡ take (recordsIn store) lent ++ picturesOf store (drop (recordsIn store) lent)
-put-behind store lent part room e =
+behind store lent part room e =
     let count = recordsIn store in
     let behind = drop count lent in
     let size : length behind ≡ length lent - count = length-drop count lent in
@@ -142,11 +147,15 @@ put-behind store lent part room e =
     ap (λ (t : List ℕ). take count lent ++ t)
     (ap (λ (t : List ℕ). part ++ t) none ∙ append-nil part ∙ e ∙ ap (λ (t : List ℕ). picturesOf store t) mid)
 
-pub pictured-behind : (store lent part : List ℕ) → recordsIn store ≤ length lent
-    → part ≡ picturesOf store (midOf (recordsIn store) (length lent - recordsIn store) lent)
-    → Pictured store (putMid (recordsIn store) (length lent - recordsIn store) lent part)
-pictured-behind store lent part room e =
-    pictures-kept store (drop (recordsIn store) lent) (take (recordsIn store) lent) (put-behind store lent part room e)
+pub put-behind : (store lent part : List ℕ) (count : ℕ) → count ≡ recordsIn store → recordsIn store ≤ length lent
+    → part ≡ picturesOf store (midOf count (length lent - count) lent)
+    → putMid count (length lent - count) lent part ≡ take (recordsIn store) lent ++ picturesOf store (drop (recordsIn store) lent)
+put-behind store lent part count c = rw c (behind store lent part)
+
+pub pictured-behind : (store lent part : List ℕ) (count : ℕ) → count ≡ recordsIn store → recordsIn store ≤ length lent
+    → part ≡ picturesOf store (midOf count (length lent - count) lent) → Pictured store (putMid count (length lent - count) lent part)
+pictured-behind store lent part count c room e =
+    pictures-kept store (drop (recordsIn store) lent) (take (recordsIn store) lent) (put-behind store lent part count c room e)
     (length-take-le (recordsIn store) lent room)
 
 -- the fingerprints before the pictures: all that is kept

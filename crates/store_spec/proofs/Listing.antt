@@ -8,16 +8,17 @@ use native.Mathlib.Omega.{arith}
 use lib.Dec.{eqb, ltb}
 use lib.ListN.{length, getD, take, drop, List·getD-append}
 use lib.Seq.{take-at, drop-at}
-use borrow.Author.Tests.{lt-ltb, le-ltb, eq-eqb, ne-eqb, ltb-true, ltb-false, eqb-true}
+use borrow.Author.Tests.{lt-ltb, le-ltb, eq-eqb, ne-eqb, ltb-true, ltb-false, eqb-true, not-false}
 use Rattle.laws.specs.Made.{made, countOf}
 use Rattle.laws.proofs.Tests.{cases}
+use Rattle.laws.proofs.Checks.{none-met}
 use Rattle.laws.proofs.Rows.{length-made, getD-made}
 use Rattle.laws.proofs.Counts.{count-three}
 use Rattle.bcn_spec.specs.Answers.{done, shortOutput, longStore, unevenStore}
-use Rattle.store_records.specs.Store.{recordSize, storeLimit, recordsIn}
+use Rattle.store_records.specs.Store.{recordSize, storeLimit, recordsIn, mostRecords}
 use Rattle.store_spec.specs.declared.TwinList.{TwinList}
 use Rattle.store_spec.specs.Scratch.{entrySize, scratchOf}
-use Rattle.store_spec.specs.Twins.{Marked, keptMark, twinMark, badMark, firstTwin, markAt, marksOf, Marks, listRefusal, refusal, answerAt, marksAt, Listed, firstMet, scratchRefusal, scratchAt, ListedIn}
+use Rattle.store_spec.specs.Twins.{Marked, keptMark, twinMark, badMark, firstTwin, markAt, marksOf, Marks, listChecks, listRefusal, refusal, answerAt, marksAt, Listed, scratchRefusal, scratchAt, ListedIn}
 use Rattle.store_spec.proofs.Marking.{mark-small, mark-is, twin-marked}
 
 -- ---- the checks
@@ -139,11 +140,8 @@ pub record Whole (size lent : ℕ) : Type 0 where
 whole-by : (size lent : ℕ) → listRefusal size lent ≡ done → Whole size lent
 unfolding listRefusal
 whole-by size lent z =
-    cases (ltb storeLimit size) (λ t. absurd (omega (arith, rw t at z)))
-    (λ a. cases (eqb (size % recordSize) 0)
-    (λ b. cases (ltb lent (size / recordSize)) (λ t. absurd (omega (arith, rw (a, b, t) at z)))
-    (λ e. record { fits = ltb-false _ _ a; even = eqb-true _ _ b; room = ltb-false _ _ e }))
-    (λ f. absurd (omega (arith, rw (a, f) at z))))
+    let none = none-met (listChecks size lent) tt z in
+    record { fits = ltb-false _ _ (none .0); even = eqb-true _ _ (not-false _ (none .1 .0)); room = ltb-false _ _ (none .1 .1 .0) }
 
 pub whole-when : {size lent number : ℕ} → number ≡ listRefusal size lent → number ≡ done → Whole size lent
 whole-when {size} {lent} e z = whole-by size lent (sym e ∙ z)
@@ -184,12 +182,12 @@ module _ (store lent space : List ℕ) where
   listed-in-refused zero a z e = absurd (z refl)
   listed-in-refused (suc k) a z e = let s = sym a in record { answers = rw s e; holds = rw s; leaves = rw s }
 
-  pub listed-in-done : {after spaceAfter : List ℕ} {kept twins bad : ℕ} → scratchRefusal (length store) (length lent) (length space) ≡ done
+  pub listed-in-done : {after spaceAfter : List ℕ} {count kept twins bad : ℕ} → count ≡ recordsIn store → scratchRefusal (length store) (length lent) (length space) ≡ done
       → spaceAfter ≡ scratchOf store space
-      → after ≡ marksOf store ++ drop (recordsIn store) lent → kept ≡ countOf keptMark (take (recordsIn store) after)
-      → twins ≡ countOf twinMark (take (recordsIn store) after) → bad ≡ countOf badMark (take (recordsIn store) after)
+      → after ≡ marksOf store ++ drop (recordsIn store) lent → kept ≡ countOf keptMark (take count after)
+      → twins ≡ countOf twinMark (take count after) → bad ≡ countOf badMark (take count after)
       → ListedIn store lent space (record { answer = done; kept = kept; twins = twins; bad = bad }) after spaceAfter
-  listed-in-done a s e k t b = record { answers = rw (a, k, t, b, front store lent e); holds = rw a e; leaves = rw a s }
+  listed-in-done n a s e k t b = record { answers = rw (a, k, t, b, n, front store lent e); holds = rw a e; leaves = rw a s }
 
 module _ {store lent space after spaceAfter : List ℕ} {r : TwinList} (d : ListedIn store lent space r after spaceAfter) where
   pub one-outcome-in : {s : TwinList} {other spaceOther : List ℕ} → ListedIn store lent space s other spaceOther
@@ -230,7 +228,7 @@ module _ {store lent space after spaceAfter : List ℕ} {r : TwinList} (d : List
   ordinary-list z e = one-outcome (list-is z) e
 
   -- scratch space for as many records as any store has is never too small
-  pub listed-by : length space ≡ 2000 * entrySize → Listed store lent r after
+  pub listed-by : length space ≡ mostRecords * entrySize → Listed store lent r after
   listed-by l =
       let e = enough (listRefusal (length store) (length lent)) refl in
       record { answers = d .answers ∙ rw e; holds = d .holds ∙ rw e }

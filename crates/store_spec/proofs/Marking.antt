@@ -20,7 +20,7 @@ use Rattle.store_records.specs.Store.{recordsIn, formatOf, blockOf, recordRefus
 use Rattle.store_spec.specs.Shown.{pictureAt, Reserved, isRecord, isReserved}
 use Rattle.store_spec.specs.Scratch.{pictureIn, kindAt, printOf, Pictured, Kept}
 use Rattle.store_spec.proofs.Shown.{is-record, is-refused, whole-picture}
-use Rattle.store_spec.proofs.Keeping.{kind-format}
+use Rattle.store_spec.proofs.Keeping.{kind-format, at-count}
 use Rattle.store_spec.specs.Twins.{Alike, Twin, Marked, keptMark, twinMark, badMark, holding, showing, alike, firstTwin, markAt}
 
 -- ---- which records hold a picture
@@ -125,13 +125,13 @@ module _ (store : List ℕ) (n earlier : ℕ) where
     pub other-kept : holding store earlier format ≡ false → false ≡ alike store n earlier
     other-kept e = sym (alike-showing u z ∙ showing-none store earlier (formatOf store n) (pictureAt store n) (rw f at e))
 
-    pub alike-kept : {scratch a b : List ℕ} {r : Bool} → Pictured store scratch → holding store earlier format ≡ true → n < recordsIn store
-        → earlier < n → a ≡ pictureIn scratch (recordsIn store) earlier → b ≡ pictureIn scratch (recordsIn store) n → r ≡ same a b
+    pub alike-kept : {scratch a b : List ℕ} {count : ℕ} {r : Bool} → Pictured store scratch → count ≡ recordsIn store → holding store earlier format ≡ true → n < recordsIn store
+        → earlier < n → a ≡ pictureIn scratch count earlier → b ≡ pictureIn scratch count n → r ≡ same a b
         → r ≡ alike store n earlier
-    alike-kept p t h l ea eb e =
+    alike-kept p q t h l ea eb e =
         let k : holding store earlier (formatOf store n) ≡ true = rw f at t in
         let v = holding-means store earlier (formatOf store n) k .unrefused in
-        e ∙ ap₂ same (ea ∙ p .at earlier (omega arith) v) (eb ∙ p .at n h u)
+        e ∙ ap₂ same (ea ∙ at-count store _ _ earlier q p (omega arith) v) (eb ∙ at-count store _ _ n q p h u)
         ∙ sym (alike-showing u z ∙ showing-picture store earlier (formatOf store n) (pictureAt store n) k)
 
 -- by pictures that were decoded for it

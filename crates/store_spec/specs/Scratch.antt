@@ -22,11 +22,15 @@ noPicture = 2
 unfoldable pub kindAt : List ℕ → ℕ → ℕ
 kindAt store n = pick (isReserved store n) noPicture (formatOf store n)
 
+-- what a number brings to the next one that is made of it
+abbrev pub mixedOn : ℕ → ℕ
+mixedOn mix = mix % 0x10000000000 * 0x9E3779
+
 -- a number made of the kind and the first pixels' values; that records with one fingerprint show the same is nowhere used
 unfoldable pub mixedUpto : ℕ → List ℕ → ℕ → ℕ
 mixedUpto kind picture zero = kind
 mixedUpto kind picture (suc pixel) =
-    mixedUpto kind picture pixel % 0x10000000000 * 0x9E3779 + getD picture (pixel * 3) 0 + getD picture (pixel * 3 + 1) 0 * 0x1000
+    mixedOn (mixedUpto kind picture pixel) + getD picture (pixel * 3) 0 + getD picture (pixel * 3 + 1) 0 * 0x1000
     + getD picture (pixel * 3 + 2) 0 * 0x1000000
 
 -- sixteen bits of it, to which every value comes

@@ -6,6 +6,7 @@ use Prim.Native.Nat.{ℕ, zero, suc, _/_, _%_, _<_}
 use lib.Dec.{eqb, ltb}
 use lib.ListN.{length, getD, drop}
 use Rattle.laws.specs.Pick.{pick, both}
+use Rattle.laws.specs.Checks.{firstMet}
 use Rattle.laws.specs.Every.{same}
 use Rattle.laws.specs.Made.{made, countOf}
 use Rattle.laws.specs.First.{firstBelow}
@@ -79,15 +80,15 @@ pub record Marks (store marks : List ℕ) : Type 0 where
 
 -- ---- the call
 
--- the most records of a store, for each of which there is room for a mark
-abbrev pub mostRecords : ℕ
-mostRecords = 2000
-
 -- "twin list: 5, 6, 3", "first met wins"; of a store's size and of the room for marks
+abbrev pub listChecks : ℕ → ℕ → List (Bool × ℕ)
+listChecks size room =
+    (ltb storeLimit size, longStore) ∷
+    (not (eqb (size % recordSize) 0), unevenStore) ∷
+    (ltb room (size / recordSize), shortOutput) ∷ []
+
 unfoldable pub listRefusal : ℕ → ℕ → ℕ
-listRefusal size room =
-    pick (ltb storeLimit size) longStore
-    (pick (eqb (size % recordSize) 0) (pick (ltb room (size / recordSize)) shortOutput done) unevenStore)
+listRefusal size room = firstMet (listChecks size room)
 
 abbrev pub refusal : ℕ → TwinList
 refusal number = record { answer = number; kept = 0; twins = 0; bad = 0 }
@@ -115,13 +116,13 @@ pub record Listed (store lent : List ℕ) (r : TwinList) (after : List ℕ) : Ty
 -- ---- the call over lent scratch space
 
 -- the first number that is not 0
-abbrev pub firstMet : ℕ → ℕ → ℕ
-firstMet zero next = next
-firstMet (suc number) next = suc number
+abbrev pub firstRefusal : ℕ → ℕ → ℕ
+firstRefusal zero next = next
+firstRefusal (suc number) next = suc number
 
 -- "5, 6, 3", where 3 is also met by scratch space for fewer records than the store has
 unfoldable pub scratchRefusal : ℕ → ℕ → ℕ → ℕ
-scratchRefusal size room space = firstMet (listRefusal size room) (listRefusal size (space / entrySize))
+scratchRefusal size room space = firstRefusal (listRefusal size room) (listRefusal size (space / entrySize))
 
 -- a refusal changes no lent value either
 abbrev pub scratchAt : ℕ → List ℕ → List ℕ → List ℕ

@@ -7,6 +7,7 @@ use store_marks::list_refusal;
 use store_records::Record;
 use store_records::RecordReading;
 use store_records::record_at;
+use store_records::record_count;
 use store_scratch::mode_at;
 use store_spec::TwinList;
 use store_twins::twin_list;
@@ -26,7 +27,7 @@ fn is_damaged(store: &[u8], n: usize) -> bool
 pub fn first_damaged(store: &[u8]) -> usize
     ensures { λ r. ⌜ r ≡ firstDamaged (now (store .entry)) ⌝ }
 {
-    let count = store.len() / Record::SIZE;
+    let count = record_count(store);
     if store.len() > Record::STORE {
         return count;
     }
@@ -46,7 +47,7 @@ pub fn strict_twin_list(store: &[u8], marks: &mut [u8]) -> TwinList
     if ordinary != Answer::DONE {
         return TwinList::refused(ordinary);
     }
-    if first_damaged(store) < store.len() / Record::SIZE {
+    if first_damaged(store) < record_count(store) {
         return TwinList::refused(Answer::RESERVED_BLOCK);
     }
     twin_list(store, marks)

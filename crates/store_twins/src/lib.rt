@@ -17,10 +17,10 @@ use store_marks::holds_picture;
 use store_marks::mark_records;
 use store_marks::same_picture;
 use store_marks::scratch_refusal;
-use store_records::Record;
 use store_records::RecordReading;
 use store_records::record_at;
 use store_records::record_block;
+use store_records::record_count;
 use store_scratch::keep_prints;
 use store_scratch::mode_at;
 use store_spec::Mark;
@@ -41,7 +41,7 @@ fn keep_pictures(store: &[u8], pictures: &mut [u16])
     requires { ⌜ valueCount * recordsIn (now store) ≤ length (now pictures) ⌝ }
     ensures { λ _. ⌜ now (pictures .exit) ≡ picturesOf (now (store .entry)) (now (pictures .entry)) ⌝ }
 {
-    let count = store.len() / Record::SIZE;
+    let count = record_count(store);
     for n in 0..count {
         let RecordReading::Record(found) = record_at(store, n) else {
             continue;
@@ -56,7 +56,7 @@ fn keep_records(store: &[u8], scratch: &mut [u16])
     requires { ⌜ recordsIn (now store) * entrySize ≤ length (now scratch) ⌝ }
     ensures { λ _. ⌜ now (scratch .exit) ≡ scratchOf (now (store .entry)) (now (scratch .entry)) ⌝ }
 {
-    let count = store.len() / Record::SIZE;
+    let count = record_count(store);
     keep_pictures(store, &mut scratch[count..]);
     keep_prints(store, scratch);
 }
@@ -71,7 +71,7 @@ pub fn twin_list_in(store: &[u8], marks: &mut [u8], scratch: &mut [u16]) -> Twin
     }
     keep_records(store, scratch);
     mark_records(store, scratch, marks);
-    let made = &marks[..store.len() / Record::SIZE];
+    let made = &marks[..record_count(store)];
     TwinList {
         answer: Answer::DONE,
         kept: count_of(made, Mark::KEPT),

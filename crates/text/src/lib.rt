@@ -94,17 +94,3 @@ pub fn put_hex(text: &mut [u8], at: usize, value: u16) -> usize
     ];
     put(text, at, &digits)
 }
-
-pub fn same_bytes(a: &[u8], b: &[u8]) -> bool
-    ensures { λ r. ⌜ r ≡ same (now (a .entry)) (now (b .entry)) ⌝ }
-{
-    if a.len() != b.len() {
-        return false;
-    }
-    for k in 0..a.len() {
-        if a[k] != b[k] {
-            return false;
-        }
-    }
-    true
-}

@@ -12,13 +12,13 @@ use Rattle.laws.specs.Pick.{pick, both}
 use Rattle.laws.specs.Made.{made}
 use Rattle.laws.proofs.Joined.{run-more}
 use Rattle.bcn_spec.specs.Answers.{done}
-use Rattle.store_records.specs.Store.{recordsIn, tileAt}
+use Rattle.store_records.specs.Store.{recordsIn, tileAt, mostRecords}
 use Rattle.store_covered.specs.CleanUp.{covered, byDemand3}
 use Rattle.store_clean.specs.Clean.{firstOf, goes}
 use Rattle.store_faulty.specs.declared.FaultCounts.{FaultCounts}
 use Rattle.store_faulty.specs.Faulty.{formOf, countsOf}
 use Rattle.store_spec.specs.declared.TwinList.{TwinList}
-use Rattle.store_spec.specs.Twins.{twinMark, firstTwin, markAt, listRefusal, Listed, mostRecords}
+use Rattle.store_spec.specs.Twins.{twinMark, firstTwin, markAt, listRefusal, Listed}
 use Rattle.store_spec.proofs.Listing as listed
 use Rattle.text.specs.Text.{field, refusalLine, Written}
 use Rattle.text.proofs.Texts.{then, said}

@@ -11,8 +11,8 @@ use Rattle.laws.proofs.Tests.{cases}
 use Rattle.laws.proofs.Rows.{length-made}
 use Rattle.laws.proofs.Sameness.{true-false, not-so}
 use Rattle.bcn_spec.specs.Answers.{done}
-use Rattle.store_records.specs.Store.{recordsIn}
-use Rattle.store_spec.specs.Twins.{twinMark, firstTwin, markAt, marksOf, listRefusal, answerAt, marksAt, Listed, mostRecords}
+use Rattle.store_records.specs.Store.{recordsIn, mostRecords}
+use Rattle.store_spec.specs.Twins.{twinMark, firstTwin, markAt, marksOf, listRefusal, answerAt, marksAt, Listed}
 use Rattle.store_spec.proofs.Marking as marking
 use Rattle.store_spec.proofs.Listing as listing
 use Rattle.store_covered.specs.CleanUp.{Copy, covered}

@@ -8,8 +8,8 @@ use lib.Dec.{eqb}
 use lib.ListN.{length}
 use Rattle.laws.specs.Pick.{pick, both}
 use Rattle.laws.specs.Made.{made, join}
-use Rattle.store_records.specs.Store.{recordsIn, tileAt}
-use Rattle.store_spec.specs.Twins.{twinMark, firstTwin, markAt, listRefusal, mostRecords}
+use Rattle.store_records.specs.Store.{recordsIn, tileAt, mostRecords}
+use Rattle.store_spec.specs.Twins.{twinMark, firstTwin, markAt, listRefusal}
 use Rattle.store_covered.specs.CleanUp.{covered, byDemand3}
 use Rattle.store_clean.specs.Clean.{firstOf, goes}
 use Rattle.store_faulty.specs.declared.FaultCounts.{FaultCounts}

@@ -6,8 +6,8 @@ use Prim.Native.Nat.{ℕ, _<_}
 use lib.ListN.{length}
 use Rattle.laws.specs.Pick.{both}
 use Rattle.bcn_spec.specs.Answers.{done}
-use Rattle.store_records.specs.Store.{recordsIn}
-use Rattle.store_spec.specs.Twins.{listRefusal, mostRecords}
+use Rattle.store_records.specs.Store.{recordsIn, mostRecords}
+use Rattle.store_spec.specs.Twins.{listRefusal}
 use Rattle.store_clean.specs.declared.Cleaned.{Cleaned}
 use Rattle.store_clean.specs.Clean.{Repeats, goes, CleanedInto}
 use Rattle.text_audit.specs.Audit.{staysFor, findingOf, isTwin, twinsWith, isCopy}

@@ -7,8 +7,8 @@ ghost use Prim.Native.Nat.{_+_, _*_, _≤_};
 ghost use lib.Dec.{ltb};
 ghost use lib.ListN.{length};
 ghost use Rattle.laws.specs.Pick.{pick};
-ghost use Rattle.store_records.specs.Store.{recordsIn};
-ghost use Rattle.store_spec.specs.Twins.{firstTwin, mostRecords, Marks};
+ghost use Rattle.store_records.specs.Store.{recordsIn, mostRecords};
+ghost use Rattle.store_spec.specs.Twins.{firstTwin, Marks};
 ghost use Rattle.text.specs.Text.{Written};
 ghost use Rattle.text_audit.specs.Audit.{findingOf, pairOf, verdictWord, coverWord, twinLine, auditLines, faultWords, tallyLine, tallyOf, auditOf};
 use bcn_spec::Answer;
@@ -19,7 +19,7 @@ use store_faulty::FaultCounts;
 use store_faulty::Form;
 use store_faulty::count_faults;
 use store_faulty::one_if;
-use store_records::Record;
+use store_records::record_count;
 use store_records::tile_at;
 use store_spec::Mark;
 use store_spec::TwinList;
@@ -155,7 +155,7 @@ fn put_twins(text: &mut [u8], at: usize, store: &[u8], marks: &[u8]) -> usize
     ensures { λ r. ⌜ r ≤ at + (recordsIn (now (store .entry)) + 2) * 128 ⌝ }
     ensures { λ r. ⌜ Written (now (text .entry)) at (auditLines (now (store .entry)) (recordsIn (now (store .entry))) ++ tallyOf (now (store .entry)) (recordsIn (now (store .entry)))) r (now (text .exit)) ⌝ }
 {
-    let count = store.len() / Record::SIZE;
+    let count = record_count(store);
     let mut copies: usize = 0;
     let mut alike: usize = 0;
     let mut covered: usize = 0;

@@ -11,8 +11,8 @@ use Rattle.laws.specs.Made.{made}
 use Rattle.laws.proofs.Joined.{run-more}
 use Rattle.laws.proofs.Tests.{cases}
 use Rattle.bcn_spec.specs.Answers.{done}
-use Rattle.store_records.specs.Store.{recordSize, storeLimit, recordsIn, tileAt}
-use Rattle.store_spec.specs.Twins.{listRefusal, mostRecords}
+use Rattle.store_records.specs.Store.{recordSize, storeLimit, recordsIn, tileAt, mostRecords}
+use Rattle.store_spec.specs.Twins.{listRefusal}
 use Rattle.store_clean.specs.declared.Cleaned.{Cleaned}
 use Rattle.store_clean.specs.Clean.{firstOf, goes, stayCount, goneCount, answerAt, CleanedInto}
 use Rattle.store_clean.proofs.Cleaning as cleaning

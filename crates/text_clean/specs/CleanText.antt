@@ -6,8 +6,8 @@ use Prim.Native.Nat.{ℕ, zero, suc, _+_}
 use lib.ListN.{length, take}
 use Rattle.laws.specs.Pick.{pick}
 use Rattle.laws.specs.Made.{made, join}
-use Rattle.store_records.specs.Store.{storeLimit, recordsIn, tileAt}
-use Rattle.store_spec.specs.Twins.{listRefusal, mostRecords}
+use Rattle.store_records.specs.Store.{storeLimit, recordsIn, tileAt, mostRecords}
+use Rattle.store_spec.specs.Twins.{listRefusal}
 use Rattle.store_clean.specs.Clean.{firstOf, goes, cleanedOf, stayCount, goneCount}
 use Rattle.text.specs.Text.{lineFeed, decimal, field, refusalLine}
 

@@ -4,8 +4,8 @@
 ghost use mathlib.Core.Path.{_≡_};
 ghost use Prim.Native.Nat.{_+_, _*_, _≤_};
 ghost use lib.ListN.{length};
-ghost use Rattle.store_records.specs.Store.{recordsIn, storeLimit};
-ghost use Rattle.store_spec.specs.Twins.{listRefusal, mostRecords};
+ghost use Rattle.store_records.specs.Store.{recordsIn, storeLimit, mostRecords};
+ghost use Rattle.store_spec.specs.Twins.{listRefusal};
 ghost use Rattle.store_clean.specs.Clean.{answerAt};
 ghost use Rattle.text.specs.Text.{Written};
 ghost use Rattle.text_clean.specs.CleanText.{removedLine, removedLines, countsLine, cleaningText, cleaningOutput};
@@ -14,6 +14,7 @@ use store_clean::Cleaned;
 use store_clean::clean_store;
 use store_clean::first_of;
 use store_records::Record;
+use store_records::record_count;
 use store_records::tile_at;
 use store_spec::TwinList;
 use text::put;
@@ -62,7 +63,7 @@ fn put_lines(text: &mut [u8], store: &[u8]) -> usize
     ensures { λ r. ⌜ r ≤ recordsIn (now (store .entry)) * 128 ⌝ }
     ensures { λ r. ⌜ Written (now (text .entry)) 0 (removedLines (now (store .entry)) (recordsIn (now (store .entry)))) r (now (text .exit)) ⌝ }
 {
-    let count = store.len() / Record::SIZE;
+    let count = record_count(store);
     let mut end: usize = 0;
     for n in 0..count {
         let first = first_of(store, n);

@@ -16,11 +16,11 @@ use Rattle.bc6h_spec.specs.Block.{infinitiesOf}
 use Rattle.bc6.specs.declared.Pixels.{Pixels}
 use Rattle.bc6.specs.Call.{Painted}
 use Rattle.bc6.proofs.Calls.{written, done-when, infinities-told}
-use Rattle.store_records.specs.Store.{recordsIn, formatOf, tileAt, blockOf, recordRefusal, Unrefused, partAt}
+use Rattle.store_records.specs.Store.{recordsIn, formatOf, tileAt, blockOf, recordRefusal, Unrefused, partAt, mostRecords}
 use Rattle.store_records.proofs.Refusals.{known, block-length}
 use Rattle.store_records.proofs.Readings.{part-of}
 use Rattle.store_spec.specs.Shown.{pictureAt}
-use Rattle.store_spec.specs.Twins.{listRefusal, mostRecords}
+use Rattle.store_spec.specs.Twins.{listRefusal}
 use Rattle.store_spec.proofs.Shown.{record-painted, whole-picture}
 use Rattle.text.specs.Text.{field, refusalLine, Written}
 use Rattle.text.proofs.Texts.{then, said}

@@ -12,9 +12,9 @@ use Rattle.laws.specs.Made.{made, join}
 use Rattle.bc6h_spec.specs.Half.{minusInfinity}
 use Rattle.bc6h_spec.specs.Picture.{valueCount, isSigned}
 use Rattle.bc6h_spec.specs.Block.{infinitiesOf}
-use Rattle.store_records.specs.Store.{recordsIn, formatOf, tileAt, blockOf, recordRefusal}
+use Rattle.store_records.specs.Store.{recordsIn, formatOf, tileAt, blockOf, recordRefusal, mostRecords}
 use Rattle.store_spec.specs.Shown.{pictureAt}
-use Rattle.store_spec.specs.Twins.{listRefusal, mostRecords}
+use Rattle.store_spec.specs.Twins.{listRefusal}
 use Rattle.text.specs.Text.{lineFeed, decimal, field, refusalLine}
 use Rattle.text_infinities.specs.declared.Finding.{Finding}
 

@@ -7,18 +7,18 @@ ghost use Prim.Native.Nat.{_+_, _*_, _≤_};
 ghost use lib.ListN.{length};
 ghost use Rattle.laws.specs.First.{firstBelow};
 ghost use Rattle.bc6h_spec.specs.Picture.{valueCount};
-ghost use Rattle.store_records.specs.Store.{recordsIn, storeLimit};
+ghost use Rattle.store_records.specs.Store.{recordsIn, storeLimit, mostRecords};
 ghost use Rattle.text.specs.Text.{Written};
-ghost use Rattle.store_spec.specs.Twins.{mostRecords};
 ghost use Rattle.text_infinities.specs.Infinities.{infiniteAt, findingOf, channelWord, findingLine, infiniteLines, countsLine, countsOf, infinitiesText};
 use bc6::block_pixels;
 use bc6h_spec::Picture;
 use bcn_spec::Answer;
+use raw_bytes::u16_to_usize;
 use store_marks::list_refusal;
-use store_records::Record;
 use store_records::RecordReading;
 use store_records::record_at;
 use store_records::record_block;
+use store_records::record_count;
 use store_records::tile_at;
 use store_spec::TwinList;
 use text::put;
@@ -58,13 +58,6 @@ pub struct Finding {
     pub first: usize,
 }
 
-fn wide(count: u16) -> usize
-    ensures { λ r. ⌜ r ≤ 65535 ⌝ }
-    ensures { λ r. ⌜ r ≡ count ⌝ }
-{
-    count as usize
-}
-
 // A record that is refused has no values.
 fn examine(store: &[u8], n: usize) -> Finding
     ensures { λ r. ⌜ r .infinite ≤ 65535 ⌝ }
@@ -79,7 +72,7 @@ fn examine(store: &[u8], n: usize) -> Finding
     let mut values = [0u16; Picture::VALUES];
     let pixels = block_pixels(record_block(store, n), found.format, &mut values);
     Finding {
-        infinite: wide(pixels.infinite),
+        infinite: u16_to_usize(pixels.infinite),
         first: first_infinite(&values),
     }
 }
@@ -128,7 +121,7 @@ fn put_findings(text: &mut [u8], store: &[u8]) -> usize
     ensures { λ r. ⌜ r ≤ (recordsIn (now (store .entry)) + 1) * 128 ⌝ }
     ensures { λ r. ⌜ Written (now (text .entry)) 0 (infiniteLines (now (store .entry)) (recordsIn (now (store .entry))) ++ countsOf (now (store .entry)) (recordsIn (now (store .entry)))) r (now (text .exit)) ⌝ }
 {
-    let count = store.len() / Record::SIZE;
+    let count = record_count(store);
     let mut records: usize = 0;
     let mut values: usize = 0;
     let mut end: usize = 0;

@@ -10,10 +10,10 @@ ghost use Rattle.text.specs.Text.{Written};
 ghost use Rattle.text_list.specs.Lines.{tripleOf, shownRest, refusedRest, lineOf, linesOf, countsLine};
 use bc6::block_pixels;
 use bc6h_spec::Picture;
-use store_records::Record;
 use store_records::RecordReading;
 use store_records::record_at;
 use store_records::record_block;
+use store_records::record_count;
 use store_records::tile_at;
 use store_scratch::mode_at;
 use store_spec::TwinList;
@@ -99,7 +99,7 @@ pub fn put_records(text: &mut [u8], store: &[u8], marks: &[u8]) -> usize
     ensures { λ r. ⌜ r ≤ recordsIn (now (store .entry)) * 128 ⌝ }
     ensures { λ r. ⌜ Written (now (text .entry)) 0 (linesOf (now (store .entry)) (recordsIn (now (store .entry)))) r (now (text .exit)) ⌝ }
 {
-    let count = store.len() / Record::SIZE;
+    let count = record_count(store);
     let mut end: usize = 0;
     for n in 0..count {
         end = put_record(text, end, store, n, marks[n]);

@@ -17,6 +17,7 @@ use Rattle.probe.specs.Probe.{edgeLimit, probeSizes, ofRecord, probeFault}
 use Rattle.probe_faces.specs.Face.{faceOf, faceFault}
 use Rattle.text.specs.Text.{Written}
 use Rattle.text.proofs.Texts.{said, written-length}
+use Rattle.raw_bytes.proofs.Bytes.{bytes-same}
 use Rattle.text_probe.specs.Image.{imageFile}
 use Rattle.text_probe.specs.Output.{questionHead, questionLimit, wordAt, faultyPart, faultLine, probeLine, unless, checkOutput, faceRoom, faceOutput, probeOutput}
 
@@ -103,8 +104,7 @@ module _ (input : List ℕ) (room : ℕ) (h : questionLimit < room) where
 
   word-same : (at : ℕ) → at + 3 < questionHead → wordAt (take room input) at ≡ wordAt input at
   unfolding wordAt
-  word-same at l =
-      rw (first-same at (omega arith), first-same (at + 1) (omega arith), first-same (at + 2) (omega arith), first-same (at + 3) l)
+  word-same at l = bytes-same (take room input) input at at 4 (λ k s. first-same (at + k) (omega arith))
 
   longer : room < length input → probeOutput (take room input) ≡ probeOutput input
   unfolding probeOutput

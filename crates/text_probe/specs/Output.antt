@@ -5,6 +5,7 @@ use Prim.Native.Nat.{ℕ, zero, suc, _+_, _*_}
 use lib.Dec.{eqb, ltb}
 use lib.ListN.{length, getD, drop}
 use Rattle.laws.specs.Pick.{pick}
+use Rattle.raw_bytes.specs.Bytes.{lowFirst}
 use Rattle.probe_places.specs.declared.Fault.{Fault}
 use Rattle.probe_places.specs.Places.{placeLimit, placesIn}
 use Rattle.probe.specs.Probe.{ofRecord, probeFault}
@@ -23,7 +24,7 @@ questionLimit = questionHead + placeLimit
 
 -- four bytes, low byte first
 unfoldable pub wordAt : List ℕ → ℕ → ℕ
-wordAt input at = getD input at 0 + getD input (at + 1) 0 * 0x100 + getD input (at + 2) 0 * 0x10000 + getD input (at + 3) 0 * 0x1000000
+wordAt input at = lowFirst input at 4
 
 -- ---- the lines
 

@@ -16,6 +16,8 @@ use probe::probe_check;
 use probe_faces::probe_face;
 use probe_places::Fault;
 use probe_places::Place;
+use raw_bytes::u32_at;
+use raw_bytes::u32_to_usize;
 use text::put;
 use text::put_count;
 
@@ -39,21 +41,12 @@ impl Question {
 
 // ---- the question
 
-fn wide(byte: u8) -> usize
-    ensures { λ r. ⌜ (r ≡ byte) × (r < 256) ⌝ }
-{
-    byte as usize
-}
-
 // Four bytes, low byte first.
 fn word_at(input: &[u8], at: usize) -> usize
     requires { ⌜ at + 4 ≤ length (now input) ⌝ }
     ensures { λ r. ⌜ r ≡ wordAt (now (input .entry)) at ⌝ }
 {
-    wide(input[at])
-        + wide(input[at + 1]) * 0x100
-        + wide(input[at + 2]) * 0x10000
-        + wide(input[at + 3]) * 0x1000000
+    u32_to_usize(u32_at(input, at))
 }
 
 // ---- the lines

@@ -3,11 +3,10 @@ use mathlib.Core.Path.{_≡_, refl, sym, ap, _∙_}
 use mathlib.Core.List.{List, [], _∷_, _++_}
 use Prim.Native.Nat.{ℕ, zero, suc, _+_, _*_, _-_, _≤_, _<_}
 use native.Mathlib.Omega.{arith}
-use lib.Dec.{ltb}
 use lib.ListN.{length, getD, take, drop, length-append, length-take, length-drop}
 use lib.Seq.{take-all, take-at}
-use borrow.Author.Tests.{lt-ltb, le-ltb, ltb-true, ltb-false}
-use Rattle.laws.proofs.Tests.{cases}
+use borrow.Author.Tests.{lt-ltb, le-ltb, ltb-false}
+use Rattle.laws.proofs.Checks.{none-met}
 use Rattle.bcn_spec.specs.Answers.{done, longStore, badReceipt}
 use Rattle.store_records.specs.Store.{recordSize, storeLimit}
 use Rattle.store_restore.specs.declared.Restored.{Restored}
@@ -16,7 +15,7 @@ use Rattle.store_restore.proofs.Fitting.{restorable}
 use Rattle.store_restore.proofs.Restoring as restoring
 use Rattle.text.specs.Text.{Written}
 use Rattle.text.proofs.Texts.{then, said}
-use Rattle.text_restore.specs.Restoring.{lengthSize, cleanedLength, cleanedPart, receiptPart, inputRefusal, answeredAt, restoredOutput, outputAt, restoringOutput}
+use Rattle.text_restore.specs.Restoring.{lengthSize, cleanedLength, cleanedPart, receiptPart, inputChecks, inputRefusal, answeredAt, restoredOutput, outputAt, restoringOutput}
 
 -- ---- the input's own refusals
 
@@ -45,16 +44,8 @@ module _ (input : List ℕ) where
     pub there : lengthSize + cleanedLength input ≤ length input
 
   pub whole-when : inputRefusal input ≡ done → Whole
-  whole-when z =
-      cases (ltb (length input) lengthSize)
-      (λ t. let e = cut-length (ltb-true _ _ t) in omega arith)
-      (λ f. let l : lengthSize ≤ length input = ltb-false _ _ f in
-      cases (ltb storeLimit (cleanedLength input))
-      (λ t. let e = long-length _ refl l (ltb-true _ _ t) in omega arith)
-      (λ g. let m : cleanedLength input ≤ storeLimit = ltb-false _ _ g in
-      cases (ltb (length input) (lengthSize + cleanedLength input))
-      (λ t. let e = cut-store _ refl l m (ltb-true _ _ t) in omega arith)
-      (λ h. record { few = m; there = ltb-false _ _ h })))
+  unfolding inputRefusal
+  whole-when z = let none = none-met (inputChecks input) tt z in record { few = ltb-false _ _ (none .1 .0); there = ltb-false _ _ (none .1 .1 .0) }
 
   pub whole-as-told : {number : ℕ} → number ≡ inputRefusal input → number ≡ done → Whole
   whole-as-told e z = whole-when (sym e ∙ z)

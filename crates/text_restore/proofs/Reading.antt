@@ -9,8 +9,7 @@ use lib.Seq.{length-take-le, take-all}
 use borrow.Author.Tests.{ltb-true, ltb-false}
 use Rattle.laws.proofs.Tests.{cases}
 use Rattle.bcn_spec.specs.Answers.{done, longStore}
-use Rattle.store_records.specs.Store.{storeLimit}
-use Rattle.store_spec.specs.Twins.{mostRecords}
+use Rattle.store_records.specs.Store.{storeLimit, mostRecords}
 use Rattle.store_restore.specs.Restore.{totalOf, restoreRefusal}
 use Rattle.store_restore.proofs.Fitting.{many}
 use Rattle.text_restore.specs.Restoring.{lengthSize, cleanedLength, cleanedPart, receiptPart, inputRefusal, restoredOutput, restoringOutput, readLimit, ReadEnough}

@@ -6,6 +6,7 @@ use native.Mathlib.Omega.{arith}
 use lib.ListN.{length, take, drop, length-append}
 use lib.Seq.{take-at, drop-at, drop-drop}
 use Rattle.bcn_spec.specs.Answers.{done}
+use Rattle.raw_bytes.proofs.Bytes.{four-back}
 use Rattle.store_records.specs.Store.{storeLimit}
 use Rattle.store_clean.specs.Clean.{cleanedOf}
 use Rattle.store_clean.proofs.Moving.{Sized, cleaned-sized}
@@ -15,13 +16,10 @@ use Rattle.store_restore.proofs.Theorems.{done-again}
 use Rattle.text_restore.specs.Restoring.{lengthSize, cleanedLength, cleanedPart, receiptPart, inputRefusal, restoredOutput, restoringOutput, inputOf, ProgramUndoes}
 use Rattle.text_restore.proofs.Answering.{whole-input}
 
-four-bytes : (n : ℕ) → n ≤ storeLimit → n % 0x100 + n / 0x100 % 0x100 * 0x100 + n / 0x10000 % 0x100 * 0x10000 + n / 0x1000000 * 0x1000000 ≡ n
-four-bytes n h = omega arith
-
 module _ (cleaned receipt : List ℕ) (few : length cleaned ≤ storeLimit) where
   length-told : cleanedLength (inputOf cleaned receipt) ≡ length cleaned
   unfolding cleanedLength
-  length-told = four-bytes (length cleaned) few
+  length-told = four-back (inputOf cleaned receipt) 0 (length cleaned) (omega arith) refl refl refl (omega arith)
 
   cleaned-back : cleanedPart (inputOf cleaned receipt) ≡ cleaned
   unfolding cleanedPart

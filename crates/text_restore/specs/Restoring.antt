@@ -1,13 +1,14 @@
 -- What the program `restoring` writes of its input: one byte, the answer, and where that is 0 the restored store. Assumes nothing.
 use mathlib.Core.Path.{_≡_}
+use mathlib.Core.Bool.{Bool}
 use mathlib.Core.List.{List, [], _∷_, _++_}
 use Prim.Native.Nat.{ℕ, zero, suc, _+_, _*_, _/_, _%_, _≤_}
 use lib.Dec.{ltb}
 use lib.ListN.{length, getD, take, drop}
-use Rattle.laws.specs.Pick.{pick}
+use Rattle.laws.specs.Checks.{firstMet}
 use Rattle.bcn_spec.specs.Answers.{done, longStore, badReceipt}
-use Rattle.store_records.specs.Store.{recordSize, storeLimit}
-use Rattle.store_spec.specs.Twins.{mostRecords}
+use Rattle.raw_bytes.specs.Bytes.{lowFirst}
+use Rattle.store_records.specs.Store.{recordSize, storeLimit, mostRecords}
 use Rattle.store_clean.specs.Clean.{cleanedOf}
 use Rattle.store_receipt.specs.Receipt.{entrySize, receiptOf}
 use Rattle.store_restore.specs.Restore.{restoreRefusal, restoredOf}
@@ -18,7 +19,7 @@ abbrev pub lengthSize : ℕ
 lengthSize = 4
 
 unfoldable pub cleanedLength : List ℕ → ℕ
-cleanedLength input = getD input 0 0 + getD input 1 0 * 0x100 + getD input 2 0 * 0x10000 + getD input 3 0 * 0x1000000
+cleanedLength input = lowFirst input 0 4
 
 unfoldable pub cleanedPart : List ℕ → List ℕ
 cleanedPart input = take (cleanedLength input) (drop lengthSize input)
@@ -27,10 +28,14 @@ unfoldable pub receiptPart : List ℕ → List ℕ
 receiptPart input = drop (lengthSize + cleanedLength input) input
 
 -- An input that ends before its receipt begins has none that fits, 25; a length above that of any store is 5, whatever follows.
+abbrev pub inputChecks : List ℕ → List (Bool × ℕ)
+inputChecks input =
+    (ltb (length input) lengthSize, badReceipt) ∷
+    (ltb storeLimit (cleanedLength input), longStore) ∷
+    (ltb (length input) (lengthSize + cleanedLength input), badReceipt) ∷ []
+
 unfoldable pub inputRefusal : List ℕ → ℕ
-inputRefusal input =
-    pick (ltb (length input) lengthSize) badReceipt
-    (pick (ltb storeLimit (cleanedLength input)) longStore (pick (ltb (length input) (lengthSize + cleanedLength input)) badReceipt done))
+inputRefusal input = firstMet (inputChecks input)
 
 -- ---- the output
 

@@ -8,6 +8,8 @@ ghost use Rattle.store_records.specs.Store.{storeLimit};
 ghost use Rattle.text.specs.Text.{Written};
 ghost use Rattle.text_restore.specs.Restoring.{lengthSize, cleanedLength, inputRefusal, restoredOutput, restoringOutput};
 use bcn_spec::Answer;
+use raw_bytes::u32_at;
+use raw_bytes::u32_to_usize;
 use store_receipt::Entry;
 use store_records::Record;
 use store_restore::restore_store;
@@ -31,18 +33,12 @@ impl Restoring {
     pub const OUTPUT: usize = 1 + Record::STORE;
 }
 
-fn wide(byte: u8) -> usize
-    ensures { λ r. ⌜ (r ≡ byte) × (r < 256) ⌝ }
-{
-    byte as usize
-}
-
 // How many bytes of the input are the cleaned store.
 fn cleaned_length(input: &[u8]) -> usize
     requires { ⌜ lengthSize ≤ length (now input) ⌝ }
     ensures { λ r. ⌜ r ≡ cleanedLength (now (input .entry)) ⌝ }
 {
-    wide(input[0]) + wide(input[1]) * 0x100 + wide(input[2]) * 0x10000 + wide(input[3]) * 0x1000000
+    u32_to_usize(u32_at(input, 0))
 }
 
 // Why an input is refused before its two parts are looked at.

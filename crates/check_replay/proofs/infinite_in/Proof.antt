@@ -5,17 +5,7 @@ use Rattle.check_replay.proofs.infinite_in.Tie as tie
 
 returns : tie.Need-returns
 unfolding infiniteIn
-returns c = search needs
+returns c = c .u16-at .ensures
 
 pub infinite-in-spec : {M : Type 1} → statement M
-infinite-in-spec =
-    tie.close
-    (tie.spec
-    (λ c. search needs)
-    (λ c κs. search needs)
-    (λ c. search needs)
-    (λ c. search needs)
-    (λ c κs. search needs)
-    (λ c. search needs)
-    (λ c. search needs)
-    returns)
+infinite-in-spec = tie.close (tie.spec (λ c κs. search needs) returns)

@@ -5,19 +5,7 @@ use Rattle.check_replay.proofs.value_at.Tie as tie
 
 returns : tie.Need-returns
 unfolding valueIn
-returns c = search needs
+returns c = c .u16-at .ensures
 
 pub value-at-spec : {M : Type 1} → statement M
-value-at-spec =
-    tie.close
-    (tie.spec
-    (λ c. search needs)
-    (λ c. search needs)
-    (λ c κs. search needs)
-    (λ c. search needs)
-    (λ c. search needs)
-    (λ c. search needs)
-    (λ c κs. search needs)
-    (λ c. search needs)
-    (λ c. search needs)
-    returns)
+value-at-spec = tie.close (tie.spec (λ c. search needs) (λ c κs. search needs) returns)

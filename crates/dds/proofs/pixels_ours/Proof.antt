@@ -7,7 +7,7 @@ use Rattle.dds.proofs.pixels_ours.Tie as tie
 
 returns : tie.Need-returns
 unfolding pixelsOurs
-returns c = rw (c .before .before .word .ensures, c .before .word2 .ensures, c .word3 .ensures) (simp and-both)
+returns c = rw (c .before .before .u32-at .ensures, c .before .u32-at2 .ensures, c .u32-at3 .ensures) (simp and-both)
 
 pub pixels-ours-spec : {M : Type 1} → statement M
 pixels-ours-spec = tie.close (tie.spec (λ c κs. search needs) (λ c κs. search needs) (λ c κs. search needs) returns)

@@ -20,10 +20,10 @@ loop-holds : tie.Need-loop-holds Inv-loop μ-loop
 loop-holds c = (search needs, first-none _)
 
 returns : tie.Need-returns Inv-loop μ-loop
-returns c = edge-here _ _ (count-is (c .before .before .wide .ensures) (c .before .record-count .ensures .0)) (c .before .before .before .before .loop .inv .1) (search needs) (c .if1 .taken)
+returns c = edge-here _ _ (count-is (c .before .before .u32-to-usize .ensures) (c .before .record-count .ensures .0)) (c .before .before .before .before .loop .inv .1) (search needs) (c .if1 .taken)
 
 loop-again : tie.Need-loop-again Inv-loop μ-loop
-loop-again c = (search needs, edge-next _ _ (count-is (c .before .before .wide .ensures) (c .before .record-count .ensures .0)) (c .before .before .before .before .loop .inv .1) (c .if1 .left))
+loop-again c = (search needs, edge-next _ _ (count-is (c .before .before .u32-to-usize .ensures) (c .before .record-count .ensures .0)) (c .before .before .before .before .loop .inv .1) (c .if1 .left))
 
 returns-2 : tie.Need-returns-2 Inv-loop μ-loop
 returns-2 c = edge-none _ _ (c .before .loop .inv .1) (search needs) (search needs)

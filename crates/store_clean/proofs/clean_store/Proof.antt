@@ -25,19 +25,19 @@ loop-holds : tie.Need-loop-holds Inv-loop μ-loop
 loop-holds c = laws.so-far-none _ _
 
 repeated-along-requires : tie.Need-repeated-along-requires Inv-loop μ-loop
-repeated-along-requires c κs = let w = whole-when (c .before .before .before .before .before .before .before .list-refusal .ensures) (c .before .before .before .before .before .before .if1 .left) in (search needs, (search needs, c .before .before .before .before .link-records .ensures))
+repeated-along-requires c κs = let w = whole-when (c .before .before .before .before .before .before .before .before .list-refusal .ensures) (c .before .before .before .before .before .before .before .if1 .left) in (search needs, (search needs, c .before .before .before .before .before .link-records .ensures))
 
 loop-again : tie.Need-loop-again Inv-loop μ-loop
 loop-again c = laws.so-far-gone (c .before .before .before .before .loop .inv) (search needs) (met-goes (c .before .repeated-along .ensures) (c .if2 .taken))
 
 copy-record-requires : tie.Need-copy-record-requires Inv-loop μ-loop
-copy-record-requires c κs = let w = whole-when (c .before .before .before .before .before .before .before .before .before .before .list-refusal .ensures) (c .before .before .before .before .before .before .before .before .before .if1 .left) in let s = c .before .before .before .before .before .loop .inv in (search needs, omega arith)
+copy-record-requires c κs = let w = whole-when (c .before .before .before .before .before .before .before .before .before .before .before .list-refusal .ensures) (c .before .before .before .before .before .before .before .before .before .before .if1 .left) in let s = c .before .before .before .before .before .loop .inv in (search needs, omega arith)
 
 loop-again-2 : tie.Need-loop-again-2 Inv-loop μ-loop
-loop-again-2 c = let w = whole-when (c .before .before .before .before .before .before .before .before .before .before .before .before .before .list-refusal .ensures) (c .before .before .before .before .before .before .before .before .before .before .before .before .if1 .left) in let s = c .before .before .before .before .before .before .before .before .loop .inv in laws.so-far-more s (search needs) (omega arith) (c .before .before .before .before .before .repeated-along .ensures .stays (c .before .before .before .before .if2 .left)) (c .before .before .copy-record .ensures)
+loop-again-2 c = let w = whole-when (c .before .before .before .before .before .before .before .before .before .before .before .before .before .before .list-refusal .ensures) (c .before .before .before .before .before .before .before .before .before .before .before .before .before .if1 .left) in let s = c .before .before .before .before .before .before .before .before .loop .inv in laws.so-far-more s (search needs) (omega arith) (c .before .before .before .before .before .repeated-along .ensures .stays (c .before .before .before .before .if2 .left)) (c .before .before .copy-record .ensures)
 
 returns-2 : tie.Need-returns-2 Inv-loop μ-loop
-returns-2 c = laws.cleaned-done _ _ (sym (c .before .before .before .before .before .before .list-refusal .ensures) ∙ c .before .before .before .before .before .if1 .left) (c .before .loop .inv) (search needs)
+returns-2 c = laws.cleaned-done _ _ (c .before .before .record-count .ensures) (sym (c .before .before .before .before .before .before .before .list-refusal .ensures) ∙ c .before .before .before .before .before .before .if1 .left) (c .before .loop .inv) (search needs)
 
 pub clean-store-spec : {M : Type 1} → statement M
 clean-store-spec =
@@ -50,6 +50,7 @@ clean-store-spec =
     returns
     (λ c. search needs)
     link-records-requires
+    (λ c κs. search needs)
     loop-holds
     (λ c. search needs)
     repeated-along-requires

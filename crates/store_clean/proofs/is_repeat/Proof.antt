@@ -21,11 +21,11 @@ mode-at-requires c κs = let f = c .before .before .before .before .before .befo
 returns-4 : tie.Need-returns-4
 returns-4 c = sym (laws.repeats-reserved _ _ _ (sym (c .before .mode-at .ensures) ∙ c .if2 .taken))
 
-same-block-requires : tie.Need-same-block-requires
-same-block-requires c κs = let k = c .before .before .before .before .before .before .before .before in let r = k .before .before in let f = r .before .before in let s = f .before .before in (part-length _ _ (unrefused (s .record-at .ensures) (f .again .given .1)) (c .before .record-block .ensures), part-length _ _ (unrefused (r .record-at2 .ensures) (k .kept .given .1)) (c .record-block2 .ensures))
+same-bytes-requires : tie.Need-same-bytes-requires
+same-bytes-requires c κs = let k = c .before .before .before .before .before .before .before .before in let r = k .before .before in let f = r .before .before in let s = f .before .before in (part-length _ _ (unrefused (s .record-at .ensures) (f .again .given .1)) (c .before .record-block .ensures), part-length _ _ (unrefused (r .record-at2 .ensures) (k .kept .given .1)) (c .record-block2 .ensures))
 
 returns-5 : tie.Need-returns-5
-returns-5 c = let k = c .before .before .before .before .before .before .before .before .before in let r = k .before .before in let f = r .before .before in let s = f .before .before in laws.same-blocks _ _ _ (unrefused (s .record-at .ensures) (f .again .given .1)) (unrefused (r .record-at2 .ensures) (k .kept .given .1)) (format-is (s .record-at .ensures) (f .again .given .1)) (format-is (r .record-at2 .ensures) (k .kept .given .1)) (c .before .before .before .before .before .if1 .left) (λ z. c .before .before .before .if2 .left (c .before .before .before .before .mode-at .ensures ∙ z)) (c .before .before .record-block .ensures) (c .before .record-block2 .ensures) (c .same-block .ensures)
+returns-5 c = let k = c .before .before .before .before .before .before .before .before .before in let r = k .before .before in let f = r .before .before in let s = f .before .before in laws.same-blocks _ _ _ (unrefused (s .record-at .ensures) (f .again .given .1)) (unrefused (r .record-at2 .ensures) (k .kept .given .1)) (format-is (s .record-at .ensures) (f .again .given .1)) (format-is (r .record-at2 .ensures) (k .kept .given .1)) (c .before .before .before .before .before .if1 .left) (λ z. c .before .before .before .if2 .left (c .before .before .before .before .mode-at .ensures ∙ z)) (c .before .before .record-block .ensures) (c .before .record-block2 .ensures) (c .same-bytes .ensures)
 
 pub is-repeat-spec : {M : Type 1} → statement M
 is-repeat-spec =
@@ -44,5 +44,5 @@ is-repeat-spec =
     returns-4
     (λ c κs. search needs)
     (λ c κs. search needs)
-    same-block-requires
+    same-bytes-requires
     returns-5)

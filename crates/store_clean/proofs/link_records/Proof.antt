@@ -38,7 +38,7 @@ loop-again-2 c =
     (search needs, simp length-set (i .1), simp length-set (i .2), linking-more (i .3) (search needs) (i .2) u k refl refl)
 
 returns : tie.Need-returns Inv-loop μ-loop
-returns c = let e : c .before .loop .n ≡ recordsIn (c .before .before .before .before .args .store .now) = omega arith in rw e at (c .before .loop .inv .3 .linked)
+returns c = let e : c .before .loop .n ≡ recordsIn (c .before .before .before .before .before .args .store .now) = omega arith in rw e at (c .before .loop .inv .3 .linked)
 
 pub link-records-spec : {M : Type 1} → statement M
 link-records-spec =
@@ -46,6 +46,7 @@ link-records-spec =
     (tie.spec
     Inv-loop
     μ-loop
+    (λ c κs. search needs)
     loop-holds
     (λ c κs. search needs)
     (λ c. search needs)

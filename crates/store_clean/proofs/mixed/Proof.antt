@@ -14,10 +14,10 @@ abbrev μ-loop : tie.MeasureT-loop
 μ-loop format block mix₀ k₀ mix k = 16 - k
 
 loop-holds : tie.Need-loop-holds Inv-loop μ-loop
-loop-holds c = (search needs, mixed-none _ _ _ (c .wide .ensures .0))
+loop-holds c = (search needs, mixed-none _ _ _ (c .u8-to-u64 .ensures .0))
 
 loop-again : tie.Need-loop-again Inv-loop μ-loop
-loop-again c = (search needs, mixed-more _ _ _ _ _ (c .before .before .before .loop .inv .1) (c .wide2 .ensures .0))
+loop-again c = (search needs, mixed-more _ _ _ _ _ _ (c .before .before .before .before .loop .inv .1) (c .before .before .mixed-on .ensures .0) (c .u8-to-u642 .ensures .0))
 
 returns : tie.Need-returns Inv-loop μ-loop
 returns c = let e : c .before .loop .k ≡ 16 = omega arith in rw e at (c .before .loop .inv .1)
@@ -31,7 +31,7 @@ mixed-spec =
     (λ c κs. search needs)
     (λ c. search needs)
     loop-holds
-    (λ c. search needs)
+    (λ c κs. search needs)
     (λ c. search needs)
     (λ c κs. search needs)
     (λ c. search needs)

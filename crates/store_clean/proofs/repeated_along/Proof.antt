@@ -21,22 +21,22 @@ returns-2 : tie.Need-returns-2 Inv-loop μ-loop
 returns-2 c = met-reserved _ _ (sym (c .before .mode-at .ensures) ∙ c .if1 .taken)
 
 loop-holds : tie.Need-loop-holds Inv-loop μ-loop
-loop-holds c = let s = c .before .before .before .before .before .before .before .before .before .pre in passed-none (s .1 .1) _ (s .0) (unrefused (c .before .before .before .before .before .before .record-at .ensures) (c .before .before .before .before .enum-told .given .1)) (c .place .ensures)
+loop-holds c = let s = c .before .before .before .before .before .before .before .before .before .pre in passed-none (s .1 .1) _ (s .0) (unrefused (c .before .before .before .before .before .before .record-at .ensures) (c .before .before .before .before .enum-told .given .1)) (c .u16-to-usize .ensures .0)
 
 returns-3 : tie.Need-returns-3 Inv-loop μ-loop
 returns-3 c = let s = c .before .before .before .before .before .before .before .before .before .before .before .before .before .pre in met-here (s .1 .1) _ (s .0) (c .before .before .before .loop .inv) (search needs) (sym (c .before .is-repeat .ensures) ∙ c .if2 .taken)
 
-mul-place-2 : tie.Need-mul-place-2 Inv-loop μ-loop
-mul-place-2 c = let s = c .before .before .before .before .before .before .before .before .before .before .before .before .before .pre in let l = earlier (s .1 .1) _ (s .0) (c .before .before .before .loop .inv) (search needs) in search needs
+mul-u16-to-usize-2 : tie.Need-mul-u16-to-usize-2 Inv-loop μ-loop
+mul-u16-to-usize-2 c = let s = c .before .before .before .before .before .before .before .before .before .before .before .before .before .pre in let l = earlier (s .1 .1) _ (s .0) (c .before .before .before .loop .inv) (search needs) in search needs
 
-shared-slice-read-place-2 : tie.Need-shared-slice-read-place-2 Inv-loop μ-loop
-shared-slice-read-place-2 c = let s = c .before .before .before .before .before .before .before .before .before .before .before .before .before .before .pre in let l = earlier (s .1 .1) _ (s .0) (c .before .before .before .before .loop .inv) (search needs) in search needs
+shared-slice-read-u16-to-usize-2 : tie.Need-shared-slice-read-u16-to-usize-2 Inv-loop μ-loop
+shared-slice-read-u16-to-usize-2 c = let s = c .before .before .before .before .before .before .before .before .before .before .before .before .before .before .pre in let l = earlier (s .1 .1) _ (s .0) (c .before .before .before .before .loop .inv) (search needs) in search needs
 
 loop-less : tie.Need-loop-less Inv-loop μ-loop
-loop-less c = let s = c .before .before .before .before .before .before .before .before .before .before .before .before .before .before .before .pre in next-less (s .1 .1) _ (s .0) (c .before .before .before .before .before .loop .inv) (search needs) (c .place2 .ensures)
+loop-less c = let s = c .before .before .before .before .before .before .before .before .before .before .before .before .before .before .before .pre in next-less (s .1 .1) _ (s .0) (c .before .before .before .before .before .loop .inv) (search needs) (c .u16-to-usize2 .ensures .0)
 
 loop-again : tie.Need-loop-again Inv-loop μ-loop
-loop-again c = let s = c .before .before .before .before .before .before .before .before .before .before .before .before .before .before .before .pre in passed-more (s .1 .1) _ (s .0) (c .before .before .before .before .before .loop .inv) (search needs) (c .place2 .ensures) (sym (c .before .before .before .is-repeat .ensures) ∙ c .before .before .if2 .left)
+loop-again c = let s = c .before .before .before .before .before .before .before .before .before .before .before .before .before .before .before .pre in passed-more (s .1 .1) _ (s .0) (c .before .before .before .before .before .loop .inv) (search needs) (c .u16-to-usize2 .ensures .0) (sym (c .before .before .before .is-repeat .ensures) ∙ c .before .before .if2 .left)
 
 returns-4 : tie.Need-returns-4 Inv-loop μ-loop
 returns-4 c = let s = c .before .before .before .before .before .before .before .before .before .before .before .pre in met-none (s .1 .1) _ (s .0) (c .before .loop .inv) (search needs)
@@ -60,8 +60,8 @@ repeated-along-spec =
     (λ c. search needs)
     (λ c κs. search needs)
     returns-3
-    mul-place-2
-    shared-slice-read-place-2
+    mul-u16-to-usize-2
+    shared-slice-read-u16-to-usize-2
     (λ c κs. search needs)
     loop-less
     loop-again

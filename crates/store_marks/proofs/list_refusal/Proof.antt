@@ -17,4 +17,4 @@ returns-4 : tie.Need-returns-4
 returns-4 c = sym (laws.fine _ _ (search needs) (search needs) (search needs))
 
 pub list-refusal-spec : {M : Type 1} → statement M
-list-refusal-spec = tie.close (tie.spec returns returns-2 returns-3 returns-4)
+list-refusal-spec = tie.close (tie.spec returns returns-2 (λ c κs. search needs) returns-3 returns-4)

@@ -42,10 +42,10 @@ search-holds : tie.Need-search-holds Inv-search μ-search Inv-loop μ-loop
 search-holds c = (search needs, refl, first-none _)
 
 search-again : tie.Need-search-again Inv-search μ-search Inv-loop μ-loop
-search-again c = let i = c .before .before .before .search .inv in (search needs, i .1, first-more _ _ (i .2) (alike-other (c .before .before .before .before .before .before .before .before .before .before .before .before .before .before .before .before .pre .1 .1) _ _ (search needs) (search needs) (c .if2 .taken)))
+search-again c = let i = c .before .before .before .search .inv in (search needs, i .1, first-more _ _ (i .2) (alike-other (c .before .before .before .before .before .before .before .before .before .before .before .before .before .before .before .before .before .pre .1 .1) _ _ (search needs) (search needs) (c .if2 .taken)))
 
 kept-alike-requires : tie.Need-kept-alike-requires Inv-search μ-search Inv-loop μ-loop
-kept-alike-requires c κs = let s = c .before .before .before .before .before .before .before .before .before .before .before .before .before .before .before .before .pre in let r = c .before .before .before .before .before .before .before .before .before .before .record-at .ensures in let e = c .before .before .before .before .before .before .before .before .found .given .1 in (unrefused r e, (format-is r e, ((λ z. c .before .before .before .before .before .if1 .left (c .before .before .before .before .before .before .mode-at .ensures ∙ z)), ((search needs, search needs), (s .0, s .1 .1 .pictured)))))
+kept-alike-requires c κs = let s = c .before .before .before .before .before .before .before .before .before .before .before .before .before .before .before .before .before .pre in let r = c .before .before .before .before .before .before .before .before .before .before .record-at .ensures in let e = c .before .before .before .before .before .before .before .before .found .given .1 in (unrefused r e, (format-is r e, ((λ z. c .before .before .before .before .before .if1 .left (c .before .before .before .before .before .before .mode-at .ensures ∙ z)), ((search needs, search needs), (s .0, s .1 .1 .pictured)))))
 
 search-again-2 : tie.Need-search-again-2 Inv-search μ-search Inv-loop μ-loop
 search-again-2 c = let i = c .before .before .before .before .before .search .inv in (search needs, i .1, first-more _ _ (i .2) (sym (c .before .kept-alike .ensures) ∙ c .if3 .left))
@@ -65,6 +65,7 @@ mark-records-spec =
     μ-search
     Inv-loop
     μ-loop
+    (λ c κs. search needs)
     loop-holds
     (λ c κs. search needs)
     (λ c. search needs)

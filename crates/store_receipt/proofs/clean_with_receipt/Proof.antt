@@ -26,7 +26,7 @@ link-records-requires : tie.Need-link-records-requires Inv-loop μ-loop
 link-records-requires c κs = let w = roomy-when (c .before .before .receipt-refusal .ensures) (c .before .if1 .left) in (search needs, search needs)
 
 loop-holds : tie.Need-loop-holds Inv-loop μ-loop
-loop-holds c = (laws.telling-none _ _ _, sym (c .before .before .before .before .receipt-refusal .ensures) ∙ c .before .before .before .if1 .left, c .before .link-records .ensures)
+loop-holds c = (laws.telling-none _ _ _, sym (c .before .before .before .before .before .receipt-refusal .ensures) ∙ c .before .before .before .before .if1 .left, c .before .before .link-records .ensures)
 
 first-along-requires : tie.Need-first-along-requires Inv-loop μ-loop
 first-along-requires c κs =
@@ -68,7 +68,7 @@ loop-again-2 c =
     (laws.telling-more (i .0) (search needs) (omega arith) (c .before .before .before .before .before .first-along .ensures .0) (w .records-fit) (search needs) (c .before .before .copy-record .ensures), i .1, i .2)
 
 returns-2 : tie.Need-returns-2 Inv-loop μ-loop
-returns-2 c = let i = c .before .loop .inv in laws.receipt-done _ _ _ (i .1) (i .0) (search needs)
+returns-2 c = let i = c .before .loop .inv in laws.receipt-done _ _ _ (c .before .before .record-count .ensures) (i .1) (i .0) (search needs)
 
 pub clean-with-receipt-spec : {M : Type 1} → statement M
 clean-with-receipt-spec =
@@ -81,6 +81,7 @@ clean-with-receipt-spec =
     returns
     (λ c. search needs)
     link-records-requires
+    (λ c κs. search needs)
     loop-holds
     (λ c. search needs)
     (λ c. search needs)

@@ -34,6 +34,7 @@ record-at-spec =
     (tie.spec
     returns
     returns-2
+    (λ c κs. search needs)
     returns-3
     (λ c. search needs)
     (λ c. search needs)

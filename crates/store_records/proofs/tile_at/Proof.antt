@@ -1,5 +1,4 @@
 use borrow.Author.Needs.{needs}
-use native.Mathlib.Nat.{add-zero}
 use mathlib.Core.Path.{_∙_}
 use Rattle.store_records.specs.Store.{tileOf}
 use Rattle.store_records.proofs.Readings as laws
@@ -11,29 +10,7 @@ returns c = laws.no-tile _ _ (search needs)
 
 returns-2 : tie.Need-returns-2
 unfolding tileOf
-returns-2 c = rw add-zero (cc) ∙ laws.tile-there _ _ (search needs)
+returns-2 c = c .u32-at .ensures ∙ laws.tile-there _ _ (search needs)
 
 pub tile-at-spec : {M : Type 1} → statement M
-tile-at-spec =
-    tie.close
-    (tie.spec
-    returns
-    (λ c. search needs)
-    (λ c. search needs)
-    (λ c κs. search needs)
-    (λ c. search needs)
-    (λ c. search needs)
-    (λ c κs. search needs)
-    (λ c. search needs)
-    (λ c. search needs)
-    (λ c. search needs)
-    (λ c. search needs)
-    (λ c κs. search needs)
-    (λ c. search needs)
-    (λ c. search needs)
-    (λ c. search needs)
-    (λ c. search needs)
-    (λ c κs. search needs)
-    (λ c. search needs)
-    (λ c. search needs)
-    returns-2)
+tile-at-spec = tie.close (tie.spec (λ c κs. search needs) returns (λ c. search needs) (λ c κs. search needs) returns-2)

@@ -15,19 +15,20 @@ returns-3 : tie.Need-returns-3
 returns-3 c = sym (laws.uneven _ _ _ (search needs) (search needs) (search needs))
 
 returns-4 : tie.Need-returns-4
-returns-4 c = sym (laws.unfit _ _ _ (search needs) (search needs) (search needs) (sym (c .before .receipt-fits .ensures) ∙ not-true _ (c .if4 .taken)))
+returns-4 c = sym (laws.unfit _ _ _ (search needs) (search needs) (search needs) (sym (laws.fits-of _ _ _ (c .before .receipt-fits .ensures) (search needs)) ∙ not-true _ (c .if4 .taken)))
 
 returns-5 : tie.Need-returns-5
-returns-5 c = sym (laws.short _ _ _ (search needs) (search needs) (search needs) (sym (c .before .before .receipt-fits .ensures) ∙ not-false _ (c .before .if4 .left)) (search needs))
+returns-5 c = sym (laws.short _ _ _ (search needs) (search needs) (search needs) (sym (laws.fits-of _ _ _ (c .before .before .receipt-fits .ensures) (search needs)) ∙ not-false _ (c .before .if4 .left)) (search needs))
 
 returns-6 : tie.Need-returns-6
-returns-6 c = sym (laws.fine _ _ _ (search needs) (search needs) (search needs) (sym (c .before .before .receipt-fits .ensures) ∙ not-false _ (c .before .if4 .left)) (search needs))
+returns-6 c = sym (laws.fine _ _ _ (search needs) (search needs) (search needs) (sym (laws.fits-of _ _ _ (c .before .before .receipt-fits .ensures) (search needs)) ∙ not-false _ (c .before .if4 .left)) (search needs))
 
 pub restore-refusal-spec : {M : Type 1} → statement M
 restore-refusal-spec =
     tie.close
     (tie.spec
     returns
+    (λ c κs. search needs)
     (λ c. search needs)
     returns-2
     returns-3

@@ -21,12 +21,12 @@ returns : tie.Need-returns Inv-loop μ-loop
 returns c = laws.restored-refused _ _ _ _ (c .before .before .restore-refusal .ensures) (c .before .if1 .taken) (c .refused .ensures)
 
 loop-holds : tie.Need-loop-holds Inv-loop μ-loop
-loop-holds c = (laws.back-none _ _ _, sym (c .before .restore-refusal .ensures) ∙ c .if1 .left)
+loop-holds c = (laws.back-none _ _ _, sym (c .before .before .restore-refusal .ensures) ∙ c .before .if1 .left)
 
 put-back-requires : tie.Need-put-back-requires Inv-loop μ-loop
 put-back-requires c κs =
     let i = c .before .before .before .before .loop in
-    let a = c .before .before .before .before .before .before .before .before .before .before .args in
+    let a = c .before .before .before .before .before .before .before .before .before .before .before .args in
     let r = restorable _ _ _ (i .inv .1) in
     let x = laws.is-next (a .receipt .now) (i .used) (i .n) (sym (c .before .before .is-next .ensures) ∙ c .before .if2 .taken) in
     let s = i .inv .0 in
@@ -35,7 +35,7 @@ put-back-requires c κs =
 loop-again : tie.Need-loop-again Inv-loop μ-loop
 loop-again c =
     let i = c .before .before .before .before .before .before .before .loop in
-    let a = c .before .before .before .before .before .before .before .before .before .before .before .before .before .args in
+    let a = c .before .before .before .before .before .before .before .before .before .before .before .before .before .before .args in
     let r = restorable _ _ _ (i .inv .1) in
     let x = laws.is-next (a .receipt .now) (i .used) (i .n) (sym (c .before .before .before .before .before .is-next .ensures) ∙ c .before .before .before .before .if2 .taken) in
     (laws.back-told (i .inv .0) r (search needs) x (c .before .before .put-back .ensures), i .inv .1)
@@ -43,7 +43,7 @@ loop-again c =
 copy-record-requires : tie.Need-copy-record-requires Inv-loop μ-loop
 copy-record-requires c κs =
     let i = c .before .before .before .before .loop in
-    let a = c .before .before .before .before .before .before .before .before .before .before .args in
+    let a = c .before .before .before .before .before .before .before .before .before .before .before .args in
     let r = restorable _ _ _ (i .inv .1) in
     let s = i .inv .0 in
     (laws.next-there s r (search needs) (sym (c .before .before .is-next .ensures) ∙ c .before .if2 .left), omega arith)
@@ -51,12 +51,12 @@ copy-record-requires c κs =
 loop-again-2 : tie.Need-loop-again-2 Inv-loop μ-loop
 loop-again-2 c =
     let i = c .before .before .before .before .before .before .before .loop in
-    let a = c .before .before .before .before .before .before .before .before .before .before .before .before .before .args in
+    let a = c .before .before .before .before .before .before .before .before .before .before .before .before .before .before .args in
     let r = restorable _ _ _ (i .inv .1) in
     (laws.back-next (i .inv .0) r (search needs) (sym (c .before .before .before .before .before .is-next .ensures) ∙ c .before .before .before .before .if2 .left) (c .before .before .copy-record .ensures), i .inv .1)
 
 returns-2 : tie.Need-returns-2 Inv-loop μ-loop
-returns-2 c = let i = c .before .loop .inv in laws.restored-done _ _ _ (i .1) (i .0) (search needs)
+returns-2 c = let i = c .before .loop .inv in laws.restored-done _ _ _ (search needs) (i .1) (i .0) (search needs)
 
 pub restore-store-spec : {M : Type 1} → statement M
 restore-store-spec =
@@ -67,6 +67,7 @@ restore-store-spec =
     (λ c κs. search needs)
     (λ c κs. search needs)
     returns
+    (λ c κs. search needs)
     (λ c. search needs)
     loop-holds
     (λ c κs. search needs)

@@ -5,7 +5,7 @@ use lib.ListN.{length, length-set}
 use Rattle.laws.proofs.Rows.{made-none, made-store, made-upto}
 use Rattle.store_records.proofs.Readings.{unrefused, format-is, refused}
 use Rattle.store_spec.specs.Scratch.{printOf, printAt}
-use Rattle.store_spec.proofs.Keeping.{picture-in-length, Printed, print-passed, print-put, behind-prints}
+use Rattle.store_spec.proofs.Keeping.{picture-in-length, Printed, print-passed, print-put, behind-prints, at-count}
 use Rattle.store_scratch.proofs.keep_prints.Statement.{statement}
 use Rattle.store_scratch.proofs.keep_prints.Tie as tie
 
@@ -36,7 +36,7 @@ loop-again-2 : tie.Need-loop-again-2 Inv-loop μ-loop
 loop-again-2 c =
     let l = c .before .before .before .before .before .before .before .before .before .loop in
     let u = unrefused (c .before .before .before .before .before .before .before .record-at .ensures) (c .before .before .before .before .before .found .given .1) in
-    let shown = c .before .picture-in .ensures ∙ behind-prints _ _ _ _ _ _ (l .inv .1) (search needs) ∙ c .before .before .before .before .before .before .before .before .before .before .before .before .pre .1 .at _ (search needs) u in (
+    let shown = c .before .picture-in .ensures ∙ behind-prints _ _ _ _ _ _ (l .inv .1) (search needs) ∙ at-count _ _ _ _ (c .before .before .before .before .before .before .before .before .before .before .record-count .ensures) (c .before .before .before .before .before .before .before .before .before .before .before .before .before .pre .1) (search needs) u in (
       search needs,
       made-store _ _ _ _ _ _ (l .inv .1) refl (print-put _ _ _ u (c .fingerprint .ensures ∙ ap₂ printOf (c .before .before .before .kind-at .ensures) shown)) (search needs),
       simp length-set (l .inv .2),
@@ -51,6 +51,7 @@ keep-prints-spec =
     (tie.spec
     Inv-loop
     μ-loop
+    (λ c κs. search needs)
     loop-holds
     (λ c κs. search needs)
     (λ c. search needs)

@@ -18,7 +18,7 @@ unfolding mixedUpto
 loop-holds c = (search needs, refl)
 
 loop-again : tie.Need-loop-again Inv-loop μ-loop
-loop-again c = (search needs, mixed-more _ _ _ _ _ _ _ (c .before .before .before .before .before .before .before .loop .inv .1) (c .before .before .before .before .wide .ensures .0) (c .before .before .wide2 .ensures .0) (c .wide3 .ensures .0))
+loop-again c = (search needs, mixed-more _ _ _ _ _ _ _ _ (c .before .before .before .before .before .before .before .before .loop .inv .1) (c .mixed-on .ensures .0) (c .before .before .before .before .before .u16-to-u64 .ensures .0) (c .before .before .before .u16-to-u642 .ensures .0) (c .before .u16-to-u643 .ensures .0))
 
 returns : tie.Need-returns Inv-loop μ-loop
 returns c = let e : c .before .loop .pixel ≡ 16 = omega arith in rw e at (c .before .loop .inv .1)
@@ -42,7 +42,7 @@ mixed-spec =
     (λ c. search needs)
     (λ c. search needs)
     (λ c κs. search needs)
-    (λ c. search needs)
+    (λ c κs. search needs)
     (λ c. search needs)
     (λ c. search needs)
     (λ c. search needs)

@@ -15,7 +15,7 @@ abbrev μ-loop : tie.MeasureT-loop
 μ-loop store count n₀ n = count - n
 
 returns : tie.Need-returns Inv-loop μ-loop
-returns c = long-none _ (c .if1 .taken)
+returns c = c .before .record-count .ensures ∙ long-none _ (c .if1 .taken)
 
 loop-holds : tie.Need-loop-holds Inv-loop μ-loop
 loop-holds c = (search needs, first-none _)
@@ -29,7 +29,7 @@ loop-again c = (search needs, first-more _ _ (c .before .before .before .loop .i
 
 returns-3 : tie.Need-returns-3 Inv-loop μ-loop
 unfolding firstDamaged
-returns-3 c = sym (first-end _ _ _ (search needs) (search needs) (c .before .loop .inv .1))
+returns-3 c = c .before .before .before .record-count .ensures ∙ sym (first-end _ _ _ (search needs) (search needs) (c .before .loop .inv .1))
 
 pub first-damaged-spec : {M : Type 1} → statement M
 first-damaged-spec =
@@ -37,6 +37,7 @@ first-damaged-spec =
     (tie.spec
     Inv-loop
     μ-loop
+    (λ c κs. search needs)
     returns
     loop-holds
     (λ c κs. search needs)

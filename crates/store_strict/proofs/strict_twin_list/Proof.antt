@@ -8,10 +8,10 @@ returns : tie.Need-returns
 returns c = laws.strictly-refused _ _ _ (c .before .before .list-refusal .ensures) (c .before .if1 .taken) (c .refused .ensures)
 
 returns-2 : tie.Need-returns-2
-returns-2 c = laws.strictly-damaged _ _ (sym (c .before .before .before .before .list-refusal .ensures) ∙ c .before .before .before .if1 .left) (c .before .before .first-damaged .ensures) (c .before .if2 .taken) (c .refused2 .ensures)
+returns-2 c = laws.strictly-damaged _ _ (sym (c .before .before .before .before .before .list-refusal .ensures) ∙ c .before .before .before .before .if1 .left) (c .before .before .before .first-damaged .ensures) (search needs) (c .refused2 .ensures)
 
 returns-3 : tie.Need-returns-3
-returns-3 c = laws.strictly-done _ _ (sym (c .before .before .before .before .before .before .before .list-refusal .ensures) ∙ c .before .before .before .before .before .before .if1 .left) (c .before .before .before .before .before .first-damaged .ensures) (c .before .before .before .before .if2 .left) (c .before .before .twin-list .ensures)
+returns-3 c = laws.strictly-done _ _ (sym (c .before .before .before .before .before .before .before .before .list-refusal .ensures) ∙ c .before .before .before .before .before .before .before .if1 .left) (c .before .before .before .before .before .before .first-damaged .ensures) (search needs) (c .before .before .twin-list .ensures)
 
 pub strict-twin-list-spec : {M : Type 1} → statement M
 strict-twin-list-spec =
@@ -20,6 +20,7 @@ strict-twin-list-spec =
     (λ c κs. search needs)
     (λ c κs. search needs)
     returns
+    (λ c κs. search needs)
     (λ c κs. search needs)
     (λ c κs. search needs)
     returns-2

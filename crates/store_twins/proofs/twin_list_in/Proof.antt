@@ -17,13 +17,13 @@ mark-records-requires : tie.Need-mark-records-requires
 mark-records-requires c κs = let w = laws.roomy-when (c .before .before .before .before .before .before .before .scratch-refusal .ensures) (c .before .before .before .before .before .before .if1 .left) in (search needs, (search needs, scratch-kept _ _ (c .before .before .before .before .keep-records .ensures)))
 
 slice-reshare-prefix-made : tie.Need-slice-reshare-prefix-made
-slice-reshare-prefix-made c = let w = laws.roomy-when (c .before .before .before .before .before .before .before .before .before .before .scratch-refusal .ensures) (c .before .before .before .before .before .before .before .before .before .if1 .left) in search needs
+slice-reshare-prefix-made c = let w = laws.roomy-when (c .before .before .before .before .before .before .before .before .before .before .before .scratch-refusal .ensures) (c .before .before .before .before .before .before .before .before .before .before .if1 .left) in search needs
 
 slice-aggregate-made : tie.Need-slice-aggregate-made
-slice-aggregate-made c = let w = laws.roomy-when (c .before .before .before .before .before .before .before .before .before .before .before .scratch-refusal .ensures) (c .before .before .before .before .before .before .before .before .before .before .if1 .left) in sym (length-take-le _ _ (omega arith))
+slice-aggregate-made c = let w = laws.roomy-when (c .before .before .before .before .before .before .before .before .before .before .before .before .scratch-refusal .ensures) (c .before .before .before .before .before .before .before .before .before .before .before .if1 .left) in sym (length-take-le _ _ (omega arith))
 
 returns-2 : tie.Need-returns-2
-returns-2 c = laws.listed-in-done _ _ _ (sym (c .before .before .before .before .before .before .before .before .before .before .before .before .before .before .scratch-refusal .ensures) ∙ c .before .before .before .before .before .before .before .before .before .before .before .before .before .if1 .left) (c .before .before .before .before .before .before .before .before .before .before .before .keep-records .ensures) (c .before .before .before .before .before .before .mark-records .ensures) (c .before .before .count-of .ensures) (c .before .count-of2 .ensures) (c .count-of3 .ensures)
+returns-2 c = laws.listed-in-done _ _ _ (c .before .before .before .before .record-count .ensures) (sym (c .before .before .before .before .before .before .before .before .before .before .before .before .before .before .before .scratch-refusal .ensures) ∙ c .before .before .before .before .before .before .before .before .before .before .before .before .before .before .if1 .left) (c .before .before .before .before .before .before .before .before .before .before .before .before .keep-records .ensures) (c .before .before .before .before .before .before .before .mark-records .ensures) (c .before .before .count-of .ensures) (c .before .count-of2 .ensures) (c .count-of3 .ensures)
 
 pub twin-list-in-spec : {M : Type 1} → statement M
 twin-list-in-spec =
@@ -34,6 +34,7 @@ twin-list-in-spec =
     returns
     keep-records-requires
     mark-records-requires
+    (λ c κs. search needs)
     slice-reshare-prefix-made
     slice-aggregate-made
     (λ c κs. search needs)

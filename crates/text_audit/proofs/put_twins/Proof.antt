@@ -18,13 +18,13 @@ abbrev μ-loop : tie.MeasureT-loop
     count - n
 
 loop-holds : tie.Need-loop-holds Inv-loop μ-loop
-loop-holds c = (search needs, search needs, search needs, twins.no-tally (c .before .before .before .args .store .now), twins.no-lines (c .before .before .before .args .store .now) (c .before .before .before .args .text .now) (c .before .before .before .args .at))
+loop-holds c = (search needs, search needs, search needs, twins.no-tally (c .before .before .before .before .args .store .now), twins.no-lines (c .before .before .before .before .args .store .now) (c .before .before .before .before .args .text .now) (c .before .before .before .before .args .at))
 
 loop-again : tie.Need-loop-again Inv-loop μ-loop
 loop-again c =
     let l = c .before .before .before .loop in
-    let store = c .before .before .before .before .before .before .before .args .store .now in
-    let m = c .before .before .before .before .before .before .before .pre .1 .1 .at (l .n) (search needs) in
+    let store = c .before .before .before .before .before .before .before .before .args .store .now in
+    let m = c .before .before .before .before .before .before .before .before .pre .1 .1 .at (l .n) (search needs) in
     (search needs, search needs, search needs, twins.tally-skipped store (l .n) _ m (c .if1 .taken) (l .inv .3), twins.line-skipped store (l .n) _ m (c .if1 .taken) (l .inv .4))
 
 add-copies : tie.Need-add-copies Inv-loop μ-loop
@@ -42,8 +42,8 @@ add-before c = let few = c .before .before .before .before .before .before .befo
 loop-again-2 : tie.Need-loop-again-2 Inv-loop μ-loop
 loop-again-2 c =
     let l = c .before .before .before .before .before .before .before .before .before .before .before .before .before .loop in
-    let store = c .before .before .before .before .before .before .before .before .before .before .before .before .before .before .before .before .before .args .store .now in
-    let m = c .before .before .before .before .before .before .before .before .before .before .before .before .before .before .before .before .before .pre .1 .1 .at (l .n) (search needs) in
+    let store = c .before .before .before .before .before .before .before .before .before .before .before .before .before .before .before .before .before .before .args .store .now in
+    let m = c .before .before .before .before .before .before .before .before .before .before .before .before .before .before .before .before .before .before .pre .1 .1 .at (l .n) (search needs) in
     let f = c .before .before .before .before .before .before .before .before .before .examine .ensures in (
       search needs,
       search needs,
@@ -55,7 +55,7 @@ loop-again-2 c =
 returns : tie.Need-returns Inv-loop μ-loop
 returns c =
     let l = c .before .before .before .before .before .before .loop in
-    let store = c .before .before .before .before .before .before .before .before .before .before .args .store .now in
+    let store = c .before .before .before .before .before .before .before .before .before .before .before .args .store .now in
     (search needs, twins.tallied store (l .n) (recordsIn store) (search needs) (search needs) (l .inv .3) (c .before .before .before .before .count-faults .ensures) (l .inv .4) (c .before .before .put-tally .ensures .1))
 
 pub put-twins-spec : {M : Type 1} → statement M
@@ -64,6 +64,7 @@ put-twins-spec =
     (tie.spec
     Inv-loop
     μ-loop
+    (λ c κs. search needs)
     loop-holds
     (λ c. search needs)
     (λ c. search needs)

@@ -17,22 +17,22 @@ abbrev μ-loop : tie.MeasureT-loop
 μ-loop text₀ store count end₀ n₀ text end n = count - n
 
 loop-holds : tie.Need-loop-holds Inv-loop μ-loop
-loop-holds c = (search needs, search needs, search needs, lines.no-lines (c .before .before .args .store .now) (c .before .before .args .text .now))
+loop-holds c = (search needs, search needs, search needs, lines.no-lines (c .before .before .before .args .store .now) (c .before .before .before .args .text .now))
 
 loop-again : tie.Need-loop-again Inv-loop μ-loop
 loop-again c =
     let l = c .before .before .before .loop in
-    (search needs, search needs, search needs, lines.line-skipped (c .before .before .before .before .before .before .args .store .now) (l .n) _ (c .before .first-of .ensures) (search needs) (l .inv .3))
+    (search needs, search needs, search needs, lines.line-skipped (c .before .before .before .before .before .before .before .args .store .now) (l .n) _ (c .before .first-of .ensures) (search needs) (l .inv .3))
 
 loop-again-2 : tie.Need-loop-again-2 Inv-loop μ-loop
 loop-again-2 c =
     let l = c .before .before .before .before .before .before .before .loop in
-    (search needs, search needs, search needs, lines.line-more (c .before .before .before .before .before .before .before .before .before .before .args .store .now) (l .n) _ (c .before .before .before .before .before .first-of .ensures) (search needs) (l .inv .3) (c .before .before .put-removed .ensures .1))
+    (search needs, search needs, search needs, lines.line-more (c .before .before .before .before .before .before .before .before .before .before .before .args .store .now) (l .n) _ (c .before .before .before .before .before .first-of .ensures) (search needs) (l .inv .3) (c .before .before .put-removed .ensures .1))
 
 returns : tie.Need-returns Inv-loop μ-loop
 returns c =
     let l = c .before .loop in
-    let s = c .before .before .before .before .args .store .now in
+    let s = c .before .before .before .before .before .args .store .now in
     (search needs, lines.all-lines s (l .n) (recordsIn s) (search needs) (search needs) (l .inv .3))
 
 pub put-lines-spec : {M : Type 1} → statement M
@@ -41,6 +41,7 @@ put-lines-spec =
     (tie.spec
     Inv-loop
     μ-loop
+    (λ c κs. search needs)
     loop-holds
     (λ c κs. search needs)
     (λ c. search needs)

@@ -12,7 +12,7 @@ returns-2 : tie.Need-returns-2
 returns-2 c =
     let d = c .before .before .before .before .before .before .before .before .before .before .record-at .ensures in
     let e = c .before .before .before .before .before .before .before .before .found .given .1 in
-    (search needs, findings.found (c .before .before .before .before .before .before .before .before .before .before .before .before .args .store .now) (c .before .before .before .before .before .before .before .before .before .before .before .before .args .n) (unrefused d e) (format-is d e) (c .before .before .before .before .before .before .record-block .ensures) refl (search needs) (c .before .before .before .before .block-pixels .ensures) (c .before .before .wide .ensures .1) (c .first-infinite .ensures))
+    (search needs, findings.found (c .before .before .before .before .before .before .before .before .before .before .before .before .args .store .now) (c .before .before .before .before .before .before .before .before .before .before .before .before .args .n) (unrefused d e) (format-is d e) (c .before .before .before .before .before .before .record-block .ensures) refl (search needs) (c .before .before .before .before .block-pixels .ensures) (c .before .before .u16-to-usize .ensures .0) (c .first-infinite .ensures))
 
 pub examine-spec : {M : Type 1} → statement M
 examine-spec =

@@ -17,12 +17,12 @@ abbrev μ-loop : tie.MeasureT-loop
 μ-loop text₀ store count records₀ values₀ end₀ n₀ text records values end n = count - n
 
 loop-holds : tie.Need-loop-holds Inv-loop μ-loop
-loop-holds c = (search needs, search needs, search needs, findings.no-counts (c .before .before .args .store .now), findings.no-lines (c .before .before .args .store .now) (c .before .before .args .text .now))
+loop-holds c = (search needs, search needs, search needs, findings.no-counts (c .before .before .before .args .store .now), findings.no-lines (c .before .before .before .args .store .now) (c .before .before .before .args .text .now))
 
 loop-again : tie.Need-loop-again Inv-loop μ-loop
 loop-again c =
     let l = c .before .before .before .before .loop in
-    let store = c .before .before .before .before .before .before .before .args .store .now in
+    let store = c .before .before .before .before .before .before .before .before .args .store .now in
     let f = c .before .before .examine .ensures .1 in
     (search needs, search needs, search needs, findings.count-skipped store (l .n) f (c .if1 .taken) (l .inv .3), findings.line-skipped store (l .n) f (c .if1 .taken) (l .inv .4))
 
@@ -35,7 +35,7 @@ add-values c = let few = c .before .before .before .before .before .before .befo
 loop-again-2 : tie.Need-loop-again-2 Inv-loop μ-loop
 loop-again-2 c =
     let l = c .before .before .before .before .before .before .before .before .before .loop in
-    let store = c .before .before .before .before .before .before .before .before .before .before .before .before .args .store .now in
+    let store = c .before .before .before .before .before .before .before .before .before .before .before .before .before .args .store .now in
     let f = c .before .before .before .before .before .before .before .examine .ensures .1 in (
       search needs,
       search needs,
@@ -47,7 +47,7 @@ loop-again-2 c =
 returns : tie.Need-returns Inv-loop μ-loop
 returns c =
     let l = c .before .before .before .before .before .loop in
-    (search needs, findings.counted (c .before .before .before .before .before .before .before .before .args .store .now) (l .n) (recordsIn (c .before .before .before .before .before .before .before .before .args .store .now)) (search needs) (search needs) (l .inv .3) (l .inv .4) (c .before .before .put-counts .ensures .1))
+    (search needs, findings.counted (c .before .before .before .before .before .before .before .before .before .args .store .now) (l .n) (recordsIn (c .before .before .before .before .before .before .before .before .before .args .store .now)) (search needs) (search needs) (l .inv .3) (l .inv .4) (c .before .before .put-counts .ensures .1))
 
 pub put-findings-spec : {M : Type 1} → statement M
 put-findings-spec =
@@ -55,6 +55,7 @@ put-findings-spec =
     (tie.spec
     Inv-loop
     μ-loop
+    (λ c κs. search needs)
     loop-holds
     (λ c κs. search needs)
     (λ c. search needs)

@@ -17,20 +17,20 @@ abbrev μ-loop : tie.MeasureT-loop
 μ-loop text₀ store marks count end₀ n₀ text end n = count - n
 
 loop-holds : tie.Need-loop-holds Inv-loop μ-loop
-loop-holds c = (search needs, search needs, search needs, lines.no-lines (c .before .before .before .args .store .now) (c .before .before .before .args .text .now))
+loop-holds c = (search needs, search needs, search needs, lines.no-lines (c .before .before .before .before .args .store .now) (c .before .before .before .before .args .text .now))
 
 put-record-requires : tie.Need-put-record-requires Inv-loop μ-loop
-put-record-requires c κs = (search needs, c .before .before .before .before .before .before .before .pre .1 .1 .at (c .before .before .before .loop .n) (search needs))
+put-record-requires c κs = (search needs, c .before .before .before .before .before .before .before .before .pre .1 .1 .at (c .before .before .before .loop .n) (search needs))
 
 loop-again : tie.Need-loop-again Inv-loop μ-loop
 loop-again c =
     let l = c .before .before .before .before .before .before .loop in
-    (search needs, search needs, search needs, lines.line-more (c .before .before .before .before .before .before .before .before .before .before .args .store .now) (l .n) (l .inv .3) (c .before .before .put-record .ensures .1))
+    (search needs, search needs, search needs, lines.line-more (c .before .before .before .before .before .before .before .before .before .before .before .args .store .now) (l .n) (l .inv .3) (c .before .before .put-record .ensures .1))
 
 returns : tie.Need-returns Inv-loop μ-loop
 returns c =
     let l = c .before .loop in
-    (search needs, lines.lines-upto (c .before .before .before .before .before .args .store .now) (l .n) (recordsIn (c .before .before .before .before .before .args .store .now)) (search needs) (search needs) (l .inv .3))
+    (search needs, lines.lines-upto (c .before .before .before .before .before .before .args .store .now) (l .n) (recordsIn (c .before .before .before .before .before .before .args .store .now)) (search needs) (search needs) (l .inv .3))
 
 pub put-records-spec : {M : Type 1} → statement M
 put-records-spec =
@@ -38,6 +38,7 @@ put-records-spec =
     (tie.spec
     Inv-loop
     μ-loop
+    (λ c κs. search needs)
     loop-holds
     (λ c. search needs)
     put-record-requires

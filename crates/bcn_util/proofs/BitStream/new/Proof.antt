@@ -5,7 +5,7 @@ use Rattle.bcn_util.proofs.BitStream.new.Statement.{statement}
 use Rattle.bcn_util.proofs.BitStream.new.Tie as tie
 
 returns : tie.Need-returns
-returns c = sixteen-bytes (search needs) (c .before .word-at .ensures) (c .word-at2 .ensures)
+returns c = sixteen-bytes _ (search needs) (c .before .u64-at .ensures) (c .u64-at2 .ensures)
 
 pub new-spec : {M : Type 1} → statement M
 new-spec = tie.close (tie.spec (λ c κs. search needs) (λ c κs. search needs) returns)

@@ -1,14 +1,14 @@
--- `bcn_util::half_at` meets its contract: four bytes, each at its place. Assumes nothing.
+use mathlib.Core.Path.{_∙_}
 use borrow.Author.Needs.{needs}
-use Rattle.bcn_util.proofs.Bytes.{four-bytes}
-use Rattle.bcn_util.proofs.half_at.Statement.{statement}
-use Rattle.bcn_util.proofs.half_at.Tie as tie
+use Rattle.raw_bytes.proofs.Bytes.{four-bytes}
+use Rattle.raw_bytes.proofs.u32_at.Statement.{statement}
+use Rattle.raw_bytes.proofs.u32_at.Tie as tie
 
 returns : tie.Need-returns
-returns c = four-bytes _ _ (search needs) (search needs) (search needs) (search needs) (search needs) (search needs) (search needs) (search needs) (search needs)
+returns c = (cc) ∙ four-bytes _ _
 
-pub half-at-spec : {M : Type 1} → statement M
-half-at-spec =
+pub u32-at-spec : {M : Type 1} → statement M
+u32-at-spec =
     tie.close
     (tie.spec
     (λ c. search needs)

@@ -1,4 +1,4 @@
--- Wrong decoders that the statement of the pixels call keeps out: document 01, "How firm each statement must be". Assumes nothing.
+-- S-79: wrong decoders that the statement of the pixels call keeps out. Assumes nothing.
 use mathlib.Core.Path.{_≡_, refl, ap, _∙_}
 use mathlib.Core.Bool.{Bool, true, false}
 use mathlib.Core.List.{List, [], _∷_, _++_}
@@ -44,7 +44,7 @@ unfolding made countOf transformed rows row11 regionOf modeIn modeOf gathered be
     unquantizeM unquantized interpolated scaled finishS finished firstEnd delta otherEnd endpoint between palette value pictureAs picture pixelsOf
 B3-signed-red = refl
 
--- "Each format has a highest pattern and it is 0x7BFF in both": each format shows it
+-- S-25: each format shows the highest pattern
 pub attained : (s : Bool) → getD (pixelsOf s (pick s B3-signed B3)) 45 0 ≡ highestPattern
 attained true = B3-signed-red
 attained false = B3-red .1
@@ -69,28 +69,28 @@ module _ (answers : Answers) (leaves : Leaves) (keeps : Keeps answers leaves) wh
   is-done : (block : List ℕ) → length block ≡ blockSize → refusalOf 0 (length block) (length room) ≡ done
   is-done block h = done-when 0 (length block) (length room) (lit≤ tt) h (lit≤ tt)
 
-  -- "A decoder that refuses everything breaks the refusal table, met only under its conditions."
+  -- S-30: a decoder that refuses everything is ruled out, since a refusal has its condition.
   pub not-all-refused : ((block : List ℕ) (format : ℕ) (out : List ℕ) → answers block format out .answer ≡ done → ⊥) → ⊥
   not-all-refused refuses = refuses B5 0 room (answered (keeps B5 0 room) ∙ is-done B5 refl)
 
   left : (block : List ℕ) → length block ≡ blockSize → (j : ℕ) → j < 48 → getD (leaves block 0 room) j 0 ≡ getD (pixelsOf false block) j 0
   left block h j l = wrote (keeps block 0 room) (is-done block h) j l
 
-  -- "One that paints every block black breaks demand 2 at B5."
+  -- S-2: one that paints every block black is ruled out at B5.
   pub not-all-black : ((block : List ℕ) (format : ℕ) (out : List ℕ) → leaves block format out ≡ replicate valueCount 0 ++ drop valueCount out) → ⊥
   not-all-black black =
       let zero : getD (leaves B5 0 room) 0 0 ≡ 0 = ap (λ (l : List ℕ). getD l 0 0) (black B5 0 room) in
       let red : getD (leaves B5 0 room) 0 0 ≡ 0x3E03 = left B5 refl 0 (lit< tt) ∙ B5-red in
       omega arith
 
-  -- "One that writes nothing breaks the 48 values."
+  -- S-31: one that writes nothing is ruled out by the 48 values.
   pub not-silent : ((block : List ℕ) (format : ℕ) (out : List ℕ) → leaves block format out ≡ out) → ⊥
   not-silent silent =
       let zero : getD (leaves B5 0 room) 0 0 ≡ 0 = ap (λ (l : List ℕ). getD l 0 0) (silent B5 0 room) in
       let red : getD (leaves B5 0 room) 0 0 ≡ 0x3E03 = left B5 refl 0 (lit< tt) ∙ B5-red in
       omega arith
 
-  -- "One that decodes pixel 0 .. and copies it on breaks demand 2 at B3"
+  -- S-2: one that decodes pixel 0 and copies it on is ruled out at B3.
   pub not-copied : ((block : List ℕ) (format : ℕ) (out : List ℕ) (k c : ℕ) → k < 16 → c < 3
       → getD (leaves block format out) (3 * k + c) 0 ≡ getD (leaves block format out) c 0) → ⊥
   not-copied copied =

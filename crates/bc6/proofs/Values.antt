@@ -70,24 +70,24 @@ module _ {block : List ℕ} {format : ℕ} {out : List ℕ} {r : Pixels} {after 
   of-written s e P base step =
       subst P (sym (wrote ∙ ap (λ (b : Bool). getD (pixelsOf b block) j 0) e)) (of-each s block j h P base step)
 
-  -- "Each format has a highest pattern and it is 0x7BFF in both": every unsigned pattern is at most it
+  -- S-25: every unsigned pattern is at most the highest
   pub unsigned-highest : isSigned format ≡ false → getD after j 0 ≤ highestPattern
   unsigned-highest e = of-written false e (λ (v : ℕ). v ≤ highestPattern) (lit≤ tt) (λ m. value-unsigned (fieldsIn false block) (fields-valid 0 block (lit≤ tt) m) j)
 
-  -- "Signed magnitudes stay at or below it with one exception: 0xFC00"
+  -- S-25: signed magnitudes stay at or below it, but for 0xFC00
   pub signed-highest : isSigned format ≡ true → (getD after j 0 ≡ minusInfinity) ⊎ (getD after j 0 % 0x8000 ≤ highestPattern)
   signed-highest e =
       of-written true e (λ (v : ℕ). (v ≡ minusInfinity) ⊎ (v % 0x8000 ≤ highestPattern)) (inr (lit≤ tt))
       (λ m. ⊎-elim (λ x. inl (x .1)) (λ x. inr x) (value-signed (fieldsIn true block) (fields-valid 1 block (lit≤ tt) m) j))
 
-  -- "never 0x8000"
+  -- S-24: 0x8000 is never shown
   pub no-minus-zero : getD after j 0 ≡ 0x8000 → ⊥
   no-minus-zero =
       let s = isSigned format in
       of-written s refl (λ (v : ℕ). v ≡ 0x8000 → ⊥) (λ e. omega arith)
       (λ m. value-not s (fieldsIn s block) (fields-valid (formatNumber s) block (number-le s) m) j)
 
-  -- "0xFC00, exactly where the interpolated number is −32768": in signed format, and never in a reserved block
+  -- S-25: 0xFC00 exactly where the interpolated number is −32768, in signed format, and never in a reserved block
   pub minus-infinity-at : isSigned format ≡ true → getD after j 0 ≡ minusInfinity → (1 ≤ modeOf block) × (interpolatedAt true (fieldsIn true block) j ≡ lowest)
   minus-infinity-at e =
       of-written true e (λ (v : ℕ). v ≡ minusInfinity → (1 ≤ modeOf block) × (interpolatedAt true (fieldsIn true block) j ≡ lowest)) (λ x. absurd (omega arith))

@@ -1,4 +1,4 @@
--- The numbers that a picture's values scale. Assumes nothing.
+-- S-25: the numbers that a picture's values scale. Assumes nothing.
 use mathlib.Core.Bool.{Bool}
 use Prim.Native.Nat.{ℕ, _+_, _*_, _/_, _%_}
 use lib.IntN.{ℤ, pos, negsuc}

@@ -1,4 +1,4 @@
--- What a block says of its pixels, and what is shown of its bits. Assumes nothing.
+-- S-9, S-12, S-13: what a block says of its pixels, and what is shown of its bits. Assumes nothing.
 use mathlib.Core.Path.{_≡_}
 use mathlib.Core.Bool.{Bool}
 use mathlib.Core.List.{List, [], _∷_}
@@ -14,19 +14,19 @@ use Rattle.bc6h_spec.specs.Block.{formatNumber}
 use Rattle.bc6_paint.specs.Values.{digit}
 use Rattle.bc6.specs.declared.Picks.{Picks}
 
--- the partition of a mode of two regions
+-- S-12: the partition of a mode of two regions
 abbrev pub partitionIn : ℕ → ℕ
 partitionIn n = n / 2 ^ 77 % 2 ^ 5
 
--- two regions: the partition's map, and indices of three bits behind 82 bits
+-- S-12, S-13: two regions: the partition's map, and indices of three bits behind 82 bits
 pub record Picked (n : ℕ) (r : Picks) : Type 0 where
   pub regions : r .map ≡ mapOf (partitionIn n)
   pub index : (k : ℕ) → k < 16 → digit 3 (r .indices) k ≡ indexIn 3 (0 ∷ fixupOf (partitionIn n) ∷ []) (n / 2 ^ 82) k
 
--- one region: indices of four bits behind 65 bits
+-- S-13: one region: indices of four bits behind 65 bits
 pub record OnePicked (n word : ℕ) : Type 0 where
   pub index : (k : ℕ) → k < 16 → digit 4 word k ≡ indexIn 4 (0 ∷ []) (n / 2 ^ 65) k
 
--- the values of a block, from its bits as one number
+-- S-2: the values of a block, from its bits as one number
 unfoldable pub shownOf : Bool → ℕ → List ℕ
 shownOf signed n = pick (eqb (modeIn n) 0) (replicate valueCount 0) (pictureAs signed (fieldsAt (formatNumber signed) (modeIn n) n))

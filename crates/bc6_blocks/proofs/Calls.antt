@@ -43,7 +43,7 @@ pub one-outcome : {blocks : List ℕ} {format : ℕ} {out : List ℕ} {r s : Blo
     → RunPainted blocks format out r a → RunPainted blocks format out s b → (r ≡ s) × (a ≡ b)
 one-outcome p q = (p .answers ∙ sym (q .answers), p .holds ∙ sym (q .holds))
 
--- "Demand 2 then reads block by block": the values of block n
+-- S-32: demand 2, block by block: the values of block n
 pub block-by-block : {blocks : List ℕ} {format : ℕ} {out : List ℕ} {r : BlocksPixels} {after : List ℕ}
     → RunPainted blocks format out r after → runRefusal format (length blocks) (length out) ≡ done
     → (n : ℕ) → n < blocksIn blocks → take 48 (drop (48 * n) after) ≡ pixelsOf (isSigned format) (blockAt blocks n)
@@ -64,7 +64,7 @@ pub none-told : {blocks : List ℕ} {format : ℕ} {out : List ℕ} {r : BlocksP
     → RunPainted blocks format out r after → runRefusal format (length blocks) (length out) ≡ suc n → r .infinite ≡ 0
 none-told p z = ap (λ (x : BlocksPixels). x .infinite) (p .answers) ∙ rw z refl
 
--- "The values are what the block call writes for each in turn": what it leaves of block n in any values that it was lent
+-- S-32: what the block call leaves of block n in any values that it was lent
 pub in-turn : {blocks : List ℕ} {format : ℕ} {out lent : List ℕ} {r : BlocksPixels} {s : Pixels} {after left : List ℕ}
     → RunPainted blocks format out r after → runRefusal format (length blocks) (length out) ≡ done
     → (n : ℕ) → n < blocksIn blocks → Painted (blockAt blocks n) format lent s left → refusalOf format (length (blockAt blocks n)) (length lent) ≡ done

@@ -1,4 +1,4 @@
--- What `blocks_pixels` answers, and what the lent values then are: document 02's T-01 and T-02. Assumes nothing.
+-- S-32: what `blocks_pixels` answers, and what the lent values then are. Assumes nothing.
 use mathlib.Core.Path.{_≡_}
 use mathlib.Core.Bool.{Bool, not}
 use mathlib.Core.List.{List, [], _∷_, _++_}
@@ -14,19 +14,19 @@ use Rattle.bc6h_spec.specs.Picture.{valueCount, isSigned}
 use Rattle.bc6h_spec.specs.Block.{pixelsOf}
 use Rattle.bc6_blocks.specs.declared.BlocksPixels.{BlocksPixels}
 
--- "The values are what the block call writes for each in turn": block n's, and those of the first n blocks
+-- S-32: what `block_pixels` writes for block n, and for the first n blocks.
 unfoldable pub shownAt : Bool → List ℕ → ℕ → List ℕ
 shownAt signed blocks n = pixelsOf signed (blockAt blocks n)
 
 unfoldable pub runOf : Bool → List ℕ → ℕ → List ℕ
 runOf signed blocks n = join (made (shownAt signed blocks) n)
 
--- "order 1, 9, 3, where 3 means fewer than 48 values a block"
+-- S-32: 1, 9, then 3 for fewer than 48 values a block.
 unfoldable pub runRefusal : ℕ → ℕ → ℕ → ℕ
 runRefusal format size room =
     firstMet ((ltb 1 format, badFormat) ∷ (not (eqb (size % blockSize) 0), unevenBlocks) ∷ (ltb room (valueCount * (size / blockSize)), shortOutput) ∷ [])
 
--- "it answers that number", the number of blocks, and "how many of the values written equal 0xFC00"; "a refusal count[s] zero"
+-- S-26, S-32: the answer has the number of blocks and how many values are 0xFC00; both are 0 on a refusal.
 abbrev pub runInfinities : ℕ → List ℕ → ℕ
 runInfinities format blocks = countOf minusInfinity (runOf (isSigned format) blocks (blocksIn blocks))
 
@@ -34,12 +34,12 @@ abbrev pub runAnswer : ℕ → List ℕ → ℕ → BlocksPixels
 runAnswer zero blocks format = record { answer = done; blocks = blocksIn blocks; infinite = runInfinities format blocks }
 runAnswer (suc n) blocks format = record { answer = suc n; blocks = 0; infinite = 0 }
 
--- "On refusal nothing is written, not even the first block."
+-- S-30, S-32: a refusal writes nothing, not even the first block.
 abbrev pub runValues : ℕ → List ℕ → ℕ → List ℕ → List ℕ
 runValues zero blocks format out = runOf (isSigned format) blocks (blocksIn blocks) ++ drop (valueCount * blocksIn blocks) out
 runValues (suc n) blocks format out = out
 
--- The statement of the call: its answer r, and the lent values `after`.
+-- S-32: the statement of the call: its answer r, and the lent values `after`.
 pub record RunPainted (blocks : List ℕ) (format : ℕ) (out : List ℕ) (r : BlocksPixels) (after : List ℕ) : Type 0 where
   pub answers : r ≡ runAnswer (runRefusal format (length blocks) (length out)) blocks format
   pub holds : after ≡ runValues (runRefusal format (length blocks) (length out)) blocks format out

@@ -1,4 +1,4 @@
--- The ends of a block, from its bits. Assumes nothing.
+-- S-16 to S-20: the ends of a block, from its bits. Assumes nothing.
 use mathlib.Core.Path.{_≡_}
 use mathlib.Core.Bool.{Bool}
 use Prim.Native.Nat.{ℕ, _≤_, _<_}

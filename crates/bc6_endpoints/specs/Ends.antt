@@ -1,4 +1,4 @@
--- The endpoints of a block, from what is stored. Assumes nothing.
+-- S-17 to S-20: the endpoints of a block, from what is stored. Assumes nothing.
 use mathlib.Core.Path.{_≡_}
 use mathlib.Core.Bool.{Bool, true, false}
 use mathlib.Core.List.{List}
@@ -11,15 +11,15 @@ use Rattle.laws.specs.Ranges.{Below}
 use Rattle.bc6h_spec.specs.Half.{signExtend, keep, transform, unquantized}
 use Rattle.bc6h_spec.specs.Picture.{firstEnd, otherEnd}
 
--- an endpoint, unquantised, as 16 bits
+-- S-19, S-20: an endpoint, unquantised, as 16 bits
 unfoldable pub wordOf : Bool → ℕ → ℤ → ℕ
 wordOf signed p z = keep 16 (unquantized signed p z)
 
--- an endpoint of p bits that is stored whole, unquantised
+-- S-17, S-19, S-20: an endpoint of p bits that is stored whole, unquantised
 unfoldable pub wholeOf : Bool → ℕ → ℕ → ℤ
 wholeOf signed p n = unquantized signed p (firstEnd signed p n)
 
--- an endpoint that is stored as a difference of w bits from a first one of p, unquantised
+-- S-18 to S-20: an endpoint that is stored as a difference of w bits from a first one of p, unquantised
 unfoldable pub movedOf : Bool → ℕ → ℕ → ℕ → ℕ → ℤ
 movedOf signed p w first n = unquantized signed p (otherEnd signed true p w (firstEnd signed p first) n)
 
@@ -33,14 +33,14 @@ endFrom signed p w at e = pick (eqb e 0) (wholeOf signed p (at 0)) (movedOf sign
 
 -- ---- a channel: four numbers on i32
 
--- number e of them, and as it is stored
+-- S-15: number e of them, and as it is stored
 abbrev pub endAt : List ℤ → ℕ → ℤ
 endAt l e = getD l e (pos 0)
 
 abbrev pub storedIn : List ℤ → ℕ → ℕ
 storedIn l e = natAbs (endAt l e)
 
--- p bits, and differences of w bits, of less than fifteen bits
+-- S-16, S-17: p bits, and differences of w bits, of less than fifteen bits
 pub record Narrow (p w : ℕ) : Type 0 where
   pub some : 1 ≤ w
   pub own : w ≤ p
@@ -52,7 +52,7 @@ pub record Apart (p w : ℕ) (base x : ℤ) : Type 0 where
   pub whole : Below (2 ^ p) base
   pub few : Below (2 ^ w) x
 
--- the first of p bits, and the others' differences of w bits
+-- S-17 to S-20: the first of p bits, and the others' differences of w bits
 pub record Channel (p w : ℕ) (n : List ℤ) : Type 0 where
   pub narrow : Narrow p w
   pub first : Below (2 ^ p) (endAt n 0)
@@ -63,7 +63,7 @@ pub record Channel (p w : ℕ) (n : List ℤ) : Type 0 where
 pub record ChannelEnds (signed : Bool) (p w : ℕ) (n r : List ℤ) : Type 0 where
   pub each : (e : ℕ) → e < 4 → endAt r e ≡ endFrom signed p w (storedIn n) e
 
--- all of p bits, stored whole
+-- S-17, S-19, S-20: all of p bits, stored whole
 pub record Whole (p : ℕ) (n : List ℤ) : Type 0 where
   pub narrow : Narrow p p
   pub first : Below (2 ^ p) (endAt n 0)
@@ -74,7 +74,7 @@ pub record Whole (p : ℕ) (n : List ℤ) : Type 0 where
 pub record WholeEnds (signed : Bool) (p : ℕ) (n r : List ℤ) : Type 0 where
   pub each : (e : ℕ) → e < 4 → endAt r e ≡ wholeOf signed p (storedIn n e)
 
--- sixteen bits, and their sum with a difference of four, of which sixteen bits are kept
+-- S-18: sixteen bits, and their sum with a difference of four, of which sixteen bits are kept
 pub record Sixteen (n r : List ℤ) : Type 0 where
   pub first : endAt r 0 ≡ endAt n 0
   pub second : endAt r 1 ≡ transform false 16 (endAt n 0) (signExtend 4 (storedIn n 1))

@@ -1,4 +1,4 @@
--- What the field call answers. Assumes nothing.
+-- S-35: what the field call answers. Assumes nothing.
 use mathlib.Core.Path.{_≡_}
 use mathlib.Core.Bool.{not}
 use mathlib.Core.List.{List, [], _∷_}
@@ -11,12 +11,12 @@ use Rattle.bcn_spec.specs.Bits.{blockSize}
 use Rattle.bc6h_spec.specs.Fields.{modeOf, noFields, fieldsOf}
 use Rattle.bc6_fields.specs.declared.FieldsRead.{FieldsRead}
 
--- "the field call now takes a format and checks 1, 2, 4": the format, the block's length, its mode
+-- S-35: 1, 2, 4: the format, the block's length, its mode.
 abbrev pub refusalOf : ℕ → ℕ → ℕ → ℕ
 refusalOf format size mode =
     firstMet ((ltb 1 format, badFormat) ∷ (not (eqb size blockSize), badBlock) ∷ (eqb mode 0, reservedMode) ∷ [])
 
--- "On refusal every number in the field record is 0."
+-- S-35: a refusal's record is all zeros.
 abbrev pub answerAt : ℕ → ℕ → List ℕ → FieldsRead
 answerAt zero format block = record { answer = done; fields = fieldsOf format block }
 answerAt (suc n) format block = record { answer = suc n; fields = noFields }

@@ -1,4 +1,4 @@
--- The numbers at the places of a row. Assumes nothing.
+-- S-10: the numbers at the places of a row. Assumes nothing.
 use mathlib.Core.List.{List}
 use Prim.Native.Nat.{ℕ}
 use lib.ListN.{getD}

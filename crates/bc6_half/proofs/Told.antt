@@ -7,7 +7,7 @@ use Rattle.bc6h_spec.specs.Half.{finished}
 use Rattle.bc6h_spec.proofs.Highest.{told-exactly}
 use Rattle.bc6_half.specs.Halves.{halfOf, marked}
 
--- "0xFC00, exactly where the interpolated number is −32768"
+-- S-25: 0xFC00 exactly where the interpolated number is −32768
 pub half-marked : (signed : Bool) (x : ℤ) → InBits signed 16 x → halfOf signed x ≡ marked (finished signed x)
 unfolding halfOf marked
 half-marked signed x r = let e = told-exactly signed x r in λ i. record { pattern = finished signed x; infinite = e i }

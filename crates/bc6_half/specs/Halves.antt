@@ -1,4 +1,4 @@
--- A number of 16 bits; a pattern, and whether it is minus infinity. Assumes nothing.
+-- S-23 to S-26: a number of 16 bits; a pattern, and whether it is minus infinity. Assumes nothing.
 use mathlib.Core.Bool.{Bool, false}
 use mathlib.Core.List.{List}
 use Prim.Native.Nat.{ℕ}
@@ -9,11 +9,11 @@ use Rattle.laws.specs.Pick.{pick}
 use Rattle.bc6h_spec.specs.Half.{signExtend, minusInfinity, finished, isLowest}
 use Rattle.bc6_half.specs.declared.Half.{Half}
 
--- the number that 16 bits stand for: in signed format in two's complement
+-- S-17: the number that 16 bits stand for: in signed format in two's complement
 unfoldable pub numberAt : Bool → ℕ → ℤ
 numberAt signed u = pick signed (signExtend 16 u) (pos u)
 
--- the pattern of a number, and "whether its number was −32768"
+-- S-26: the pattern of a number, and whether the number was −32768.
 unfoldable pub halfOf : Bool → ℤ → Half
 halfOf signed x = record { pattern = finished signed x; infinite = isLowest signed x }
 
@@ -21,6 +21,6 @@ halfOf signed x = record { pattern = finished signed x; infinite = isLowest sign
 unfoldable pub marked : ℕ → Half
 marked value = record { pattern = value; infinite = eqb value minusInfinity }
 
--- "all triples zero"
+-- S-8: a triple of a reserved block.
 abbrev pub black : List Half
 black = replicate 3 (record { pattern = 0; infinite = false })

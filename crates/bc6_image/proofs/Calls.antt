@@ -192,7 +192,7 @@ module _ {alpha : Bool} {blocks : List ℕ} {width height format : ℕ} {out : L
     fits : Fitting alpha width height pitch (length blocks) (length out)
     fits = known alpha (length blocks) format width height pitch (length out) z .fits
 
-    -- the lent values, in words
+    -- S-33: the lent values, in words
     pub shown : FaceShown (isSigned format) alpha blocks width height pitch out after
     shown = rw (p .holds, z) (is-shown (isSigned format) alpha blocks width height pitch out fits)
 

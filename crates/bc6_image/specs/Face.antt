@@ -1,4 +1,4 @@
--- A face of blocks as rows of pixels, in two layouts; what the calls over one answer, and what the lent values then are. Assumes nothing.
+-- S-33: a face of blocks as rows of pixels, in two layouts; what the calls over one answer, and what the lent values then are. Assumes nothing.
 use mathlib.Core.Path.{_≡_}
 use mathlib.Core.Bool.{Bool, not}
 use mathlib.Core.List.{List, [], _∷_}

@@ -1,4 +1,4 @@
--- The same values in the order in which they are stored: block by block, row by row, pixel by pixel. Assumes nothing.
+-- S-33: the same values in the order in which they are stored: block by block, row by row, pixel by pixel. Assumes nothing.
 use mathlib.Core.Path.{_≡_}
 use mathlib.Core.Bool.{Bool}
 use mathlib.Core.List.{List, [], _∷_}

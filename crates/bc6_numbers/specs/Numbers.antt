@@ -1,4 +1,4 @@
--- A field record as a run of numbers, and back. Assumes nothing.
+-- S-87: a field record as a run of numbers, and back. Assumes nothing.
 use mathlib.Core.List.{List}
 use Prim.Native.Nat.{ℕ, _+_, _-_}
 use lib.Dec.{eqb, ltb}

@@ -1,4 +1,4 @@
--- The values of a block, worked out of its endpoints and its pixels' indices. Assumes nothing.
+-- S-21 to S-27: the values of a block, worked out of its endpoints and its pixels' indices. Assumes nothing.
 use mathlib.Core.Bool.{Bool, true, false}
 use mathlib.Core.List.{List, _++_}
 use mathlib.Core.Path.{_≡_}
@@ -18,7 +18,7 @@ use Rattle.bc6_paint.specs.declared.Ends.{Ends}
 
 -- ---- a block's ends, as 16 bits
 
--- end e of a channel
+-- S-19, S-20: end e of a channel
 abbrev pub heldAt : List ℤ → ℕ → ℕ
 heldAt l e = keep 16 (getD l e (pos 0))
 
@@ -32,7 +32,7 @@ endIn r e c = heldAt (channelOf r c) e
 
 -- ---- what a pixel has: whether it lies in region 1, and its weight
 
--- number k of those in a word, of so many bits each
+-- S-13, S-22: number k of those in a word, of so many bits each
 abbrev pub digit : ℕ → ℕ → ℕ → ℕ
 digit bits word k = word / 2 ^ (bits * k) % 2 ^ bits
 
@@ -48,11 +48,11 @@ twoSecond map k = eqb (bit map k) 1
 abbrev pub twoWeight : ℕ → ℕ → ℕ
 twoWeight word k = getD weights8 (digit 3 word k) 0
 
--- a region as a mask of 16 bits
+-- S-12: a region as a mask of 16 bits
 abbrev pub maskOf : Bool → ℕ
 maskOf second = pick second 0xFFFF 0
 
--- pixels k and 8 + k
+-- S-12, S-22: pixels k and 8 + k
 pub record TurnOf (second : ℕ → Bool) (weight : ℕ → ℕ) (k : ℕ) (t : Turn) : Type 0 where
   pub region : t .second ≡ maskOf (second k)
   pub region8 : t .second8 ≡ maskOf (second (8 + k))
@@ -63,17 +63,17 @@ pub record TurnOf (second : ℕ → Bool) (weight : ℕ → ℕ) (k : ℕ) (t : 
 
 -- ---- between two ends, each 16 bits
 
--- the number at weight w
+-- S-21: the number at weight w
 unfoldable pub pointOf : Bool → ℕ → ℕ → ℕ → ℤ
 pointOf signed a b w = interpolated (numberAt signed a) (numberAt signed b) (pos w)
 
--- its pattern
+-- S-23, S-24: its pattern
 unfoldable pub shadeOf : Bool → ℕ → ℕ → ℕ → ℕ
 shadeOf signed a b w = finished signed (pointOf signed a b w)
 
 -- ---- a block's values
 
--- value j: between endpoints 0 and 1 in region 0, between 2 and 3 in region 1
+-- S-27: value j: between endpoints 0 and 1 in region 0, between 2 and 3 in region 1
 unfoldable pub valueOf : Bool → (ℕ → ℕ → ℕ) → (ℕ → Bool) → (ℕ → ℕ) → ℕ → ℕ
 valueOf signed ends second weight j =
     let t = second (j / 3) in
@@ -89,11 +89,11 @@ twoValue signed ends map word = valueOf signed ends (twoSecond map) (twoWeight w
 
 -- ---- two values are stored, one 24 behind the other
 
--- of two numbers the bits that the mask lacks, and those that it has
+-- S-12: of two numbers the bits that the mask lacks, and those that it has
 abbrev pub selected : ℕ → ℕ → ℕ → ℕ
 selected mask a c = bitOr (bitAnd a (bitXor mask 0xFFFF)) (bitAnd c mask)
 
--- between ends of a channel: of 0 and 2, and of 1 and 3, those that the mask selects
+-- S-21, S-23, S-24: between ends of a channel: of 0 and 2, and of 1 and 3, those that the mask selects
 unfoldable pub shadeIn : Bool → List ℤ → ℕ → ℕ → ℕ
 shadeIn signed ends mask w =
     shadeOf signed (selected mask (heldAt ends 0) (heldAt ends 2)) (selected mask (heldAt ends 1) (heldAt ends 3)) w
@@ -101,7 +101,7 @@ shadeIn signed ends mask w =
 abbrev pub pairAt : Bool → Turn → List ℤ → ℕ → List ℕ → List ℕ
 pairAt signed t ends at out = set (set out at (shadeIn signed ends (t .second) (t .w))) (at + 24) (shadeIn signed ends (t .second8) (t .w8))
 
--- 1 for minus infinity
+-- S-26: 1 for minus infinity
 abbrev pub counted : ℕ → ℕ
 counted value = pick (eqb value minusInfinity) 1 0
 
@@ -119,7 +119,7 @@ pub record PairCounted (t : Turn) (ends : List ℤ) (at : ℕ) (out : List ℕ) 
 
 -- ---- what is written
 
--- the values are written, and the number that comes back is how many of them are minus infinity
+-- S-26, S-27: the values are written, and the number that comes back is how many of them are minus infinity
 pub record PaintedAs (values out : List ℕ) (infinite : ℕ) (after : List ℕ) : Type 0 where
   pub holds : after ≡ values ++ drop 48 out
   pub counts : infinite ≡ countOf minusInfinity values

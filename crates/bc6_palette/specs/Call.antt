@@ -1,4 +1,4 @@
--- What `fields_pixels` answers, and what the lent values then are. Assumes nothing.
+-- S-38: what `fields_pixels` answers, and what the lent values then are. Assumes nothing.
 use mathlib.Core.Path.{_≡_}
 use mathlib.Core.Bool.{not}
 use mathlib.Core.List.{List, [], _∷_, _++_}
@@ -11,17 +11,17 @@ use Rattle.bcn_spec.specs.Answers.{done, badFormat, shortOutput, invalidRecord}
 use Rattle.bc6h_spec.specs.Picture.{valueCount, picture}
 use Rattle.bc6_valid.specs.Validity.{valid}
 
--- 1, 10, 3: the first check that is met, from the record and the room
+-- S-38: 1, 10, 3: the first check that is met, from the record and the room
 abbrev pub refusalOf : Fields → ℕ → ℕ
 refusalOf f room =
     firstMet ((ltb 1 (f .format), badFormat) ∷ (not (valid f), invalidRecord) ∷ (ltb room valueCount, shortOutput) ∷ [])
 
--- "A refusal changes no lent byte or value. Done writes exactly the first 48 values ..; the rest stays."
+-- S-30: done writes exactly the first 48 values; a refusal writes nothing.
 abbrev pub valuesAt : ℕ → Fields → List ℕ → List ℕ
 valuesAt zero f lent = picture f ++ drop valueCount lent
 valuesAt (suc n) f lent = lent
 
--- the whole outcome of the call
+-- S-38: the whole outcome of the call
 pub record FieldsShown (f : Fields) (lent : List ℕ) (r : ℕ) (after : List ℕ) : Type 0 where
   pub answers : r ≡ refusalOf f (length lent)
   pub holds : after ≡ valuesAt (refusalOf f (length lent)) f lent

@@ -1,4 +1,4 @@
--- The patterns between two colours. Assumes nothing.
+-- S-21 to S-26: the patterns between two colours. Assumes nothing.
 use mathlib.Core.Bool.{Bool}
 use mathlib.Core.List.{List, [], _∷_}
 use Prim.Native.Nat.{ℕ}

@@ -1,4 +1,4 @@
--- Pictures as sixteen triples, and as 48 values. Assumes nothing.
+-- S-27: pictures as sixteen triples, and as 48 values. Assumes nothing.
 use mathlib.Core.Bool.{false}
 use mathlib.Core.List.{List, [], _∷_}
 use Prim.Native.Nat.{ℕ, _+_, _*_, _/_, _%_, _<_}

@@ -1,4 +1,4 @@
--- What the endpoints of a block are read as: a mode's places, four numbers a channel. Assumes nothing.
+-- S-10: what the endpoints of a block are read as: a mode's places, four numbers a channel. Assumes nothing.
 use mathlib.Core.Path.{_≡_}
 use mathlib.Core.Bool.{Bool}
 use mathlib.Core.List.{List, [], _∷_}

@@ -1,4 +1,4 @@
--- Red, green and blue in one word, a lane each: what the modes of one region read. Assumes nothing.
+-- S-10, S-11: red, green and blue in one word, a lane each: what the modes of one region read. Assumes nothing.
 use Prim.Native.Nat.{ℕ, zero, suc, _+_, _-_, _*_, _/_, _%_, _^_}
 
 -- number e of four in a word, of sixteen bits each: lane 0 is the lowest

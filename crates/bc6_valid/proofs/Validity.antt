@@ -49,6 +49,7 @@ module _ (f : Fields) where
     unfolding indexFits
     size-fits k h = ltb→lt _ _ (below-at (indexFits f) 16 k t h)
 
+  -- S-37: a record that passes the test is valid.
   pub sound : T (valid f) → Valid f
   unfolding valid
   sound t =
@@ -100,6 +101,7 @@ module _ (f : Fields) where
     unfolding indexFits
     each-index k h = lt→ltb _ _ (stored-fits k h)
 
+    -- S-37: a valid record passes the test.
     pub complete : T (valid f)
     unfolding valid
     complete =

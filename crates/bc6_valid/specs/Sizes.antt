@@ -1,4 +1,4 @@
--- How many bits of an index are stored. Assumes nothing.
+-- S-13: how many bits of an index are stored. Assumes nothing.
 use Prim.Native.Nat.{ℕ, _-_}
 use lib.Dec.{eqb}
 use Rattle.laws.specs.Pick.{pick, either}

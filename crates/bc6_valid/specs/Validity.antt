@@ -1,5 +1,5 @@
--- Which records are valid, by computing: proofs/Validity shows that the test holds of those that `Valid` admits, and of no other.
--- Assumes nothing.
+-- S-37: which records are valid, by computing: proofs/Validity shows that the test holds of those that `Valid` admits, and of no other. Assumes
+-- nothing.
 use mathlib.Core.Bool.{Bool}
 use Prim.Native.Nat.{ℕ, _^_}
 use lib.Dec.{eqb, leb, ltb}
@@ -12,16 +12,15 @@ use Rattle.bc6h_spec.specs.Regions.{region1Of}
 use Rattle.bcn_spec.specs.Indices.{storedBits}
 use Rattle.bc6h_spec.specs.Fields.{indexBits, fixups, indexOf}
 
--- "each endpoint fits its width, the last two endpoints are 0 in one-region modes": there they have no bits
+-- S-37: each endpoint fits its width; in one-region modes the last two have no bits.
 unfoldable pub endpointFits : Fields → ℕ → Bool
 endpointFits f place = ltb (getD (f .endpoints) place 0) (2 ^ width (f .mode) place)
 
--- "indices fit, and fix-up indices have a zero top bit": what is stored of each holds it
+-- S-37: each index fits the bits that are stored of it.
 unfoldable pub indexFits : Fields → ℕ → Bool
 indexFits f pixel = ltb (indexOf f pixel) (2 ^ storedBits (indexBits (f .mode)) (fixups (f .mode) (f .partition)) pixel)
 
--- "it is valid only with format 0 or 1"; "mode is 1 to 14, each endpoint fits ..; the partition is below 32 (0 in one-region modes),
--- the region count agrees, indices fit .."
+-- S-37: format, mode, endpoints, partition, region count and indices.
 unfoldable pub valid : Fields → Bool
 valid f =
     both (leb (f .format) 1)

@@ -47,7 +47,7 @@ block-of-fields block format b k m {f} e l w =
     let v : Valid f = subst Valid (sym e) (fields-valid format block k m) in
     (answered f v l w, block-written f v l w ∙ ap blockOf e ∙ written-read format block b m)
 
--- "every unreserved block comes back byte for byte"
+-- S-36: an unreserved block comes back byte for byte
 pub block-again : (block : List ℕ) (format : ℕ) → IsBlock block → format ≤ 1 → 1 ≤ modeOf block → {read : FieldsRead} → Extracted block format read
     → {lent : List ℕ} → length lent ≡ blockSize → {r : ℕ} {after : List ℕ} → Written (read .fields) lent r after
     → (read .answer ≡ done) × ((r ≡ done) × (after ≡ block))
@@ -55,7 +55,7 @@ block-again block format b k m {read} x l w =
     let is : read ≡ record { answer = done; fields = fieldsOf format block } = block-read block format (b .sixteen) k m x in
     (ap (λ (x : FieldsRead). x .answer) is, block-of-fields block format b k m (ap (λ (x : FieldsRead). x .fields) is) l w)
 
--- "every valid record comes back as it went in"
+-- S-36: a valid record comes back as it went in
 pub record-again : (f : Fields) → Valid f → {lent : List ℕ} → length lent ≡ blockSize → {r : ℕ} {after : List ℕ} → Written f lent r after
     → {read : FieldsRead} → Extracted after (f .format) read → (r ≡ done) × (read ≡ record { answer = done; fields = f })
 record-again f v l {r} {after} w x = (

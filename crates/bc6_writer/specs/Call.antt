@@ -1,4 +1,4 @@
--- What the writer answers, and what the lent bytes then are. Assumes nothing.
+-- S-36: what the writer answers, and what the lent bytes then are. Assumes nothing.
 use mathlib.Core.Path.{_≡_}
 use mathlib.Core.Bool.{not}
 use mathlib.Core.List.{List, [], _∷_}
@@ -12,17 +12,17 @@ use Rattle.bcn_spec.specs.Bits.{blockSize}
 use Rattle.bc6h_spec.specs.Writer.{blockOf}
 use Rattle.bc6_valid.specs.Validity.{valid}
 
--- "Refusals: 10, invalid record; 11, lent block buffer not 16 bytes; order 1, 10, 11"
+-- S-36: 1, 10, 11: the format, the record, the lent bytes.
 abbrev pub refusalOf : Fields → ℕ → ℕ
 refusalOf f room =
     firstMet ((ltb 1 (f .format), badFormat) ∷ (not (valid f), invalidRecord) ∷ (not (eqb room blockSize), badBuffer) ∷ [])
 
--- "nothing is written" on refusal; else the block
+-- S-30: done writes the block; a refusal writes nothing.
 abbrev pub bytesAt : ℕ → Fields → List ℕ → List ℕ
 bytesAt zero f lent = blockOf f
 bytesAt (suc n) f lent = lent
 
--- the whole outcome of the call
+-- S-36: the whole outcome of the call
 pub record Written (f : Fields) (lent : List ℕ) (r : ℕ) (after : List ℕ) : Type 0 where
   pub answers : r ≡ refusalOf f (length lent)
   pub holds : after ≡ bytesAt (refusalOf f (length lent)) f lent

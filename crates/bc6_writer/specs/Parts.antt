@@ -1,4 +1,4 @@
--- What the code works with. Assumes nothing.
+-- S-36: what the writer works with. Assumes nothing.
 use mathlib.Core.List.{List}
 use Prim.Native.Nat.{ℕ, _*_, _/_, _%_, _^_, _<_}
 use lib.ListN.{length, getD}

@@ -133,6 +133,7 @@ pub found : (l : List ℕ) (q : ℕ) → source l q < length l → getD l (sourc
 found [] q h = absurd (not-suc-le-zero h)
 found (c ∷ cs) q h = found-case c cs q (found cs q) (eqb c q) refl h
 
+-- S-10: each bit of a place is fed by one bit of the block, and by no other.
 pub fed-once : (mode p b : ℕ) → 1 ≤ mode → mode ≤ 14 → p < 14 → b < width mode p → FedOnce mode p b
 fed-once m p b low high hp hb =
     record {

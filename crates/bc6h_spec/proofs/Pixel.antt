@@ -15,7 +15,7 @@ use Rattle.bc6h_spec.specs.Block.{formatNumber, fieldsIn, pixelsOf}
 use Rattle.bc6h_spec.proofs.Formats.{signed-again, number-again}
 use Rattle.bc6h_spec.proofs.Reading.{fields-format}
 
--- "Reserved: mode 0, all triples zero"
+-- S-8: a reserved block has mode 0, and all its triples are zero
 pub pixels-none : (signed : Bool) (block : List ℕ) → modeOf block ≡ 0 → pixelsOf signed block ≡ replicate valueCount 0
 unfolding pixelsOf
 pixels-none signed block z = rw z refl

@@ -1,4 +1,4 @@
--- "`consume_bits_rev` makes the first bit the highest": what the falling runs of modes 12 to 14 gather. Assumes nothing.
+-- S-11: what the falling runs of modes 12 to 14 gather: the first bit is the highest, as in the Rust's `consume_bits_rev`. Assumes nothing.
 use mathlib.Core.Path.{_≡_, _∙_, sym, ap}
 use Prim.Native.Nat.{ℕ, zero, suc, _+_, _-_, _*_, _/_, _%_, _^_, _<_, _≤_}
 use native.Mathlib.Nat.{add-mul, mul-assoc, zero-mul, suc-sub-suc}
@@ -10,7 +10,7 @@ use Rattle.laws.specs.Pick.{pick}
 use Rattle.bc6h_spec.specs.Layout.{falling}
 use Rattle.bc6h_spec.specs.Fields.{gathered}
 
--- the lowest `count` bits of n, the first the highest; "0 reads nothing"
+-- the lowest `count` bits of n, the first the highest; of no bits it is 0
 abbrev pub reversed : ℕ → ℕ → ℕ
 reversed zero n = 0
 reversed (suc count) n = n % 2 * 2 ^ count + reversed count (n / 2)

@@ -1,4 +1,4 @@
--- Eleven named blocks, the format that each is read in, its mode and what it shows. Assumes nothing.
+-- S-28: Eleven named blocks, the format that each is read in, its mode and what it shows. Assumes nothing.
 use mathlib.Core.Bool.{Bool, true, false}
 use mathlib.Core.List.{List, [], _∷_, _++_}
 use Prim.Native.Nat.{ℕ}

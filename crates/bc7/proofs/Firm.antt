@@ -1,4 +1,4 @@
--- Wrong decoders that the statement of the pixels call keeps out: document 01, "How firm each statement must be". Assumes nothing.
+-- S-79: wrong decoders that the statement of the pixels call keeps out. Assumes nothing.
 use mathlib.Core.Path.{_≡_, refl, ap, _∙_}
 use mathlib.Core.List.{List, _++_}
 use Prim.Native.Nat.{ℕ, _+_, _*_, _<_}
@@ -49,7 +49,7 @@ module _ (answers : Answers) (leaves : Leaves) (keeps : Keeps answers leaves) wh
   is-done : refusalOf (length C9) (length room) ≡ done
   is-done = done-when (length C9) (length room) refl (lit≤ tt)
 
-  -- "A decoder that refuses everything breaks the refusal table, met only under its conditions."
+  -- S-30: a decoder that refuses everything is ruled out, since a refusal has its condition.
   pub not-all-refused : ((block out : List ℕ) → answers block out .answer ≡ done → ⊥) → ⊥
   not-all-refused refuses = refuses C9 room (answered (keeps C9 room) ∙ is-done)
 

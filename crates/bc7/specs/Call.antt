@@ -1,4 +1,4 @@
--- What `bc7_pixels` answers, and what the lent bytes then are. Assumes nothing.
+-- S-66: what `bc7_pixels` answers, and what the lent bytes then are. Assumes nothing.
 use mathlib.Core.Path.{_≡_}
 use mathlib.Core.Bool.{not}
 use mathlib.Core.List.{List, [], _∷_, _++_}
@@ -12,22 +12,21 @@ use Rattle.bc7_spec.specs.Fields.{modeOf}
 use Rattle.bc7_spec.specs.Block.{byteCount, bytesOf}
 use Rattle.bc7.specs.declared.Bc7Pixels.{Bc7Pixels}
 
--- "Refusals: 2, then 3 for fewer than 64 bytes of output": the first check that is met, from the block's length and the room
+-- S-66: 2, then 3 for fewer than 64 bytes: the first check that is met, from the block's length and the room.
 unfoldable pub refusalOf : ℕ → ℕ → ℕ
 refusalOf size room = firstMet ((not (eqb size blockSize), badBlock) ∷ (ltb room byteCount, shortOutput) ∷ [])
 
--- "The call answers its number and the mode as a number. The mode number is the specification's own, 0 to 7, and 8 for a reserved block. ..
--- A refusal has mode number 0"
+-- S-66: the answer has the mode, 0 to 7, or 8 for a reserved block; 0 on a refusal.
 abbrev pub answerAt : ℕ → List ℕ → Bc7Pixels
 answerAt zero block = record { answer = done; mode = modeOf block }
 answerAt (suc n) block = record { answer = suc n; mode = 0 }
 
--- "done writes exactly the first 64 bytes and the rest stays .. a refusal changes no lent byte"
+-- S-30: done writes exactly the first 64 bytes; a refusal writes nothing.
 abbrev pub bytesAt : ℕ → List ℕ → List ℕ → List ℕ
 bytesAt zero block out = bytesOf block ++ drop byteCount out
 bytesAt (suc n) block out = out
 
--- The statement of the call: its answer r, and the lent bytes `after`.
+-- S-66: the statement of the call: its answer r, and the lent bytes `after`.
 pub record Painted (block out : List ℕ) (r : Bc7Pixels) (after : List ℕ) : Type 0 where
   pub answers : r ≡ answerAt (refusalOf (length block) (length out)) block
   pub holds : after ≡ bytesAt (refusalOf (length block) (length out)) block out

@@ -49,7 +49,7 @@ block-by-block {blocks} {out} p z n h =
     ap (λ (t : List ℕ). take 64 (drop (64 * n) t)) (rw z at (p .holds))
     ∙ run-at (shownAt blocks) 64 (each blocks) (blocksIn blocks) n (drop (64 * blocksIn blocks) out) h
 
--- "The values are what the block call writes for each in turn": what it leaves of block n in any bytes that it was lent
+-- S-66: what the block call leaves of block n in any bytes that it was lent
 pub in-turn : {blocks out lent : List ℕ} {r : Bc7BlocksPixels} {s : Bc7Pixels} {after left : List ℕ} → RunPainted blocks out r after
     → runRefusal (length blocks) (length out) ≡ done → (n : ℕ) → n < blocksIn blocks → Painted (blockAt blocks n) lent s left
     → refusalOf (length (blockAt blocks n)) (length lent) ≡ done → take 64 (drop (64 * n) after) ≡ take 64 left

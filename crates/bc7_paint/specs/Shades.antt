@@ -1,4 +1,4 @@
--- What a tile's bytes are, from its endpoints, its regions and its weights. Assumes nothing.
+-- S-69 to S-71: what a tile's bytes are, from its endpoints, its regions and its weights. Assumes nothing.
 use mathlib.Core.Path.{_≡_}
 use mathlib.Core.Bool.{Bool}
 use mathlib.Core.List.{List}
@@ -10,7 +10,7 @@ use Rattle.laws.specs.Bit.{bit}
 use Rattle.laws.specs.Ranges.{AllBelow}
 use Rattle.bc7_spec.specs.Bytes.{between, turned}
 
--- the region of a pixel, from whether it lies in region 1 and whether it lies in region 2
+-- S-68: the region of a pixel, from whether it lies in region 1 and whether it lies in region 2
 abbrev pub regionBy : Bool → Bool → ℕ
 regionBy one two = pick two 2 (pick one 1 0)
 
@@ -18,15 +18,15 @@ regionBy one two = pick two 2 (pick one 1 0)
 abbrev pub regionAt : ℕ → ℕ → ℕ → ℕ
 regionAt ones twos k = regionBy (eqb (bit ones k) 1) (eqb (bit twos k) 1)
 
--- channel c at weight w in region r; channel c of endpoint e is number 4 e + c
+-- S-71: channel c at weight w in region r; channel c of endpoint e is number 4 e + c
 unfoldable pub shadeAt : List ℕ → ℕ → ℕ → ℕ → ℕ
 shadeAt ends c r w = between (getD ends (c + 8 * r) 0) (getD ends (c + (8 * r + 4)) 0) w
 
--- the weight of pixel k's channel c: alpha has weights of its own
+-- S-70: the weight of pixel k's channel c: alpha has weights of its own
 abbrev pub weightAt : List ℕ → List ℕ → ℕ → ℕ → ℕ
 weightAt colours alphas k c = pick (eqb c 3) (getD alphas k 0) (getD colours k 0)
 
--- channel c of pixel k, before rotation
+-- S-71: channel c of pixel k, before rotation
 unfoldable pub channelAt : List ℕ → ℕ → ℕ → List ℕ → List ℕ → ℕ → ℕ → ℕ
 channelAt ends ones twos colours alphas k c = shadeAt ends c (regionAt ones twos k) (weightAt colours alphas k c)
 

@@ -1,4 +1,4 @@
--- Document 03's "Worked blocks", C1 to C11: one table, and a single theorem over it. Assumes nothing.
+-- S-72: the worked blocks, C1 to C11: one table, and a single theorem over it. Assumes nothing.
 use mathlib.Core.Bool.{Bool}
 use mathlib.Core.List.{List, [], _∷_, _++_}
 use Prim.Native.Nat.{ℕ, _/_, _%_}
@@ -22,7 +22,7 @@ record Row : Type 0 where
   mode : ℕ
   pixels : List ℕ
 
--- "z" with a number is that many zero bytes, "f" that many bytes FF
+-- z with a number is that many zero bytes, f that many bytes FF
 abbrev z : ℕ → List ℕ
 z n = replicate n 0
 
@@ -89,6 +89,7 @@ quads (p ∷ ps) = p / 0x1000000 ∷ p / 0x10000 % 0x100 ∷ p / 0x100 % 0x100 �
 abbrev shows : Row → Bool
 shows r = both (eqb (modeOf (r .bytes)) (r .mode)) (same (bytesOf (r .bytes)) (quads (r .pixels)))
 
+-- S-72: every block of the table shows its row.
 all-blocks : T (every shows blocks)
 unfolding made firstBelow before unpacked partitionSet3 regionOf fixupsOf modes modeAt runBits runIn
     modeIn modeOf partitionIn rotationIn selectionIn storedIn pbitIn firstIndexIn secondIndexIn

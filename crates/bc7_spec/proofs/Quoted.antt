@@ -1,4 +1,4 @@
--- The maps and the fix-up pixels that document 03 quotes beside each row, held against the rows. Assumes nothing.
+-- S-68: each row's map and fix-up pixels as numbers, as the paper behind S-66 to S-72 printed them, compared with the rows. Assumes nothing.
 use mathlib.Core.Bool.{Bool}
 use mathlib.Core.List.{List, [], _∷_}
 use Prim.Native.Nat.{ℕ, _+_, _*_}
@@ -15,7 +15,7 @@ abbrev ofDigits : ℕ → List ℕ → ℕ
 ofDigits base [] = 0
 ofDigits base (d ∷ ds) = d + base * ofDigits base ds
 
--- "the same row as a 16-bit map (bit k for pixel k)"
+-- S-68: a row of two regions as a 16-bit map, bit k for pixel k
 abbrev maps2 : List ℕ
 maps2 =
     0xCCCC ∷ 0x8888 ∷ 0xEEEE ∷ 0xECC8 ∷ 0xC880 ∷ 0xFEEC ∷ 0xFEC8 ∷ 0xEC80 ∷ 0xC800 ∷ 0xFFEC ∷ 0xFE80 ∷ 0xE800 ∷ 0xFFE8 ∷ 0xFF00 ∷ 0xFFF0 ∷ 0xF000 ∷
@@ -23,13 +23,13 @@ maps2 =
     0xAAAA ∷ 0xF0F0 ∷ 0x5A5A ∷ 0x33CC ∷ 0x3C3C ∷ 0x55AA ∷ 0x9696 ∷ 0xA55A ∷ 0x73CE ∷ 0x13C8 ∷ 0x324C ∷ 0x3BDC ∷ 0x6996 ∷ 0xC33C ∷ 0x9966 ∷ 0x0660 ∷
     0x0272 ∷ 0x04E4 ∷ 0x4E40 ∷ 0x2720 ∷ 0xC936 ∷ 0x936C ∷ 0x39C6 ∷ 0x639C ∷ 0x9336 ∷ 0x9CC6 ∷ 0x817E ∷ 0xE718 ∷ 0xCCF0 ∷ 0x0FCC ∷ 0x7744 ∷ 0xEE22 ∷ []
 
--- "fix-up pixel of region 1"
+-- S-68: the fix-up pixel of region 1 of two
 abbrev fixups2 : List ℕ
 fixups2 =
     15 ∷ 15 ∷ 15 ∷ 15 ∷ 15 ∷ 15 ∷ 15 ∷ 15 ∷ 15 ∷ 15 ∷ 15 ∷ 15 ∷ 15 ∷ 15 ∷ 15 ∷ 15 ∷ 15 ∷ 2 ∷ 8 ∷ 2 ∷ 2 ∷ 8 ∷ 8 ∷ 15 ∷ 2 ∷ 8 ∷ 2 ∷ 2 ∷ 8 ∷ 8 ∷ 2 ∷ 2 ∷
     15 ∷ 15 ∷ 6 ∷ 8 ∷ 2 ∷ 8 ∷ 15 ∷ 15 ∷ 2 ∷ 8 ∷ 2 ∷ 2 ∷ 2 ∷ 15 ∷ 15 ∷ 6 ∷ 6 ∷ 2 ∷ 6 ∷ 8 ∷ 15 ∷ 15 ∷ 2 ∷ 2 ∷ 15 ∷ 15 ∷ 15 ∷ 15 ∷ 15 ∷ 2 ∷ 2 ∷ 15 ∷ []
 
--- "the same row as a 32-bit map (bits 2k and 2k + 1 for pixel k)"
+-- S-68: a row of three regions as a 32-bit map, bits 2k and 2k + 1 for pixel k
 abbrev maps3 : List ℕ
 maps3 =
     0xAA685050 ∷ 0x6A5A5040 ∷ 0x5A5A4200 ∷ 0x5450A0A8 ∷ 0xA5A50000 ∷ 0xA0A05050 ∷ 0x5555A0A0 ∷ 0x5A5A5050 ∷
@@ -41,7 +41,7 @@ maps3 =
     0xAA444444 ∷ 0x54A854A8 ∷ 0x95809580 ∷ 0x96969600 ∷ 0xA85454A8 ∷ 0x80959580 ∷ 0xAA141414 ∷ 0x96960000 ∷
     0xAAAA1414 ∷ 0xA05050A0 ∷ 0xA0A5A5A0 ∷ 0x96000000 ∷ 0x40804080 ∷ 0xA9A8A9A8 ∷ 0xAAAAAA44 ∷ 0x2A4A5254 ∷ []
 
--- "fix-up pixel of region 1, of region 2"
+-- S-68: the fix-up pixels of regions 1 and 2
 abbrev fixups31 : List ℕ
 fixups31 =
     3 ∷ 3 ∷ 15 ∷ 15 ∷ 8 ∷ 3 ∷ 15 ∷ 15 ∷ 8 ∷ 8 ∷ 6 ∷ 6 ∷ 6 ∷ 5 ∷ 3 ∷ 3 ∷ 3 ∷ 3 ∷ 8 ∷ 15 ∷ 3 ∷ 3 ∷ 6 ∷ 10 ∷ 5 ∷ 8 ∷ 8 ∷ 6 ∷ 8 ∷ 5 ∷ 15 ∷ 15 ∷

@@ -1,4 +1,4 @@
--- The weights of sixteen indexes. Assumes nothing.
+-- S-70: the weights of sixteen indexes. Assumes nothing.
 use mathlib.Core.Path.{_≡_}
 use mathlib.Core.List.{List, [], _∷_}
 use Prim.Native.Nat.{ℕ}

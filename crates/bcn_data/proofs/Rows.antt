@@ -75,7 +75,7 @@ module _ (p row : ℕ) (h : p < 64) (e : row ≡ threeRow p) where
       let high : row / 68719476736 ≡ fixupAt 2 3 p = omega (arith, e, f .ones, f .twos, f .low) in
       λ i. record { ones = one i; twos = two i; «fixup_index_2» = low i; «fixup_index_3» = high i }
 
--- ---- "Rows 0 to 31 are those of BC6H"
+-- ---- S-12: rows 0 to 31 are BC6H's
 
 abbrev first? : ℕ → Bool
 first? p = both (eqb (maskOf 1 2 p) (mapOf p)) (eqb (fixupAt 1 2 p) (fixupOf p))
@@ -84,6 +84,7 @@ all-first : T (below first? 32)
 unfolding partitions fixupsOf
 all-first = tt
 
+-- S-12: rows 0 to 31 are BC6H's.
 pub first-rows : (p : ℕ) → p < 32 → row2 p ≡ subset2 p
 unfolding row2
 first-rows p h =

@@ -1,4 +1,4 @@
--- The maps and the fix-up pixels of a partition, as one value. Assumes nothing.
+-- S-12, S-68: the maps and the fix-up pixels of a partition, as one value. Assumes nothing.
 use mathlib.Core.Path.{_≡_}
 use mathlib.Core.List.{List, [], _∷_}
 use Prim.Native.Nat.{ℕ, _+_, _*_}

@@ -4,7 +4,7 @@ use mathlib.Core.List.{[], _∷_}
 use Rattle.laws.specs.Packed.{before}
 use Rattle.bcn_spec.specs.Indices.{storedBits}
 
--- four bits each and one fix-up pixel; three bits each and two of them
+-- S-9, S-14: four bits each and one fix-up pixel; three bits each and two of them
 one-region : before (storedBits 4 (0 ∷ [])) 16 ≡ 63
 unfolding before
 one-region = refl

@@ -24,7 +24,7 @@ fixupIn regions p r = fixupAmong (regionOf regions p) r (fixupsOf regions p)
 pub record Rule (regions p : ℕ) : Type 0 where
   pub pixels : length (regionsIn (rowOf regions p)) ≡ 16
   pub region-fits : (k : ℕ) → k < 16 → regionOf regions p k < regions
-  -- "Each region has one fix-up pixel, lying in it. Region 0's is always pixel 0."
+  -- S-68: each region has one fix-up pixel, which lies in it; region 0's is pixel 0.
   pub first : fixupIn regions p 0 ≡ 0
   pub one-each : length (fixupsOf regions p) ≡ regions
   pub fixup-fits : (r : ℕ) → r < regions → fixupIn regions p r < 16

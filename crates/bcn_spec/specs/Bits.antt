@@ -1,4 +1,4 @@
--- A block's bytes and bits, and the blocks of a run. Assumes nothing.
+-- S-6: a block's bytes and bits, and the blocks of a run. Assumes nothing.
 use mathlib.Core.List.{List, [], _∷_}
 use mathlib.Core.Path.{_≡_}
 use Prim.Native.Nat.{ℕ, zero, suc, _+_, _*_, _/_, _%_, _<_}
@@ -6,7 +6,7 @@ use lib.ListN.{length, getD, take, drop}
 use Rattle.laws.specs.Bit.{bit}
 use Rattle.laws.specs.Made.{made}
 
--- the bytes of a block
+-- S-6: a block is sixteen bytes.
 abbrev pub blockSize : ℕ
 blockSize = 16
 
@@ -14,25 +14,25 @@ pub record IsBlock (block : List ℕ) : Type 0 where
   pub sixteen : length block ≡ blockSize
   pub byte : (k : ℕ) → getD block k 0 < 256
 
--- "Bit k of the block is bit k mod 8 of byte k div 8."
+-- S-6: bit k is bit k mod 8 of byte k div 8.
 abbrev pub blockBit : List ℕ → ℕ → ℕ
 blockBit block k = bit (getD block (k / 8) 0) (k % 8)
 
--- "the list of 128 bits"
+-- S-6: the 128 bits in their order.
 unfoldable pub blockBits : List ℕ → List ℕ
 blockBits block = made (blockBit block) 128
 
--- The same bits as one number, "little end first": its bit k is the block's bit k.
+-- S-6: the same bits as one number, whose bit k is the block's bit k.
 abbrev pub numberOf : List ℕ → ℕ
 numberOf [] = 0
 numberOf (byte ∷ bytes) = byte + 256 * numberOf bytes
 
--- t bytes of a number, little end first
+-- S-6: t bytes of a number, the low byte first.
 abbrev pub bytesOf : ℕ → ℕ → List ℕ
 bytesOf zero n = []
 bytesOf (suc t) n = n % 256 ∷ bytesOf t (n / 256)
 
--- how many blocks the bytes hold, and block n of them
+-- S-32: how many blocks the bytes of a run hold, and block n of them.
 abbrev pub blocksIn : List ℕ → ℕ
 blocksIn blocks = length blocks / blockSize
 

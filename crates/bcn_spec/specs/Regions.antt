@@ -1,4 +1,4 @@
--- The rows of two regions: which pixel lies in which, and the fix-up pixel of region 1. Assumes nothing.
+-- S-12: the rows of two regions: which pixel lies in which, and the fix-up pixel of region 1. Assumes nothing.
 use mathlib.Core.Bool.{Bool}
 use mathlib.Core.List.{List, [], _∷_, map}
 use Prim.Native.Nat.{ℕ, suc, _-_}
@@ -10,7 +10,7 @@ use lib.ListN.{getD, take}
 use Rattle.laws.specs.Pick.{pick}
 use Rattle.laws.specs.Bit.{ofBits}
 
--- PARTITION_SET_2, a row for each partition number
+-- S-12, S-68: two regions, row by row. A digit is a pixel's region; a dash is before the fix-up pixel of region 1.
 abbrev pub partitionSet2 : List String
 partitionSet2 =
     "001100110011001-1" ∷
@@ -78,7 +78,7 @@ partitionSet2 =
     "00-10001011101110" ∷
     "010001000111011-1" ∷ []
 
--- BC6H's rows: "Partition: the first 32 rows of PARTITION_SET_2."
+-- S-12: BC6H has the first 32 rows.
 unfoldable pub partitions : List String
 partitions = take 32 partitionSet2
 
@@ -88,21 +88,21 @@ isDash c = eqb (code c) (code "-")
 abbrev pub digit : Char → ℕ
 digit c = code c - code "0"
 
--- "Rule: drop the dash; character k is the region of pixel k"
+-- S-12: without the dash, character k is the region of pixel k.
 abbrev pub regionsIn : String → List ℕ
 regionsIn Text.[] = []
 regionsIn (Text._∷_ c cs) = pick (isDash c) (regionsIn cs) (digit c ∷ regionsIn cs)
 
--- "the dash stands before the fix-up pixel of region 1"
+-- S-12: the fix-up pixel of region 1 comes next after the dash.
 abbrev pub fixupIn : String → ℕ
 fixupIn Text.[] = 0
 fixupIn (Text._∷_ c cs) = pick (isDash c) 0 (suc (fixupIn cs))
 
--- "Pixel k's region is bit k of our 16-bit map."
+-- S-12: bit k of the 16-bit map is pixel k's region.
 abbrev pub mapIn : String → ℕ
 mapIn row = ofBits (regionsIn row)
 
--- the map and the fix-up pixel of one of BC6H's rows
+-- S-12: the map and the fix-up pixel of a partition number.
 abbrev pub mapOf : ℕ → ℕ
 mapOf partition = getD (map mapIn partitions) partition 0
 

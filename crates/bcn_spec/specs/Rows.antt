@@ -1,6 +1,6 @@
--- The rows of one, two and three regions: which pixel lies in which, and their fix-up pixels. "Two and three regions: the rows below,
--- chosen by the partition number": character k is the region of pixel k, and a dash stands before the fix-up pixel of each region but
--- region 0, "in order of pixels, not of regions". Assumes nothing.
+-- S-68: the rows of one, two and three regions: which pixel lies in which, and their fix-up pixels. "Two and three regions: the rows below, chosen by
+-- the partition number": character k is the region of pixel k, and a dash stands before the fix-up pixel of each region but region 0, "in order of
+-- pixels, not of regions". Assumes nothing.
 use mathlib.Core.List.{List, [], _∷_}
 use Prim.Native.Nat.{ℕ, suc}
 use Prim.Native.String.{String}
@@ -9,11 +9,11 @@ use lib.ListN.{getD}
 use Rattle.laws.specs.Pick.{pick}
 use Rattle.bcn_spec.specs.Regions.{partitionSet2, isDash, regionsIn}
 
--- "One region: every pixel is in region 0, and pixel 0 is the only fix-up pixel."
+-- S-68: with one region, every pixel is in region 0 and pixel 0 is the only fix-up pixel.
 abbrev pub oneRegion : List String
 oneRegion = "0000000000000000" ∷ []
 
--- PARTITION_SET_3, a row for each partition number
+-- S-68: three regions, row by row.
 unfoldable pub partitionSet3 : List String
 partitionSet3 =
     "001-100110221222-2" ∷
@@ -81,7 +81,7 @@ partitionSet3 =
     "010-122222222222-2" ∷
     "011-12011-22012220" ∷ []
 
--- the rows of a number of regions, and one of them
+-- S-68: the rows of a number of regions, and the one that the partition number chooses.
 abbrev pub rowsOf : ℕ → List String
 rowsOf regions = getD (oneRegion ∷ oneRegion ∷ partitionSet2 ∷ partitionSet3 ∷ []) regions []
 
@@ -97,6 +97,6 @@ abbrev pub dashesFrom : ℕ → String → List ℕ
 dashesFrom k Text.[] = []
 dashesFrom k (Text._∷_ c cs) = pick (isDash c) (k ∷ dashesFrom k cs) (dashesFrom (suc k) cs)
 
--- "Each region has one fix-up pixel, lying in it. Region 0's is always pixel 0." They stand in order of pixels.
+-- S-68: each region has one fix-up pixel, which lies in it; region 0's is pixel 0. They are in order of pixels.
 unfoldable pub fixupsOf : ℕ → ℕ → List ℕ
 fixupsOf regions partition = 0 ∷ dashesFrom 0 (rowOf regions partition)

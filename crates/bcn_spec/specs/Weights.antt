@@ -1,8 +1,8 @@
--- The weights of an index of three bits, and of four. Assumes nothing.
+-- S-22: the weights of an index of three bits, and of four. Assumes nothing.
 use mathlib.Core.List.{List, [], _∷_}
 use Prim.Native.Nat.{ℕ}
 
--- "Weights 0, 9, 18, 27, 37, 46, 55, 64, or 0, 4, 9, 13, 17, 21, 26, 30, 34, 38, 43, 47, 51, 55, 60, 64."
+-- S-22: eight weights for three bits, sixteen for four.
 abbrev pub weights8 : List ℕ
 weights8 = 0 ∷ 9 ∷ 18 ∷ 27 ∷ 37 ∷ 46 ∷ 55 ∷ 64 ∷ []
 

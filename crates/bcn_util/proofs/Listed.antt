@@ -1,4 +1,4 @@
--- "A stream read of n bits answers as the list of 128 bits would". Assumes nothing.
+-- S-6: a stream read answers as the list of 128 bits would. Assumes nothing.
 use mathlib.Core.Path.{_≡_, _∙_, sym, ap}
 use mathlib.Core.List.{List}
 use Prim.Native.Nat.{ℕ, _-_, _≤_}
@@ -13,7 +13,7 @@ use Rattle.bcn_util.specs.Stream.{Read}
 pub listed-new : (block : List ℕ) (n : ℕ) → IsBlock block → n ≡ numberOf block → bitsOf 128 n ≡ blockBits block
 listed-new block n b e = ap (bitsOf 128) e ∙ bits-of-block block b
 
--- where t bits are left: "the next n bits, the first the lowest, and the list shortened by n"
+-- where t bits are left: the next n of them, the first lowest, and the list without them
 module _ {n count bits left : ℕ} (t : ℕ) (r : Read n count bits left) (h : count ≤ t) where
   pub listed-next : bits ≡ ofBits (take count (bitsOf t n))
   listed-next = r .next ∙ sym (first count t n h)

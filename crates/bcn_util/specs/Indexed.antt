@@ -1,4 +1,4 @@
--- Indexes at full width in one word. Assumes nothing.
+-- S-13, S-14: indexes at full width in one word. Assumes nothing.
 use mathlib.Core.List.{List, [], _∷_}
 use Prim.Native.Nat.{ℕ, _+_, _-_, _*_, _/_, _%_, _^_}
 use lib.ListN.{length}
@@ -9,7 +9,7 @@ use Rattle.bcn_util.specs.declared.Indexes.{Indexes}
 abbrev pub storedCount : ℕ → List ℕ → ℕ
 storedCount bits fixups = 16 * bits - length fixups
 
--- "stored with one bit fewer and a top bit of zero": the top bits put in, at one fix-up pixel after the other
+-- S-13: the zero top bits put in, at one fix-up pixel after the other.
 abbrev pub expanded : ℕ → List ℕ → ℕ → ℕ
 expanded bits [] n = n
 expanded bits (pixel ∷ pixels) n = expanded bits pixels (opened (bits * pixel + (bits - 1)) n)

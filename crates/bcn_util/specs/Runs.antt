@@ -1,4 +1,4 @@
--- Runs: stretches of a block's bits, and the words that they make. Assumes nothing.
+-- S-10: runs: stretches of a block's bits, and the words that they make. Assumes nothing.
 use mathlib.Core.Bool.{Bool}
 use mathlib.Core.List.{List, [], _∷_}
 use Prim.Native.Nat.{ℕ, _+_, _-_, _*_, _/_, _%_, _^_}

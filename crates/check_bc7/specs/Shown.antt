@@ -1,4 +1,4 @@
--- The 66 bytes that are written for a piece of the input. Assumes nothing.
+-- S-74: the 66 bytes that are written for a piece of the input. Assumes nothing.
 use mathlib.Core.Path.{_≡_}
 use mathlib.Core.List.{List, _∷_, _++_}
 use Prim.Native.Nat.{ℕ, _+_, _-_, _*_, _/_, _≤_}
@@ -18,7 +18,7 @@ shownAs r bytes = record { answer = r .answer; mode = r .mode; bytes = bytes }
 unfoldable pub shownOf : List ℕ → Shown
 shownOf piece = shownAs (answerAt (refusalOf (length piece) byteCount) piece) (bytesAt (refusalOf (length piece) byteCount) piece (replicate byteCount 0))
 
--- "answer, mode, 64 bytes": byte k
+-- answer, mode and 64 bytes: byte k
 unfoldable pub byteAt : Shown → ℕ → ℕ
 byteAt s k = getD (s .answer ∷ s .mode ∷ s .bytes) k 0
 

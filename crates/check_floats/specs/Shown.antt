@@ -1,4 +1,4 @@
--- What is written of a float: its bits, and 0x7FC00000 of what is no number. Assumes nothing.
+-- S-64, S-74: what is written of a float: its bits, and 0x7FC00000 of what is no number. Assumes nothing.
 use Prim.Native.Nat.{ℕ}
 use lib.Ieee.{Float, nan, inf, fin, binary32, toBits}
 

@@ -39,7 +39,7 @@ fn print_call(block: &[u8], format: u8, size: usize, values: &mut [u16], room: u
     io::write_all(STDOUT_FILENO, b"\n");
 }
 
-// Document 01's B5 and a byte more, with a hundred values to write to.
+// B5 (S-28) and a byte more, with a hundred values to write to.
 fn print_limit(format: u8, size: usize, room: usize)
     requires { ⌜ (size ≤ 17) × (room ≤ 100) ⌝ }
 {

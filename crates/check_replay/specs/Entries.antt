@@ -1,4 +1,4 @@
--- The list of the Rust decoder's answers, and when ours agree with it. Assumes nothing.
+-- S-2, S-74: the list of the Rust decoder's answers, and when ours agree with it. Assumes nothing.
 use mathlib.Core.Bool.{Bool}
 use mathlib.Core.List.{List}
 use Prim.Native.Nat.{ℕ, zero, suc, _+_, _*_}

@@ -25,7 +25,7 @@ module _ (file : List ℕ) where
   known-so : (dxgiOf file ≡ 95) ⊎ (dxgiOf file ≡ 96) → either (eqb (dxgiOf file) 95) (eqb (dxgiOf file) 96) ≡ true
   known-so = ⊎-elim (λ e. rw e) (λ e. rw e)
 
-  -- "A header is ours exactly if .."
+  -- S-61: the tests decide whether a header is ours
   pub ours-so : HeaderOurs file → headerOurs file ≡ true
   unfolding headerOurs fieldsOurs startOurs pixelsOurs textureOurs
   ours-so h =

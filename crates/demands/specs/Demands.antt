@@ -48,19 +48,19 @@ use Rattle.pfm.specs.File.{pixelBytes, PictureWritten}
 
 -- ---- demand 2
 
--- S-2. Of sixteen bytes, in a format and with room for 48 values, `block_pixels` is done; it leaves the definition's picture and the rest as it was.
+-- S-2: of sixteen bytes, in a format and with room for 48 values, `block_pixels` is done; it leaves the definition's picture and the rest as it was.
 abbrev pub Demand2 : Type 0
 Demand2 = (block : List ℕ) (format : ℕ) (lent after : List ℕ) (r : Pixels) → length block ≡ blockSize → format ≤ 1 → valueCount ≤ length lent
     → Painted block format lent r after
     → (r .answer ≡ done) × ((take valueCount after ≡ pixelsOf (isSigned format) block) × (drop valueCount after ≡ drop valueCount lent))
 
--- S-32. A run of blocks, block by block: what `block_pixels` leaves of each.
+-- S-32: a run of blocks, block by block: what `block_pixels` leaves of each.
 abbrev pub BlockByBlock : Type 0
 BlockByBlock = (blocks : List ℕ) (format : ℕ) (lent after : List ℕ) (r : BlocksPixels) → RunPainted blocks format lent r after → r .answer ≡ done
     → (n : ℕ) → n < blocksIn blocks → (room left : List ℕ) (s : Pixels) → Painted (blockAt blocks n) format room s left → s .answer ≡ done
     → take valueCount (drop (valueCount * n) after) ≡ take valueCount left
 
--- S-66. The same of BC7.
+-- S-66: the same of BC7.
 abbrev pub Bc7ByBlock : Type 0
 Bc7ByBlock = (blocks lent after : List ℕ) (r : Bc7BlocksPixels) → bc7-run.RunPainted blocks lent r after → r .answer ≡ done
     → (n : ℕ) → n < blocksIn blocks → (room left : List ℕ) (s : Bc7Pixels) → bc7.Painted (blockAt blocks n) room s left → s .answer ≡ done
@@ -68,13 +68,13 @@ Bc7ByBlock = (blocks lent after : List ℕ) (r : Bc7BlocksPixels) → bc7-run.Ru
 
 -- ---- demand 3
 
--- S-3. Whatever two calls leave of two unsigned blocks that meet the premises: the same 48 values mean the same sixteen bytes.
+-- S-3: whatever two calls leave of two unsigned blocks that meet the premises: the same 48 values mean the same sixteen bytes.
 abbrev pub Demand3 : Type 0
 Demand3 = (x y : List ℕ) → Eligible x → Eligible y → modeOf x ≡ modeOf y → ChannelDiffers false x ⊎ ChannelDiffers false y
     → (lent room after left : List ℕ) (r s : Pixels) → Painted x 0 lent r after → Painted y 0 room s left → r .answer ≡ done → s .answer ≡ done
     → take valueCount after ≡ take valueCount left → x ≡ y
 
--- S-4, S-5. The same on two regions and on signed blocks.
+-- S-4, S-5: the same on two regions and on signed blocks.
 abbrev pub WiderDemand3 : Type 0
 WiderDemand3 = (format other : ℕ) (x y : List ℕ) → Suited format x → Suited other y → Matched format x other y
     → (lent room after left : List ℕ) (r s : Pixels) → Painted x format lent r after → Painted y other room s left → r .answer ≡ done → s .answer ≡ done
@@ -82,8 +82,8 @@ WiderDemand3 = (format other : ℕ) (x y : List ℕ) → Suited format x → Sui
 
 -- ---- the clean-up
 
--- S-45 to S-52. Only copies go, what stays is there in order, every picture is still shown, no tile number is lost, it can be undone, and
--- a store that grows, or whose records come in another order, keeps the same pictures.
+-- S-45 to S-52: only copies go, what stays is there in order, every picture is still shown, no tile number is lost, it can be undone, and a store
+-- that grows, or whose records come in another order, keeps the same pictures.
 pub record CleanUp : Type 0 where
   pub each-has-one : EachHasOne
   pub only-those : OnlyThose
@@ -102,7 +102,7 @@ pub record CleanUp : Type 0 where
 
 -- ---- calls that undo each other
 
--- S-36. Every unreserved block comes back byte for byte; every valid record comes back as it went in.
+-- S-36: every unreserved block comes back byte for byte; every valid record comes back as it went in.
 abbrev pub BlockAgain : Type 0
 BlockAgain = (block : List ℕ) (format : ℕ) → IsBlock block → format ≤ 1 → 1 ≤ modeOf block → (read : FieldsRead) → Extracted block format read
     → (lent after : List ℕ) (r : ℕ) → length lent ≡ blockSize → Written (read .fields) lent r after → (read .answer ≡ done) × ((r ≡ done) × (after ≡ block))
@@ -111,13 +111,13 @@ abbrev pub RecordAgain : Type 0
 RecordAgain = (f : Fields) → Valid f → (lent after : List ℕ) (r : ℕ) → length lent ≡ blockSize → Written f lent r after
     → (read : FieldsRead) → Extracted after (f .format) read → (r ≡ done) × (read ≡ record { answer = done; fields = f })
 
--- S-63. Reading the file that `dds_write` left gives the same size, format and blocks.
+-- S-63: reading the file that `dds_write` left gives the same size, format and blocks.
 abbrev pub FileAgain : Type 0
 FileAgain = (blocks : List ℕ) (format width height : ℕ) (lent after : List ℕ) (r : DdsWritten) → FileWritten blocks format width height lent r after → r .answer ≡ done
     → (s : DdsRead) (part : List ℕ) → FileRead (take (r .length) after) s → BlocksRead (take (r .length) after) part
     → (s ≡ record { answer = done; width = width; height = height; format = format }) × (part ≡ blocks)
 
--- S-55. What was moved comes back, byte for byte, both ways.
+-- S-55: what was moved comes back, byte for byte, both ways.
 abbrev pub OldAgain : Type 0
 OldAgain = (old lent after room back : List ℕ) (r q : Moved) → PlacedStore old lent r after → r .answer ≡ done → length old ≤ length room
     → UnplacedStore (take (recordsIn old * placeSize) after) room q back → (q .answer ≡ done) × (take (length old) back ≡ old)
@@ -128,7 +128,7 @@ NewAgain = (new lent after room back : List ℕ) (r q : Moved) → UnplacedStore
 
 -- ---- files and probes
 
--- S-64. The float of a pattern is exactly its number of 2^−24ths, with its sign; and pixel (x, y) of the file is its block's pixel.
+-- S-64: the float of a pattern is exactly its number of 2^−24ths, with its sign; and pixel (x, y) of the file is its block's pixel.
 abbrev pub FloatExact : Type 0
 FloatExact = (half : ℕ) → exponentOf half < 31 → Is24ths (floatOf half) (isNegative half) (halfValue half)
 
@@ -138,11 +138,11 @@ PixelWritten = (blocks : List ℕ) (format width height : ℕ) (lent after : Lis
     → take 12 (drop (headerLength width height + 12 * ((height - 1 - y) * width + x)) (take (r .length) after))
     ≡ pixelBytes (pixelsOf (isSigned format) (blockAt blocks (y / 4 * (width / 4) + x / 4))) (4 * (y % 4) + x % 4)
 
--- S-57. A probe answers every question the same in every order of its records.
+-- S-57: a probe answers every question the same in every order of its records.
 abbrev pub AnyOrder : Type 0
 AnyOrder = (store other : List ℕ) → Reordered placeSize store other → (edge face x y : ℕ) (r q : ProbePixel) → Asked store edge face x y r → Asked other edge face x y q
     → r .answer ≡ done → (q .answer ≡ done) × (tripleIn r ≡ tripleIn q)
 
--- S-59. What `probe_build` leaves is a probe whose pixels and faces are those of the blocks.
+-- S-59: what `probe_build` leaves is a probe whose pixels and faces are those of the blocks.
 abbrev pub ProbeBuilt : Type 0
 ProbeBuilt = BuildShows

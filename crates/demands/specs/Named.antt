@@ -1,4 +1,4 @@
--- Demand 2 for the named blocks. Assumes nothing.
+-- S-2, S-28: Demand 2 for the named blocks. Assumes nothing.
 use mathlib.Core.Path.{_≡_}
 use mathlib.Core.List.{List}
 use Prim.Native.Nat.{ℕ, _≤_}
@@ -10,7 +10,7 @@ use Rattle.bc6h_spec.specs.Named.{Row, triples, namedBlocks, EachOf}
 use Rattle.bc6.specs.declared.Pixels.{Pixels}
 use Rattle.bc6.specs.Call.{Painted}
 
--- S-28. What `block_pixels` leaves of B1 to B11: the mode of each and what it shows.
+-- S-28: what `block_pixels` leaves of B1 to B11: the mode of each and what it shows.
 abbrev pub Named : Row → Type 0
 Named row = (lent after : List ℕ) (r : Pixels) → valueCount ≤ length lent → Painted (row .bytes) (formatNumber (row .signed)) lent r after
     → (r .answer ≡ done) × ((r .mode ≡ row .mode) × (take valueCount after ≡ triples (row .red)))

@@ -1,4 +1,5 @@
--- S-1: a refusal has one number, its counts are zero, and it writes nothing. One statement, and a line for each call that can refuse. Assumes nothing.
+-- S-1: a refusal has one number, its counts are zero, and it writes nothing. One statement, and a line for each call that can refuse. Assumes
+-- nothing.
 use mathlib.Core.Path.{_≡_}
 use mathlib.Core.Bool.{Bool, true, false}
 use mathlib.Core.List.{List, [], _∷_}
@@ -47,12 +48,12 @@ use Rattle.dds.specs.Dds.{HeadRead, FileRead, BlocksRead, FileWritten}
 use Rattle.pfm.specs.declared.PfmWritten.{PfmWritten}
 use Rattle.pfm.specs.File.{PictureWritten}
 
--- S-1. Unless the call is done, each of its counts is zero and each lent place is as it was.
+-- S-1: unless the call is done, each of its counts is zero and each lent place is as it was.
 pub record Silent (number : ℕ) (counts : List ℕ) (lent after : List (List ℕ)) : Type 0 where
   pub zeros : (number ≡ done → ⊥) → (k : ℕ) → getD counts k 0 ≡ 0
   pub unchanged : (number ≡ done → ⊥) → after ≡ lent
 
--- S-1, of every call that can refuse. A field is named as the call is; a call that lends nothing has no place.
+-- S-1: of every call that can refuse. A field is named as the call is; a call that lends nothing has no place.
 pub record Demand1 : Type 0 where
   pub block-pixels : {b o a : List ℕ} {f : ℕ} {r : Pixels} → Painted b f o r a → Silent (r .answer) (r .mode ∷ r .infinite ∷ []) (o ∷ []) (a ∷ [])
   pub blocks-pixels : {b o a : List ℕ} {f : ℕ} {r : BlocksPixels} → RunPainted b f o r a → Silent (r .answer) (r .blocks ∷ r .infinite ∷ []) (o ∷ []) (a ∷ [])

@@ -1,4 +1,4 @@
--- The same lines in the order in which they are written: block by block, one channel of four pixels at a time. Assumes nothing.
+-- S-92: the same lines in the order in which they are written: block by block, one channel of four pixels at a time. Assumes nothing.
 use mathlib.Core.List.{List, _++_}
 use Prim.Native.Nat.{ℕ, _+_, _*_}
 use lib.ListN.{getD}

@@ -1,4 +1,4 @@
--- An OpenEXR file as a list of bytes, and what the writing call answers and leaves. Assumes nothing.
+-- S-92: an OpenEXR file as a list of bytes, and what the writing call answers and leaves. Assumes nothing.
 use mathlib.Core.Path.{_≡_}
 use mathlib.Core.List.{List, _++_}
 use Prim.Native.Nat.{ℕ, zero, suc, _+_, _*_, _/_, _%_}
@@ -49,7 +49,7 @@ fileLength width height = frontLength height + lineLength width * height
 
 -- ---- the call
 
--- "order 1, 16, 15, 3", as for a Portable Float Map; 3 means less room than the file has bytes
+-- S-92: 1, 16, 15, then 3 for less room than the file takes.
 unfoldable pub writeRefusal : ℕ → ℕ → ℕ → ℕ → ℕ → ℕ
 writeRefusal size format width height room =
     pick (ltb 1 format) badFormat

@@ -1,4 +1,4 @@
--- The front of an OpenEXR file as bytes: one part, scan lines, no compression, three channels of half-floats. Assumes nothing.
+-- S-92: the front of an OpenEXR file as bytes: one part, scan lines, no compression, three channels of half-floats. Assumes nothing.
 use mathlib.Core.Path.{_≡_, refl}
 use mathlib.Core.List.{List, [], _∷_, _++_}
 use Prim.Native.Nat.{ℕ, zero, suc, _+_, _-_, _*_, _/_, _%_, _≤_}

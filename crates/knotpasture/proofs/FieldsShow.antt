@@ -1,4 +1,4 @@
--- "The fields of an unreserved block show what the block shows", over the statements of the calls, and for C over 32 numbers. Assumes nothing.
+-- S-38: the fields of an unreserved block show what the block shows, over the statements of the calls, and for C over 32 numbers. Assumes nothing.
 use mathlib.Core.Path.{_≡_, _∙_, refl, sym, ap, subst}
 use mathlib.Core.List.{List, _++_}
 use Prim.Native.Nat.{ℕ, zero, suc, _≤_}
@@ -59,6 +59,7 @@ module _ (block : List ℕ) (format : ℕ) (l : length block ≡ blockSize) (k :
             ∙ sym (p .holds ∙ ap (λ (n : ℕ). pixels.valuesAt n block format lent) (block-answers room)),
       )
 
+  -- S-38: what the field call reads of a block shows what the block shows.
   pub fields-show : {read : FieldsRead} → Extracted block format read
       → {lent : List ℕ} {r : ℕ} {after : List ℕ} → shown.FieldsShown (read .fields) lent r after
       → {p : Pixels} {painted : List ℕ} → pixels.Painted block format lent p painted → (r ≡ p .answer) × (after ≡ painted)

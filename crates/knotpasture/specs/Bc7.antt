@@ -1,4 +1,4 @@
--- What the exports for BC7 answer: the calls' own answers in a word. Assumes nothing.
+-- S-66, S-87: what the exports for BC7 answer: the calls' own answers in a word. Assumes nothing.
 use mathlib.Core.Path.{_≡_}
 use mathlib.Core.List.{List}
 use Prim.Native.Nat.{ℕ}

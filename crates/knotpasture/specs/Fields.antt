@@ -1,4 +1,4 @@
--- What the exports over the fields of a block answer: the calls' own answers, packed into one word. Assumes nothing.
+-- S-35, S-87: what the exports over the fields of a block answer: the calls' own answers, packed into one word. Assumes nothing.
 use mathlib.Core.Path.{_≡_}
 use mathlib.Core.List.{List, _++_}
 use Prim.Native.Nat.{ℕ, zero, suc}
@@ -11,7 +11,7 @@ use Rattle.bc6_fields.specs.Call as fields
 use Rattle.bc6_numbers.specs.Numbers.{numberCount, numbersOf}
 use Rattle.knotpasture.specs.Words.{twoBytes}
 
--- the field call's own refusals, 1, 2 and 4, and then 3, where the lent numbers are too few
+-- S-35, S-87: the field call's own refusals, 1, 2 and 4, and then 3, where the lent numbers are too few
 abbrev pub withRoom : ℕ → ℕ → ℕ
 withRoom zero room = pick (ltb room numberCount) shortOutput done
 withRoom (suc number) room = suc number
@@ -28,7 +28,7 @@ abbrev pub numbersAt : ℕ → List ℕ → ℕ → List ℕ → List ℕ
 numbersAt zero block format lent = numbersOf (fieldsOf format block) ++ drop numberCount lent
 numbersAt (suc number) block format lent = lent
 
--- The field call: its answer in one word, and the lent numbers, which a refusal leaves.
+-- S-35, S-87: the field call: its answer in one word, and the lent numbers, which a refusal leaves.
 pub record FieldsCalled (block : List ℕ) (format : ℕ) (lent : List ℕ) (r : ℕ) (after : List ℕ) : Type 0 where
   pub answers : r ≡ fieldsWord (fieldsRefusal block format (length lent)) block
   pub holds : after ≡ numbersAt (fieldsRefusal block format (length lent)) block format lent

@@ -1,4 +1,5 @@
--- What the exports over DDS files and Portable Float Maps answer: the calls' own answers, packed into one word. Assumes nothing.
+-- S-62 to S-64, S-86, S-87: what the exports over DDS files and Portable Float Maps answer: the calls' own answers, packed into one word. Assumes
+-- nothing.
 use mathlib.Core.Path.{_≡_}
 use mathlib.Core.List.{List}
 use Prim.Native.Nat.{ℕ, zero, suc, _+_, _*_}
@@ -10,18 +11,18 @@ use Rattle.dds.specs.Dds as dds
 use Rattle.pfm.specs.declared.PfmWritten.{PfmWritten}
 use Rattle.pfm.specs.File as pfm
 
--- the number in the low byte, the format in bits 8 to 15, the width in bits 16 to 31, the height in bits 32 to 47
+-- S-62, S-86, S-87: the number in the low byte, the format in bits 8 to 15, the width in bits 16 to 31, the height in bits 32 to 47
 abbrev pub readWord : DdsRead → ℕ
 readWord r = r .answer + r .format * 0x100 + r .width * 0x10000 + r .height * 0x100000000
 
--- The two reading calls: the answer in one word.
+-- S-62, S-86, S-87: the two reading calls: the answer in one word.
 pub record HeadCalled (file : List ℕ) (r : ℕ) : Type 0 where
   pub answers : r ≡ readWord (readAt (headRefusal file) file)
 
 pub record ReadCalled (file : List ℕ) (r : ℕ) : Type 0 where
   pub answers : r ≡ readWord (readAt (readRefusal file) file)
 
--- where in the file the blocks start; 0 for a refusal
+-- S-62, S-87: where in the file the blocks start; 0 for a refusal
 abbrev pub startAt : ℕ → ℕ
 startAt zero = headerSize
 startAt (suc number) = 0
@@ -29,18 +30,19 @@ startAt (suc number) = 0
 pub record BlocksCalled (file : List ℕ) (r : ℕ) : Type 0 where
   pub answers : r ≡ startAt (readRefusal file)
 
--- the number in the low byte, the length above it
+-- S-63, S-64, S-87: the number in the low byte, the length above it
 abbrev pub lengthWord : ℕ → ℕ → ℕ
 lengthWord answer length = answer + length * 0x100
 
 abbrev pub ddsWord : DdsWritten → ℕ
 ddsWord r = lengthWord (r .answer) (r .length)
 
--- The call that writes a DDS file: the answer in one word, and the lent bytes as the call leaves them.
+-- S-63, S-87: the call that writes a DDS file: the answer in one word, and the lent bytes as the call leaves them.
 pub record DdsWriteCalled (blocks : List ℕ) (format width height : ℕ) (out : List ℕ) (r : ℕ) (after : List ℕ) : Type 0 where
   pub answers : r ≡ ddsWord (dds.writtenAt (dds.writeRefusal (length blocks) format width height (length out)) blocks)
   pub holds : after ≡ dds.leftAt (dds.writeRefusal (length blocks) format width height (length out)) blocks format width height out
 
+-- S-64, S-87: the same of a Portable Float Map
 abbrev pub pfmWord : PfmWritten → ℕ
 pfmWord r = lengthWord (r .answer) (r .length)
 

@@ -1,4 +1,5 @@
--- What the exports over records with a place and over a probe answer: the calls' own answers, packed into one word and slots. Assumes nothing.
+-- S-54, S-55, S-57 to S-59, S-87: what the exports over records with a place and over a probe answer: the calls' own answers, packed into one word
+-- and slots. Assumes nothing.
 use mathlib.Core.Path.{_≡_}
 use mathlib.Core.List.{List}
 use Prim.Native.Nat.{ℕ, zero, suc, _+_, _*_}
@@ -13,7 +14,7 @@ use Rattle.probe.specs.declared.ProbePixel.{ProbePixel}
 use Rattle.probe.specs.Probe.{probeAnswer}
 use Rattle.probe_faces.specs.Face.{faceOf, faceFault, faceValues}
 
--- a record: 0 in the low byte, the format in the next, the face in bits 16 to 23, the tile in the high half; a refusal: its number alone
+-- S-54, S-87: a record: 0 in the low byte, the format in the next, the face in bits 16 to 23, the tile in the high half; a refusal: its number alone
 abbrev pub placedWord : ℕ → List ℕ → ℕ → ℕ
 placedWord zero store n = formatIn store n * 0x100 + faceIn store n * 0x10000 + tileIn store n * 0x100000000
 placedWord (suc number) store n = suc number
@@ -23,18 +24,18 @@ abbrev pub slotAt : ℕ → ℕ → ℕ
 slotAt zero value = value
 slotAt (suc number) value = 0
 
--- The record call: its answer in one word, and the column and the row in the slots.
+-- S-54, S-87: the record call: its answer in one word, and the column and the row in the slots.
 pub record PlacedReadingCalled (store : List ℕ) (n r column row : ℕ) : Type 0 where
   pub answers : r ≡ placedWord (placedRefusal store n) store n
   pub column-told : column ≡ slotAt (placedRefusal store n) (columnIn store n)
   pub row-told : row ≡ slotAt (placedRefusal store n) (rowIn store n)
 
--- where in the store a record's block starts; 0 for a refusal
+-- S-54, S-87: where in the store a record's block starts; 0 for a refusal
 abbrev pub placedOffset : ℕ → ℕ → ℕ
 placedOffset zero n = n * placeSize + placeHead
 placedOffset (suc number) n = 0
 
--- the number in the low byte, the records moved in bits 16 to 31, the first faulty record in bits 32 to 47
+-- S-55, S-87: the number in the low byte, the records moved in bits 16 to 31, the first faulty record in bits 32 to 47
 abbrev pub movedWord : Moved → ℕ
 movedWord moved = moved .answer + moved .records * 0x10000 + moved .faulty * 0x100000000
 
@@ -47,16 +48,16 @@ pub record UnplaceCalled (new lent : List ℕ) (r : ℕ) (after : List ℕ) : Ty
   pub answers : r ≡ movedWord (movedAt (unplacingRefusal new (length lent)) (unplacingFault new (length lent) .faulty) (placesIn new))
   pub holds : after ≡ bytesAt (unplacingRefusal new (length lent)) (oldStore new) lent
 
--- the number in the low byte; red, green and blue in the three sixteen-bit fields above the lowest
+-- S-57, S-87: the number in the low byte; red, green and blue in the three sixteen-bit fields above the lowest
 abbrev pub pixelWord : ProbePixel → ℕ
 pixelWord p = p .answer + p .r * 0x10000 + p .g * 0x100000000 + p .b * 0x1000000000000
 
--- The pixel call: its answer in one word, and in the slot the first faulty record, where one is why.
+-- S-57, S-87: the pixel call: its answer in one word, and in the slot the first faulty record, where one is why.
 pub record PixelCalled (store : List ℕ) (edge face x y r faulty : ℕ) : Type 0 where
   pub answers : r ≡ pixelWord (probeAnswer store edge face x y)
   pub faulty-told : faulty ≡ probeAnswer store edge face x y .faulty
 
--- the number in the low byte; in bits 16 to 31 the faulty record
+-- S-58, S-87: the number in the low byte; in bits 16 to 31 the faulty record
 abbrev pub faultWord : Fault → ℕ
 faultWord fault = fault .answer + fault .faulty * 0x10000
 

@@ -1,4 +1,4 @@
--- What the exports over a store answer: the calls' own answers, packed into one word. Assumes nothing.
+-- S-40 to S-44, S-85, S-87: what the exports over a store answer: the calls' own answers, packed into one word. Assumes nothing.
 use mathlib.Core.Path.{_≡_}
 use mathlib.Core.List.{List}
 use Prim.Native.Nat.{ℕ, zero, suc, _+_, _*_}
@@ -8,7 +8,7 @@ use Rattle.store_spec.specs.declared.TwinList.{TwinList}
 use Rattle.store_spec.specs.Twins.{listRefusal, answerAt, marksAt, scratchRefusal, scratchAt}
 use Rattle.store_strict.specs.Strict.{strictRefusal}
 
--- a record: 0 in the low byte, the format in the next, the tile in the high half; a refusal: its number alone
+-- S-40, S-87: a record: 0 in the low byte, the format in the next, the tile in the high half; a refusal: its number alone
 abbrev pub wordAt : ℕ → List ℕ → ℕ → ℕ
 wordAt zero store n = formatOf store n * 0x100 + tileOf store n * 0x100000000
 wordAt (suc number) store n = suc number
@@ -16,12 +16,12 @@ wordAt (suc number) store n = suc number
 abbrev pub readingWord : List ℕ → ℕ → ℕ
 readingWord store n = wordAt (recordRefusal store n) store n
 
--- where in the store a record's block starts; 0 for a refusal
+-- S-41, S-87: where in the store a record's block starts; 0 for a refusal
 abbrev pub offsetAt : ℕ → ℕ → ℕ
 offsetAt zero n = n * recordSize + headSize
 offsetAt (suc number) n = 0
 
--- the number in the low byte; kept records, twins and bad records in the three sixteen-bit fields above the lowest
+-- S-43, S-87: the number in the low byte; kept records, twins and bad records in the three sixteen-bit fields above the lowest
 abbrev pub twinsWord : TwinList → ℕ
 twinsWord list = list .answer + list .kept * 0x10000 + list .twins * 0x100000000 + list .bad * 0x1000000000000
 
@@ -30,12 +30,12 @@ pub record TwinsCalled (store lent : List ℕ) (r : ℕ) (after : List ℕ) : Ty
   pub answers : r ≡ twinsWord (answerAt (listRefusal (length store) (length lent)) store)
   pub holds : after ≡ marksAt (listRefusal (length store) (length lent)) store lent
 
--- The strict twin list: its answer in one word, and the lent marks as the call leaves them. No count of a refusal's word is other than 0.
+-- S-44, S-87: the strict twin list: its answer in one word, and the lent marks as the call leaves them. No count of a refusal's word is other than 0.
 pub record StrictCalled (store lent : List ℕ) (r : ℕ) (after : List ℕ) : Type 0 where
   pub answers : r ≡ twinsWord (answerAt (strictRefusal store (length lent)) store)
   pub holds : after ≡ marksAt (strictRefusal store (length lent)) store lent
 
--- The twin list over lent scratch space: its answer in one word, and the lent marks and the scratch space as the call leaves them.
+-- S-85, S-87: the twin list over lent scratch space: its answer in one word, and the lent marks and the scratch space as the call leaves them.
 pub record TwinsInCalled (store lent space : List ℕ) (r : ℕ) (after spaceAfter : List ℕ) : Type 0 where
   pub answers : r ≡ twinsWord (answerAt (scratchRefusal (length store) (length lent) (length space)) store)
   pub holds : after ≡ marksAt (scratchRefusal (length store) (length lent) (length space)) store lent

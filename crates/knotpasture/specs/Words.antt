@@ -1,4 +1,4 @@
--- Two bytes of an answer as one word. Assumes nothing.
+-- S-87: two bytes of an answer as one word. Assumes nothing.
 use Prim.Native.Nat.{ℕ, _+_, _*_}
 
 -- two bytes, the first the lowest

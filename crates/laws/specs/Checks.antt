@@ -1,4 +1,4 @@
--- Checks in their order, each beside the number of its refusal. Assumes nothing.
+-- Serves every clause. Checks in their order, each beside the number of its refusal. Assumes nothing.
 use mathlib.Core.Path.{_≡_}
 use mathlib.Core.Bool.{Bool, true, false}
 use mathlib.Core.List.{List, [], _∷_}

@@ -1,4 +1,4 @@
--- The first number that passes a test. Assumes nothing.
+-- Serves every clause. The first number that passes a test. Assumes nothing.
 use mathlib.Core.Bool.{Bool}
 use Prim.Native.Nat.{ℕ, zero, suc}
 use lib.Dec.{ltb}

@@ -1,4 +1,4 @@
--- Two orders of the same records, of so many bytes each. Assumes nothing.
+-- Serves every clause. Two orders of the same records, of so many bytes each. Assumes nothing.
 use mathlib.Core.Path.{_≡_}
 use mathlib.Core.List.{List}
 use Prim.Native.Nat.{ℕ, _*_, _/_, _<_}

@@ -1,4 +1,4 @@
--- Choices and tests. Assumes nothing.
+-- Serves every clause. Choices and tests. Assumes nothing.
 use mathlib.Core.Bool.{Bool, true, false}
 
 -- if the test holds the first, else the second

@@ -1,4 +1,4 @@
--- Tests that antt computes by looking through a range. Assumes nothing.
+-- Serves every clause. Tests that antt computes by looking through a range. Assumes nothing.
 use mathlib.Core.Bool.{Bool, false, not}
 use Prim.Native.Nat.{ℕ, zero, suc}
 use lib.Dec.{eqb}

@@ -94,7 +94,7 @@ block-stores colours stride l l1 l2 l3 l4 at a b c d =
 
 module _ {block : List ℕ} {format : ℕ} {out : List ℕ} {r : Pixels} {after : List ℕ} (p : Painted block format out r after)
     (f : format ≤ 1) (sixteen : length block ≡ 16) (room : length out ≡ 48) where
-  -- "Each format has a highest pattern": none of the 48 values is a NaN
+  -- S-25: none of the 48 values is a NaN
   number-at : (j : ℕ) → j < 48 → IsNumber (getD after j 0)
   number-at j h =
       let fine = decoding-done p f sixteen room in

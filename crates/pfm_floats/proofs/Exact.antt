@@ -47,7 +47,7 @@ value-24 nan s a v = v
 value-24 (inf t) s a v = v
 value-24 (fin t m e) s a v = (v .0, rw (v .0) (ap (signed s) (v .1) ∙ times s a (down e)))
 
--- "each exactly equal to its half-float pattern, subnormal patterns included": for every pattern whose exponent is below 31, of either sign, the
+-- S-64: for every pattern whose exponent is below 31, subnormal ones too, of either sign, the
 -- float is the pattern's whole number of 2^−24ths, and a zero keeps its sign
 pub float-exact : (h : ℕ) → exponentOf h < 31 → Is24ths (floatOf h) (isNegative h) (halfValue h)
 unfolding floatOf halfValue sizeOf
@@ -55,7 +55,7 @@ float-exact h E =
     rw (ne-eqb (exponentOf h) 31 (λ e. omega arith))
     (value-24 (round binary32 (isNegative h) (sizeAt (exponentOf h) (digitsOf h)) (2 ^ 24)) (isNegative h) (sizeAt (exponentOf h) (digitsOf h)) (exact-at (isNegative h) (exponentOf h) (digitsOf h) E (omega arith)))
 
--- the other patterns: "0xFC00 becomes minus infinity"; 0x7C00, which no block shows, plus infinity; and not a number, which none shows either
+-- S-64: the other patterns: 0xFC00 becomes minus infinity; 0x7C00, which no block shows, plus infinity; and not a number, which none shows either
 pub float-lowest : floatOf 0xFC00 ≡ inf true
 unfolding floatOf
 float-lowest = refl

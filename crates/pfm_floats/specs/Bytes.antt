@@ -1,4 +1,4 @@
--- A 32-bit number as four bytes, the lowest first, and the twelve bytes of three floats. Assumes nothing.
+-- S-64: a 32-bit number as four bytes, the lowest first, and the twelve bytes of three floats. Assumes nothing.
 use mathlib.Core.Bool.{not}
 use mathlib.Core.List.{List, [], _∷_, _++_}
 use Prim.Native.Nat.{ℕ, _/_, _%_}
@@ -6,7 +6,7 @@ use lib.Dec.{T}
 use lib.Ieee.{Float, binary32, toBits, isNan}
 use Rattle.pfm_floats.specs.declared.Rgb.{Rgb}
 
--- "little-endian"
+-- S-64: the low byte first.
 abbrev pub wordBytes : ℕ → List ℕ
 wordBytes word = word % 256 ∷ word / 256 % 256 ∷ word / 65536 % 256 ∷ word / 16777216 % 256 ∷ []
 

@@ -1,5 +1,4 @@
--- What a half-float pattern stands for, as a whole number of 2^−24ths, and the 32-bit float that is exactly it: document 02's T-10.
--- Assumes nothing.
+-- S-64: what a half-float pattern is worth, as a whole number of 2^−24ths, and the 32-bit float that is exactly it. Assumes nothing.
 use mathlib.Core.Path.{_≡_}
 use mathlib.Core.Bool.{Bool, true, false}
 use Prim.Native.Nat.{ℕ, zero, suc, _+_, _*_, _/_, _%_, _^_, _≤_}
@@ -32,7 +31,7 @@ sizeAt (suc exponent) digits = (0x400 + digits) * 2 ^ exponent
 unfoldable pub sizeOf : ℕ → ℕ
 sizeOf half = sizeAt (exponentOf half) (digitsOf half)
 
--- the value of a pattern whose exponent is below 31, "stated over whole numbers, as a multiple of 2^−24"
+-- S-64: the value of a pattern whose exponent is below 31, as a multiple of 2^−24.
 unfoldable pub halfValue : ℕ → ℤ
 halfValue half = signed (isNegative half) (sizeOf half)
 
@@ -42,8 +41,8 @@ Is24ths nan negative z = ⊥
 Is24ths (inf s) negative z = ⊥
 Is24ths (fin s m e) negative z = (s ≡ negative) × (signed s (m * up e * 2 ^ 24) ≡ z *ℤ pos (down e))
 
--- The float of a pattern. Below exponent 31: the one nearest to its value, which is its value (proofs/Exact). At 31: an infinity without digits,
--- "0xFC00 becomes minus infinity", and not a number with some.
+-- S-64: the float of a pattern. Below exponent 31: the one nearest to its value, which is its value (proofs/Exact). At 31: an infinity without
+-- digits, so that 0xFC00 becomes minus infinity, and not a number with some.
 unfoldable pub floatOf : ℕ → Float
 floatOf half =
     pick (eqb (exponentOf half) 31) (pick (eqb (digitsOf half) 0) (inf (isNegative half)) nan)

@@ -83,6 +83,6 @@ module _ (store : List ℕ) (edge : ℕ) (p : IsProbe store edge) where
         ∙ spot-place edge t;
   })
 
-  -- 6 faces of n rows of n columns, "filled exactly once"
+  -- S-56: 6 faces of n rows of n columns, each place filled exactly once
   pub probe-count : placesIn store ≡ 6 * edge * edge
   probe-count = let l : placesIn store ≤ 6 * edge * edge = few in let m : 6 * edge * edge ≤ placesIn store = many in omega arith

@@ -1,4 +1,4 @@
--- "for a store that passes the answer is the same for every order of its records". Assumes nothing.
+-- S-57: a probe answers the same for every order of its records. Assumes nothing.
 use mathlib.Core.Path.{_≡_, refl, sym, _∙_, ap, ap₂, subst}
 use mathlib.Core.Bool.{not}
 use mathlib.Core.List.{List, _∷_}

@@ -71,6 +71,7 @@ module _ (size : ℕ) where
   unfolding isEdge recordCount
   found-fits h = eqb-true _ _ (first-passes (isEdge size) edgeLimit h)
 
+  -- S-59: the edge of a store's length, in words.
   pub edge-found : EdgeFound size (edgeOf size)
   unfolding edgeOf
   edge-found =

@@ -1,4 +1,4 @@
--- A probe built of the blocks of its six faces: beyond document 02's T-12. Assumes nothing.
+-- S-59: a probe built of the blocks of its six faces. Assumes nothing.
 use mathlib.Core.Path.{_≡_, refl}
 use mathlib.Core.Bool.{Bool, not}
 use mathlib.Core.List.{List, [], _∷_, _++_}
@@ -14,48 +14,48 @@ use Rattle.probe_places.specs.Places.{placeSize}
 use Rattle.probe.specs.Probe.{placeOf, edgeFits}
 use Rattle.probe_build.specs.declared.Built.{Built}
 
--- "6 edge² placed records"
+-- S-59: a record for each block of six faces.
 unfoldable pub recordCount : ℕ → ℕ
 recordCount edge = 6 * edge * edge
 
 -- ---- record n
 
--- "record n = face n div edge², row (n mod edge²) div edge, column n mod edge"
+-- S-59: the records go face by face and row by row.
 unfoldable pub placeFor : ℕ → ℕ → Place
 placeFor edge n = placeOf (n / (edge * edge)) (n % edge) (n % (edge * edge) / edge)
 
--- "tile first_tile + n wrapping modulo 2^32"
+-- S-59: the tile numbers rise from the first one, and wrap at 2^32.
 abbrev pub tileFor : ℕ → ℕ → ℕ
 tileFor first n = (first + n) % 2 ^ 32
 
--- "tile 4 LE, format, face, column u16 LE, row u16 LE, six zero bytes"
+-- S-53: tile number, format, face, column, row and six zeros, each number low byte first.
 unfoldable pub headOf : ℕ → ℕ → Place → List ℕ
 headOf tile format p =
     tile % 0x100 ∷ tile / 0x100 % 0x100 ∷ tile / 0x10000 % 0x100 ∷ tile / 0x1000000 % 0x100 ∷ format ∷ p .face ∷
     p .column % 0x100 ∷ p .column / 0x100 % 0x100 ∷ p .row % 0x100 ∷ p .row / 0x100 % 0x100 ∷
     0 ∷ 0 ∷ 0 ∷ 0 ∷ 0 ∷ 0 ∷ []
 
--- the sixteen bytes of block n
+-- S-59: the sixteen bytes of block n
 unfoldable pub blockByte : List ℕ → ℕ → ℕ → ℕ
 blockByte blocks n k = getD blocks (blockSize * n + k) 0
 
 abbrev pub blockBytes : List ℕ → ℕ → List ℕ
 blockBytes blocks n = made (blockByte blocks n) blockSize
 
--- ".., block 16"
+-- S-53, S-59: the head, and then the block.
 unfoldable pub recordWith : List ℕ → ℕ → ℕ → ℕ → Place → List ℕ
 recordWith blocks n tile format p = headOf tile format p ++ blockBytes blocks n
 
 unfoldable pub recordOf : List ℕ → ℕ → ℕ → ℕ → ℕ → List ℕ
 recordOf blocks format edge first n = recordWith blocks n (tileFor first n) format (placeFor edge n)
 
--- the store: its records from the first
+-- S-59: the store: its records from the first
 unfoldable pub builtOf : List ℕ → ℕ → ℕ → ℕ → List ℕ
 builtOf blocks format edge first = join (made (recordOf blocks format edge first) (recordCount edge))
 
 -- ---- the checks
 
--- "19 (edge not 1..16), 1 (format above 1), 15 (block bytes not 16*6*edge*edge), 3 (room below 32 bytes a record)"
+-- S-59: 19, 1, 15, 3: the edge, the format, the block bytes, the room.
 abbrev pub buildChecks : ℕ → ℕ → ℕ → ℕ → List (Bool × ℕ)
 buildChecks size format edge room =
     (not (edgeFits edge), badEdge) ∷ (ltb 1 format, badFormat) ∷
@@ -66,16 +66,17 @@ buildRefusal size format edge room = firstMet (buildChecks size format edge room
 
 -- ---- the call
 
--- the number, and how many records were written: none on a refusal
+-- S-59: the number, and how many records were written: none on a refusal
 abbrev pub builtAt : ℕ → ℕ → Built
 builtAt zero count = record { answer = done; records = count }
 builtAt (suc number) count = record { answer = suc number; records = 0 }
 
--- "the rest of out stays; a refusal writes nothing"
+-- S-30, S-59: the rest of the lent bytes stays; a refusal writes nothing.
 abbrev pub bytesAt : ℕ → List ℕ → List ℕ → List ℕ
 bytesAt zero built lent = built ++ drop (length built) lent
 bytesAt (suc number) built lent = lent
 
+-- S-59: the statement of the call: its answer r, and the lent bytes `after`.
 pub record BuiltTo (blocks : List ℕ) (format edge first : ℕ) (lent : List ℕ) (r : Built) (after : List ℕ) : Type 0 where
   pub answers : r ≡ builtAt (buildRefusal (length blocks) format edge (length lent)) (recordCount edge)
   pub holds : after ≡ bytesAt (buildRefusal (length blocks) format edge (length lent)) (builtOf blocks format edge first) lent

@@ -1,4 +1,4 @@
--- The edge of a probe by its store's length. Assumes nothing.
+-- S-59: the edge of a probe by its store's length. Assumes nothing.
 use mathlib.Core.Path.{_≡_, refl}
 use mathlib.Core.Bool.{Bool}
 use Prim.Native.Nat.{ℕ, _+_, _*_, _≤_}
@@ -13,7 +13,7 @@ use Rattle.probe_build.specs.Building.{recordCount}
 unfoldable pub isEdge : ℕ → ℕ → Bool
 isEdge size k = eqb (placeSize * recordCount (k + 1)) size
 
--- "the n in 1..16 with 6*n^2*32 = length, or 0"
+-- S-59: the edge of 1 to 16 whose records have so many bytes, or 0.
 abbrev pub edgeAt : ℕ → ℕ
 edgeAt first = pick (ltb first edgeLimit) (first + 1) 0
 

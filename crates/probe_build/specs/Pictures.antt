@@ -1,4 +1,4 @@
--- What a built store shows: the statement that proofs/Shown proves. Assumes nothing.
+-- S-59: what a built store shows: the statement that proofs/Shown proves. Assumes nothing.
 use mathlib.Core.Path.{_≡_}
 use mathlib.Core.List.{List}
 use Prim.Native.Nat.{ℕ, _+_, _*_, _/_, _%_, _≤_, _<_}
@@ -17,11 +17,11 @@ use Rattle.probe_build.specs.declared.Built.{Built}
 use Rattle.probe_build.specs.Building.{BuiltTo}
 use Rattle.probe_build.specs.Edges.{edgeOf}
 
--- "the first 32*records bytes"
+-- S-59: the bytes that were written.
 abbrev pub leftBy : Built → List ℕ → List ℕ
 leftBy r after = take (placeSize * r .records) after
 
--- "the picture of block f*edge² + (y div 4)*edge + x div 4 at pixel (x mod 4, y mod 4)"
+-- S-59: pixel (x, y) of a face is pixel (x mod 4, y mod 4) of the block at column x div 4, row y div 4 of that face's blocks.
 abbrev pub blockAt : ℕ → ℕ → ℕ → ℕ → ℕ
 blockAt edge face x y = face * (edge * edge) + y / 4 * edge + x / 4
 

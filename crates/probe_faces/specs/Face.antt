@@ -1,4 +1,4 @@
--- A whole face of a probe: beyond document 02's T-12. Assumes nothing.
+-- S-58: a whole face of a probe. Assumes nothing.
 use mathlib.Core.Path.{_≡_}
 use mathlib.Core.Bool.{Bool, not}
 use mathlib.Core.List.{List, [], _∷_, _++_}

@@ -1,4 +1,4 @@
--- What is kept while a face is painted: the values of a row of blocks, block by block. Assumes nothing.
+-- S-58: what is kept while a face is painted: the values of a row of blocks, block by block. Assumes nothing.
 use mathlib.Core.List.{List}
 use Prim.Native.Nat.{ℕ, _+_, _*_, _/_, _%_}
 use lib.ListN.{getD}

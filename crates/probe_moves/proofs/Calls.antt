@@ -37,7 +37,7 @@ module _ {fault : Fault} {count : ℕ} {moved lent after : List ℕ} {r : Moved}
   pub answer-number : r .answer ≡ fault .answer
   answer-number = ap (λ (x : Moved). x .answer) (d .answers) ∙ answer-is (fault .answer) (fault .faulty) count
 
-  -- "all or nothing": every record, with the rest of the lent bytes as it was ..
+  -- S-55: every record moves, and the rest of the lent bytes is as it was
   module _ (z : r .answer ≡ done) where
     unrefused : fault .answer ≡ done
     unrefused = sym answer-number ∙ z
@@ -214,7 +214,7 @@ unplace-front new d z = moved-front d z (placesIn new * 24) (old-length new)
 all-movable : {new : List ℕ} {room : ℕ} → Unplaceable new room → (n : ℕ) → n < placesIn new → Movable new n
 all-movable {new} p n h = movable new n (p .movable-all n h)
 
--- ---- "and back to the same bytes"
+-- ---- S-55: back to the same bytes
 
 -- whatever the move and then the move back may answer by their statements: what was moved comes back, byte for byte
 pub old-again : (old : List ℕ) {lent after room back : List ℕ} {r q : Moved} → PlacedStore old lent r after → r .answer ≡ done
@@ -293,7 +293,7 @@ unplace-same new d z n h =
     let same : placedStore (oldStore new) ≡ new = back-and-there new (all-movable p) (p .even) in
     rw (unplace-front new d z) (rw same at (same-there (oldStore new) n (back-passes new n (p .fits) h (all-movable p n h))))
 
--- ---- "A placed record doesn't move back"
+-- ---- S-55: a placed record does not move back
 
 pub placed-refused : (new : List ℕ) (n : ℕ) → IsPlaced new n → backRefusal new n ≡ done → ⊥
 placed-refused new n h z = let f = movable new n z .off .no-face in omega arith

@@ -1,4 +1,4 @@
--- The moves between old stores and stores of places: document 02's T-11. Assumes nothing.
+-- S-55: the moves between old stores and stores of places. Assumes nothing.
 use mathlib.Core.Path.{_≡_}
 use mathlib.Core.Bool.{Bool, not}
 use mathlib.Core.List.{List, [], _∷_, _++_}
@@ -17,7 +17,7 @@ use Rattle.probe_moves.specs.declared.Moved.{Moved}
 
 -- ---- the bytes
 
--- "Old records move to 'not placed' ones": byte k of what record n becomes
+-- S-55: an old record becomes one that is not placed: byte k of what record n becomes.
 unfoldable pub placedByte : List ℕ → ℕ → ℕ → ℕ
 placedByte old n k = pick (ltb k 5) (byteOf old n k) (pick (eqb k 5) noFace (pick (ltb k placeHead) 0 (byteOf old n (k - 8))))
 
@@ -27,7 +27,7 @@ placedAt old j = placedByte old (j / placeSize) (j % placeSize)
 unfoldable pub placedStore : List ℕ → List ℕ
 placedStore old = made (placedAt old) (recordsIn old * placeSize)
 
--- "and back": byte k of what record n becomes
+-- S-55: the way back: byte k of what record n becomes.
 unfoldable pub oldByte : List ℕ → ℕ → ℕ → ℕ
 oldByte new n k = pick (ltb k 5) (byteAt new n k) (pick (ltb k headSize) 0 (byteAt new n (k + 8)))
 
@@ -39,8 +39,7 @@ oldStore new = made (oldAt new) (placesIn new * recordSize)
 
 -- ---- the checks
 
--- "5, 6 and 3 (too little room for the moved store) come before any record": of a store's size and the room, where a record has `from`
--- bytes and the moved one `to`
+-- S-55: 5, 6 and 3 come before any record: of a store's size and the room, where a record has `from` bytes and the moved one `to`.
 abbrev pub sizeChecks : ℕ → ℕ → ℕ → ℕ → ℕ → List (Bool × ℕ)
 sizeChecks limit from to size room =
     (ltb limit size, longStore) ∷ (not (eqb (size % from) 0), unevenStore) ∷ (ltb room (size / from * to), shortOutput) ∷ []
@@ -54,11 +53,11 @@ placeSizes size room = sizeRefusal storeLimit recordSize placeSize size room
 abbrev pub unplaceSizes : ℕ → ℕ → ℕ
 unplaceSizes size room = sizeRefusal placeLimit placeSize recordSize size room
 
--- "Per record the order is 1, 7, 17, 18"; "18, placed record on the way back"
+-- S-55: 1, 7, 17, 18: a placed record does not move back.
 unfoldable pub backRefusal : List ℕ → ℕ → ℕ
 backRefusal new n = orNext (placeRecordRefusal new n) (pick (placed (placeIn new n)) placedRecord done)
 
--- .. "lowest record first": the refusal's number, and the record that is why; 0 where none is
+-- S-55: the first faulty record: the refusal's number, and the record that is why; 0 where none is.
 unfoldable pub placingFault : List ℕ → ℕ → Fault
 placingFault old room = wholeFirst (placeSizes (length old) room) (firstFault (recordRefusal old) (recordsIn old))
 
@@ -78,16 +77,17 @@ abbrev pub movedAt : ℕ → ℕ → ℕ → Moved
 movedAt zero faulty count = record { answer = done; records = count; faulty = 0 }
 movedAt (suc number) faulty count = record { answer = suc number; records = 0; faulty = faulty }
 
--- "Each move is all or nothing": what the lent bytes then are
+-- S-30, S-55: a move is all or nothing: what the lent bytes then are.
 abbrev pub bytesAt : ℕ → List ℕ → List ℕ → List ℕ
 bytesAt zero moved lent = moved ++ drop (length moved) lent
 bytesAt (suc number) moved lent = lent
 
+-- S-55: the statement of a move: its answer r, and the lent bytes `after`.
 pub record MovedTo (fault : Fault) (count : ℕ) (moved lent : List ℕ) (r : Moved) (after : List ℕ) : Type 0 where
   pub answers : r ≡ movedAt (fault .answer) (fault .faulty) count
   pub holds : after ≡ bytesAt (fault .answer) moved lent
 
--- The statements of the two calls.
+-- S-55: the statements of the two calls.
 abbrev pub PlacedStore : (old lent : List ℕ) (r : Moved) (after : List ℕ) → Type 0
 PlacedStore old lent r after = MovedTo (placingFault old (length lent)) (recordsIn old) (placedStore old) lent r after
 

@@ -1,4 +1,4 @@
--- "lowest record first": the first record of a store that a check refuses, and the number of that refusal. Assumes nothing.
+-- S-55, S-57: the first record of a store that a check refuses, lowest first, and the number of that refusal. Assumes nothing.
 use mathlib.Core.Bool.{Bool, not}
 use Prim.Native.Nat.{ℕ, zero, suc}
 use lib.Dec.{eqb, ltb}
@@ -30,7 +30,7 @@ faultAt refusal count first = pick (ltb first count) (record { answer = refusal 
 unfoldable pub firstFault : (ℕ → ℕ) → ℕ → Fault
 firstFault refusal count = faultAt refusal count (firstBelow (isFaulty refusal) count)
 
--- a check of the whole store comes "before any record", and tells no record
+-- S-55, S-57: a check of the whole store comes before any record, and tells no record.
 abbrev pub wholeFirst : ℕ → Fault → Fault
 wholeFirst zero fault = fault
 wholeFirst (suc number) fault = faultAlone (suc number)

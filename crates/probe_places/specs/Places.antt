@@ -1,4 +1,4 @@
--- A store of records with a place, 32 bytes each: document 02's T-11. Assumes nothing.
+-- S-53: a store of records with a place, 32 bytes each. Assumes nothing.
 use mathlib.Core.Path.{_≡_}
 use mathlib.Core.Bool.{Bool, not}
 use mathlib.Core.List.{List, [], _∷_}
@@ -13,18 +13,18 @@ use Rattle.bcn_spec.specs.Bits.{blockSize}
 use Rattle.raw_bytes.specs.Bytes.{lowFirst}
 use Rattle.probe_places.specs.declared.Place.{Place}
 
--- "The new record has 32 bytes, still with no header: tile (4), format (1), face (1), column (2), row (2), six zero bytes, block (16)."
+-- S-53: a record has 32 bytes: tile number (4), format (1), face (1), column (2), row (2), six zeros, block (16). A store has no header.
 abbrev pub placeSize : ℕ
 placeSize = 32
 
 abbrev pub placeHead : ℕ
 placeHead = 16
 
--- "Limits 5 and 6 read 64,000 and 32 for new stores"
+-- S-30: a store has at most 2,000 records, 64,000 bytes.
 abbrev pub placeLimit : ℕ
 placeLimit = 64000
 
--- "Face is 0 to 5, or 255 for 'not placed'"
+-- S-53: a face is 0 to 5, or 255 for a record that is not placed.
 abbrev pub faceCount : ℕ
 faceCount = 6
 
@@ -60,7 +60,7 @@ rowIn store n = pairAt store n 8
 abbrev pub placeIn : List ℕ → ℕ → Place
 placeIn store n = record { face = faceIn store n; column = columnIn store n; row = rowIn store n }
 
--- "six zero bytes"
+-- S-53: the six zero bytes.
 unfoldable pub zeroByte : List ℕ → ℕ → ℕ → Bool
 zeroByte store n k = eqb (byteAt store n (10 + k)) 0
 
@@ -72,31 +72,31 @@ blockIn store n = take blockSize (drop (n * placeSize + placeHead) store)
 
 -- ---- placed or not
 
--- in words
+-- S-53: a record is placed when its face is 0 to 5.
 abbrev pub IsPlaced : List ℕ → ℕ → Type 0
 IsPlaced store n = faceIn store n < faceCount
 
--- "255 for 'not placed', and then column and row must be 0"
+-- S-53: a record that is not placed has face 255, column 0 and row 0.
 pub record IsUnplaced (store : List ℕ) (n : ℕ) : Type 0 where
   pub no-face : faceIn store n ≡ noFace
   pub no-column : columnIn store n ≡ 0
   pub no-row : rowIn store n ≡ 0
 
--- by computing
+-- S-53: the same by computing.
 abbrev pub placed : Place → Bool
 placed p = ltb (p .face) faceCount
 
 abbrev pub unplaced : Place → Bool
 unplaced p = both (eqb (p .face) noFace) (both (eqb (p .column) 0) (eqb (p .row) 0))
 
--- "17, bad face or an unplaced record with a position"
+-- S-54: 17 for a bad face, or for a record without a place that has a column or a row.
 abbrev pub placeChecks : Place → List (Bool × ℕ)
 placeChecks p = (not (either (placed p) (unplaced p)), badPlace) ∷ []
 
 unfoldable pub placeRefusal : Place → ℕ
 placeRefusal p = firstMet (placeChecks p)
 
--- "Per record the order is 1, 7, 17": of record n, whatever the store's size
+-- S-54: 1, 7, 17: of record n, whatever the store's size.
 abbrev pub recordChecks : List ℕ → ℕ → List (Bool × ℕ)
 recordChecks store n = (ltb 1 (formatIn store n), badFormat) ∷ (not (restZero store n), spareByte) ∷ placeChecks (placeIn store n)
 

@@ -1,4 +1,4 @@
--- What the record call and the block call answer about a store of records with a place: document 02's T-11. Assumes nothing.
+-- S-54: what the record call and the block call answer about a store of records with a place. Assumes nothing.
 use mathlib.Core.Path.{_≡_}
 use mathlib.Core.Bool.{Bool, not}
 use mathlib.Core.List.{List, [], _∷_}
@@ -11,7 +11,7 @@ use Rattle.probe_places.specs.declared.PlacedReading.{PlacedReading}
 use Rattle.probe_places.specs.declared.PlacedReading.the-variants.{Record, Refused}
 use Rattle.probe_places.specs.Places.{placeSize, placeLimit, placesIn, tileIn, formatIn, faceIn, columnIn, rowIn, blockIn, recordChecks}
 
--- "Limits 5 and 6 read 64,000 and 32 for new stores"; then 8, as for old ones; "Per record the order is 1, 7, 17"
+-- S-54: 5, 6, 8, 1, 7, 17: the first check that is met.
 abbrev pub placedChecks : List ℕ → ℕ → List (Bool × ℕ)
 placedChecks store n =
     (ltb placeLimit (length store), longStore) ∷

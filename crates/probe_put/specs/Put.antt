@@ -1,4 +1,4 @@
--- A record of a store of places gets a place: every other byte stays. Assumes nothing.
+-- S-91: a record of a store of places gets a place: every other byte stays. Assumes nothing.
 use mathlib.Core.Path.{_≡_, refl}
 use mathlib.Core.List.{List, [], _∷_}
 use Prim.Native.Nat.{ℕ, _+_, _*_, _/_, _%_}
@@ -16,17 +16,17 @@ use Rattle.probe_moves.specs.Moves.{sizeRefusal, MovedTo}
 
 -- ---- the bytes
 
--- "face (1), column (2), row (2)", low byte first
+-- S-53, S-91: face, column and row, each number low byte first.
 abbrev pub placeBytes : Place → List ℕ
 placeBytes p = p .face ∷ p .column % 256 ∷ p .column / 256 % 256 ∷ p .row % 256 ∷ p .row / 256 % 256 ∷ []
 
--- The store with the place of record n set: bytes 5 to 9 of the record.
+-- S-91: the store with the place of record n set: bytes 5 to 9 of the record.
 unfoldable pub putStore : List ℕ → ℕ → Place → List ℕ
 putStore store n p = sets store (n * placeSize + 5) (placeBytes p)
 
 -- ---- the checks, in the order 5, 6, 3, 8, 1, 7, 17
 
--- "5, 6 and 3 come before any record", as for the moves
+-- S-91: 5, 6 and 3 come before any record, as for the moves.
 abbrev pub putSizes : ℕ → ℕ → ℕ
 putSizes size room = sizeRefusal placeLimit placeSize placeSize size room
 

@@ -1,9 +1,9 @@
--- The number that bytes make, the lowest first. Assumes nothing.
+-- Serves every clause. The number that bytes make, the lowest first. Assumes nothing.
 use mathlib.Core.List.{List}
 use Prim.Native.Nat.{ℕ, zero, suc, _+_, _*_, _^_}
 use lib.ListN.{getD}
 
--- "low byte first": the number of `count` bytes from byte `at` on
+-- the number of `count` bytes from byte `at` on, the low byte first
 unfoldable pub lowFirst : List ℕ → ℕ → ℕ → ℕ
 lowFirst bytes at zero = 0
 lowFirst bytes at (suc count) = lowFirst bytes at count + getD bytes (at + count) 0 * 256 ^ count

@@ -1,4 +1,4 @@
--- What the program writes of a file. Assumes nothing.
+-- S-74: what the program writes of a file. Assumes nothing.
 use mathlib.Core.List.{List, [], _∷_}
 use Prim.Native.Nat.{ℕ, _/_, _%_}
 use Rattle.dds.specs.declared.DdsRead.{DdsRead}

@@ -1,4 +1,4 @@
--- The 45 bytes that are written for a block. Assumes nothing.
+-- S-74: the 45 bytes that are written for a block. Assumes nothing.
 use Prim.Native.Nat.{ℕ, _-_, _/_, _%_}
 use lib.Dec.{eqb, ltb}
 use lib.ListN.{getD}

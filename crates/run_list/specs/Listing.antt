@@ -1,4 +1,4 @@
--- What the listing program prints of a store: its lines, or that of a refused store. Assumes nothing.
+-- S-73, S-74: what the listing program prints of a store: its lines, or that of a refused store. Assumes nothing.
 use mathlib.Core.Bool.{Bool}
 use mathlib.Core.List.{List, _++_}
 use Prim.Native.Nat.{ℕ, zero, suc}
@@ -11,7 +11,7 @@ use Rattle.store_strict.specs.Strict.{strictRefusal}
 use Rattle.text.specs.Text.{refusalLine}
 use Rattle.text_list.specs.Lines.{linesOf, countsLine}
 
--- "A last line has the counts."
+-- S-73: the last line has the counts.
 unfoldable pub countsOf : List ℕ → List ℕ
 countsOf store = countsLine (countOf keptMark (marksOf store)) (countOf twinMark (marksOf store)) (countOf badMark (marksOf store))
 

@@ -1,4 +1,4 @@
--- A DDS file of at most 64 by 64 pixels as a Portable Float Map: document 02's T-10. Assumes nothing.
+-- S-65: a DDS file of at most 64 by 64 pixels as a Portable Float Map. Assumes nothing.
 use mathlib.Core.Path.{_≡_}
 use mathlib.Core.Bool.{Bool, not}
 use mathlib.Core.List.{List, [], _∷_}
@@ -12,14 +12,14 @@ use Rattle.dds.specs.Dds.{headerSize, headerOurs, sizeOurs, blockBytes, widthOf
 use Rattle.pfm.specs.declared.PfmWritten.{PfmWritten}
 use Rattle.pfm.specs.File.{sizeEven, fileLength, writtenAt, leftAt}
 
--- "a DDS file of at most 64 by 64 pixels"
+-- S-65: at most 64 by 64 pixels.
 abbrev pub smallLimit : ℕ
 smallLimit = 64
 
 unfoldable pub sizeSmall : ℕ → ℕ → Bool
 sizeSmall width height = both (leb width smallLimit) (leb height smallLimit)
 
--- "in the order 13, 14 (also for a larger picture, by its header), 15, 16"; and last the room that is lent
+-- S-65: 13, 14 (also for a larger picture, by its header), 15, 16; and last the room that is lent.
 abbrev pub exportChecks : List ℕ → ℕ → List (Bool × ℕ)
 exportChecks file room =
     (not (headerOurs file), foreignHeader) ∷

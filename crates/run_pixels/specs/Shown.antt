@@ -1,4 +1,4 @@
--- The 100 bytes that are written for a record. Assumes nothing.
+-- S-74: the 100 bytes that are written for a record. Assumes nothing.
 use mathlib.Core.List.{List, _∷_}
 use Prim.Native.Nat.{ℕ, _/_, _%_}
 use lib.Dec.{eqb}

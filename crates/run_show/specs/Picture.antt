@@ -1,4 +1,4 @@
--- A field record in 64 bytes, and the 97 bytes that are written for it. Assumes nothing.
+-- S-74: a field record in 64 bytes, and the 97 bytes that are written for it. Assumes nothing.
 use mathlib.Core.List.{List}
 use Prim.Native.Nat.{ℕ, _+_, _-_, _*_, _/_, _%_}
 use lib.Dec.{eqb}

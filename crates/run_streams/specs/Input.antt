@@ -1,4 +1,4 @@
--- What a program knows of the input that it read. Assumes nothing.
+-- S-74: what a program knows of the input that it read. Assumes nothing.
 use Prim.Native.Nat.{ℕ, _≤_}
 use Rattle.run_streams.specs.declared.Input.{Input}
 use Rattle.run_streams.specs.declared.Input.the-variants.{Whole, Failed}

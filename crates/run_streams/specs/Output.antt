@@ -1,4 +1,4 @@
--- What a program may write: by a definition of what it read. Assumes nothing.
+-- S-74: what a program may write: by a definition of what it read. Assumes nothing.
 use mathlib.Core.Path.{_≡_}
 use mathlib.Core.List.{List}
 use Prim.Native.Nat.{ℕ, _≤_, _<_}

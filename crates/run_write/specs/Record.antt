@@ -1,4 +1,4 @@
--- A field record in 44 bytes, and the 17 bytes that are written for it. Assumes nothing.
+-- S-74: a field record in 44 bytes, and the 17 bytes that are written for it. Assumes nothing.
 use mathlib.Core.List.{List}
 use Prim.Native.Nat.{ℕ, _+_, _-_, _*_}
 use lib.Dec.{eqb, ltb}

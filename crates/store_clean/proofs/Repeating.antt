@@ -140,6 +140,7 @@ first-stays store n h =
     (λ t. let l = goes-first store e t in
     omega (arith, l, no-earlier store n (firstOf store e) (omega arith) (repeats-through (first-repeated store n h) (first-repeated store e l))))
 
+-- S-45: a record that goes has an earlier one that stays.
 pub each-has-one : (store : List ℕ) (n : ℕ) → goes store n ≡ true → Goes store n
 each-has-one store n t =
     let h = goes-first store n t in
@@ -163,5 +164,6 @@ repeated-goes store n k h u v f z b =
       same-bytes = b;
     })
 
+-- S-45: no other record goes.
 pub only-those : (store : List ℕ) (n : ℕ) → Goes store n → goes store n ≡ true
 only-those store n g = goes-by store n (g .earlier) (g .before) (g .repeated)

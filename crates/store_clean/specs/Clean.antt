@@ -1,4 +1,4 @@
--- A clean-up of a store: which records go, the bytes of those that stay, and what the call answers. Assumes nothing.
+-- S-45: a clean-up of a store: which records go, the bytes of those that stay, and what the call answers. Assumes nothing.
 use mathlib.Core.Path.{_≡_}
 use mathlib.Core.Bool.{Bool, false, not}
 use mathlib.Core.List.{List, [], _++_}
@@ -33,11 +33,11 @@ repeats store n earlier =
     (both (isRecord store earlier)
     (both (eqb (formatOf store n) (formatOf store earlier)) (both (not (isReserved store n)) (same (blockOf store n) (blockOf store earlier)))))
 
--- the first record that record n repeats; n where there is none
+-- S-45, S-83: the first record that record n repeats; n where there is none
 unfoldable pub firstOf : List ℕ → ℕ → ℕ
 firstOf store n = firstBelow (repeats store n) n
 
--- record n is removed
+-- S-45: record n is removed
 unfoldable pub goes : List ℕ → ℕ → Bool
 goes store n = ltb (firstOf store n) n
 
@@ -79,7 +79,7 @@ goneCount store = going (goes store) (recordsIn store)
 
 -- ---- the call
 
--- "5, 6, 3", as the twin list's; 3 where the lent bytes have room for fewer records than the store has: how many stay is not known before
+-- S-45: 5, 6, 3, as the twin list's; 3 where the lent bytes have room for fewer records than the store has: how many stay is not known before.
 abbrev pub cleanRefusal : ℕ → ℕ → ℕ
 cleanRefusal size room = listRefusal size (room / recordSize)
 

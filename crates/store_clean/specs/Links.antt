@@ -1,5 +1,5 @@
--- By which records a record is looked for among the earlier ones: each has a bucket, and a link to the last one before it of the same
--- bucket. Assumes nothing.
+-- S-45: by which records a record is looked for among the earlier ones: each has a bucket, and a link to the last one before it of the same bucket.
+-- Assumes nothing.
 use mathlib.Core.Path.{_≡_}
 use mathlib.Core.Bool.{Bool, true, false}
 use mathlib.Core.List.{List}

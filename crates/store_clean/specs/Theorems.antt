@@ -1,4 +1,4 @@
--- What a clean-up promises beyond its statement. Assumes nothing.
+-- S-45, S-46, S-90: what a clean-up promises beyond its statement. Assumes nothing.
 use mathlib.Core.Path.{_≡_}
 use mathlib.Core.Bool.{true, false}
 use mathlib.Core.List.{List}
@@ -13,7 +13,7 @@ use Rattle.store_clean.specs.Clean.{goes, Goes, recordOf, staying, Clean
 
 -- ---- what goes
 
--- For each record that is removed an earlier one stays, of the same format and with the same sixteen block bytes; and only such records go.
+-- S-45: for each record that is removed an earlier one stays, of the same format and with the same sixteen block bytes; and only such records go.
 abbrev pub EachHasOne : Type 0
 EachHasOne = (store : List ℕ) (n : ℕ) → goes store n ≡ true → Goes store n
 
@@ -48,20 +48,20 @@ pub record AllThere (store : List ℕ) (r : Cleaned) (after : List ℕ) : Type 0
 abbrev pub StaysInOrder : Type 0
 StaysInOrder = (store lent after : List ℕ) (r : Cleaned) → CleanedInto store lent r after → r .answer ≡ done → AllThere store r after
 
--- a record of the result that has the format of record n of the store and its sixteen block bytes
+-- S-46: a record of the result that has the format of record n of the store and its sixteen block bytes
 pub record Held (store : List ℕ) (r : Cleaned) (after : List ℕ) (n : ℕ) : Type 0 where
   pub place : ℕ
   pub there : place < r .kept
   pub same-format : formatOf after place ≡ formatOf store n
   pub same-bytes : blockOf after place ≡ blockOf store n
 
--- No tile is lost: for every record of the store, removed or not, the result has one. (What is lost is a removed record's tile number.)
+-- S-46: no tile is lost: for every record of the store, removed or not, the result has one. (What is lost is a removed record's tile number.)
 abbrev pub NoneLost : Type 0
 NoneLost = (store lent after : List ℕ) (r : Cleaned) → CleanedInto store lent r after → r .answer ≡ done → (n : ℕ) → n < recordsIn store → Held store r after n
 
 -- ---- a cleaned store
 
--- Cleaned again it is itself: none of its records goes.
+-- S-90: cleaned again it is itself: none of its records goes.
 pub record Again (bytes : List ℕ) (r s : Cleaned) (after : List ℕ) : Type 0 where
   pub kept : s .kept ≡ r .kept
   pub removed : s .removed ≡ 0
@@ -71,8 +71,8 @@ abbrev pub CleanAgain : Type 0
 CleanAgain = (store lent after : List ℕ) (r : Cleaned) → CleanedInto store lent r after → r .answer ≡ done
     → (other later : List ℕ) (s : Cleaned) → CleanedInto (cleanedBytes r after) other s later → s .answer ≡ done → Again (cleanedBytes r after) r s later
 
--- Its twins only look alike: the twin list marks a record of it as a twin only where the record that it equals has other bytes, as has
--- every earlier record of its format that is not refused.
+-- S-90: its twins only look alike: the twin list marks a record of it as a twin only where the record that it equals has other bytes, as has every
+-- earlier record of its format that is not refused.
 pub record NoCopy (bytes : List ℕ) (n : ℕ) : Type 0 where
   pub before : firstTwin bytes n < n
   pub looks-alike : Alike bytes n (firstTwin bytes n)
@@ -85,7 +85,7 @@ TwinsLeft = (store lent after : List ℕ) (r : Cleaned) → CleanedInto store le
 
 -- ---- beside the twin list of the store itself
 
--- what goes is always marked a twin
+-- S-90: what goes is always marked a twin
 abbrev pub GoneAreTwins : Type 0
 GoneAreTwins = (store room marks : List ℕ) (list : TwinList) → Listed store room list marks → list .answer ≡ done
     → (n : ℕ) → n < recordsIn store → goes store n ≡ true → getD marks n 0 ≡ twinMark

@@ -20,11 +20,11 @@ signed x y = record { format = 1; x = x; other = 1; y = y }
 abbrev pub longer : Pair
 longer = unsigned B3 (B3 ++ z 1)
 
--- "B3 and B4 differ in mode and show one picture"
+-- S-5: B3 and B4 have two modes and show one picture
 abbrev pub two-modes : Pair
 two-modes = unsigned B3 B4
 
--- "Mode 14 is left out of it because its scaling merges neighbours": green's ends are 0 in x and 1 in y
+-- S-5: the scaling of mode 14 merges neighbours: green's ends are 0 in x and 1 in y
 abbrev pub in-mode-14 : Pair
 in-mode-14 = unsigned (0x0F ∷ z 3 ++ (0x78 ∷ z 10) ++ (0xF0 ∷ [])) (0x0F ∷ 0x80 ∷ z 2 ++ (0x78 ∷ z 10) ++ (0xF0 ∷ []))
 

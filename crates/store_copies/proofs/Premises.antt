@@ -26,7 +26,7 @@ pub record Premise : Type 1 where
   pub test : Pair → Bool
   pub shows : (p : Pair) → T (test p) → Met p
 
--- "two blocks that show one picture are one block", if what is claimed holds of them
+-- two blocks that show one picture are one block, if what is claimed holds of them
 abbrev pub Claim : (Pair → Type 0) → Type 0
 Claim Holds = (p : Pair) → Holds p → pixelsOf (isSigned (p .format)) (p .x) ≡ pixelsOf (isSigned (p .other)) (p .y) → p .x ≡ p .y
 

@@ -33,7 +33,7 @@ use Rattle.store_copies.proofs.Pairs.{longer, two-modes, in-mode-14, wi
 
 -- ---- the clauses, one by one
 
--- both unsigned or both signed, "never one of each format"
+-- S-5: both unsigned or both signed
 abbrev one-format : Premise
 one-format =
     record {
@@ -42,7 +42,7 @@ one-format =
       shows = λ p t. (leb→le _ _ (both-left (leb (p .format) 1) _ t), eqb→eq _ _ (both-right (leb (p .format) 1) _ t));
     }
 
--- "same partition"
+-- S-4: one partition
 abbrev one-partition : Premise
 one-partition =
     record {
@@ -66,17 +66,17 @@ each Met test shows =
 pub all-shown : (f : Fields) (n : ℕ) → T (below (λ r. reaches f r n) (regions (f .mode))) → AllReach f n
 all-shown f n t r h = reaches-sound f r n (below-at (λ r. reaches f r n) (regions (f .mode)) r t h)
 
--- "each region has a pixel at index 0"
+-- S-4: each region has a pixel at index 0
 abbrev index-0 : Premise
 index-0 = each (λ format f. AllReach f 0) (λ format f. below (λ r. reaches f r 0) (regions (f .mode))) (λ format f t. all-shown f 0 t)
 
--- "and one at 7", or 15
+-- S-4: each region has a pixel at the last index, 7 or 15
 abbrev last-index : Premise
 last-index =
     each (λ format f. AllReach f (lastIndex (f .mode))) (λ format f. below (λ r. reaches f r (lastIndex (f .mode))) (regions (f .mode)))
     (λ format f t. all-shown f (lastIndex (f .mode)) t)
 
--- "no endpoint, after the transform, is −2^(p−1)"
+-- S-5: no endpoint, after the transform, is −2^(p−1)
 abbrev no-least : Premise
 no-least =
     each (λ format f. NoLeast (isSigned format) f) (λ format f. not (both (isSigned format) (hasLeast f)))
@@ -90,7 +90,7 @@ differ-shown p t r h =
     ⊎-elim (λ a. inl (differs-sound (isSigned (p .format)) (fieldsOf (p .format) (p .x)) r a)) (λ a. inr (differs-sound (isSigned (p .other)) (fieldsOf (p .other) (p .y)) r a))
     (either-cases (differs (isSigned (p .format)) (fieldsOf (p .format) (p .x)) r) _ (below-at (differ? p) (regions (modeOf (p .x))) r t h))
 
--- "for each region at least one of the two blocks has a channel whose eight palette values differ"
+-- S-4: for each region one of the two blocks has a channel whose palette values differ
 abbrev regions-differ : Premise
 regions-differ =
     record {

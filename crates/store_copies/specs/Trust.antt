@@ -1,7 +1,6 @@
--- Which blocks a program may trust: those that meet the theorem's premises by themselves. Two trusted blocks of one format, mode and
--- partition meet the premises as a pair. A pair may meet them with one trusted block alone, since one channel in one of the two is
--- enough for a region; but where such a pair shows one picture, both are trusted (proofs/Trust), so asking trust of both loses no
--- copy. Assumes nothing.
+-- S-84: which blocks a program may trust: those that meet the theorem's premises by themselves. Two trusted blocks of one format, mode and partition
+-- meet the premises as a pair. A pair may meet them with one trusted block alone, since one channel in one of the two is enough for a region; but
+-- where such a pair shows one picture, both are trusted (proofs/Trust), so asking trust of both loses no copy. Assumes nothing.
 use mathlib.Core.Bool.{Bool, true, false, not}
 use mathlib.Core.List.{List}
 use Prim.Native.Nat.{ℕ, suc, _-_, _*_, _^_, _<_}
@@ -19,12 +18,12 @@ use Rattle.bc6h_spec.specs.Fields.{modeOf, fieldsOf, indexOf}
 use Rattle.bc6h_spec.specs.Picture.{isSigned, endpoint, palette}
 use Rattle.store_copies.specs.Wide.{regions, lastIndex, Differs, Suited}
 
--- in words
+-- S-84: a block that meets the premises by itself, in words.
 pub record Trusted (format : ℕ) (block : List ℕ) : Type 0 where
   pub suited : Suited format block
   pub differs : (r : ℕ) → r < regions (modeOf block) → Differs (isSigned format) (fieldsOf format block) r
 
--- as a test that computes, clause by clause
+-- S-84: the same as a test that computes, premise by premise.
 abbrev pub isBlock : List ℕ → Bool
 isBlock block = both (eqb (length block) blockSize) (every (λ byte. ltb byte 256) block)
 

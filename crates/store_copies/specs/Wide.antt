@@ -1,4 +1,4 @@
--- Demand 3 on more tiles, two-region modes and two signed blocks, in the words of document 02's T-07. Assumes nothing.
+-- S-4, S-5: demand 3 on two-region modes and on signed blocks, in words. Assumes nothing.
 use mathlib.Core.Path.{_≡_}
 use mathlib.Core.Logic.{_⊎_, _≢_}
 use mathlib.Core.Bool.{Bool, true}
@@ -28,7 +28,7 @@ pub record Reaches (f : Fields) (r n : ℕ) : Type 0 where
   pub in-region : regionOf (f .mode) (f .partition) pixel ≡ r
   pub at-index : indexOf f pixel ≡ n
 
--- region r has "a channel whose eight palette values differ", sixteen where there is one region
+-- S-4: region r has a channel whose palette values all differ: eight, or sixteen where there is one region.
 pub record Differs (signed : Bool) (f : Fields) (r : ℕ) : Type 0 where
   pub channel : ℕ
   pub is-channel : channel < 3
@@ -43,17 +43,17 @@ abbrev pub RegionsDiffer : ℕ → List ℕ → ℕ → List ℕ → Type 0
 RegionsDiffer format x other y =
     (r : ℕ) → r < regions (modeOf x) → Differs (isSigned format) (fieldsOf format x) r ⊎ Differs (isSigned other) (fieldsOf other y) r
 
--- no endpoint of a signed block is −2^(p−1)
+-- S-5: no endpoint of a signed block is −2^(p−1)
 abbrev pub NoLeast : Bool → Fields → Type 0
 NoLeast signed f = signed ≡ true → (e c : ℕ) → e < 2 * regions (f .mode) → c < 3
     → endpoint signed f e c ≢ negℤ (pos (2 ^ (precision (f .mode) - 1)))
 
--- what is asked of the fields of each block
+-- S-4, S-5: what is asked of the fields of each block
 pub record Spanning (signed : Bool) (f : Fields) : Type 0 where
-  -- "in each block each region has a pixel at index 0 and one at 7", at 15 where there is one region
+  -- each region has a pixel at index 0 and one at the last index, which is 7, or 15 where there is one region
   pub lowest : AllReach f 0
   pub highest : AllReach f (lastIndex (f .mode))
-  -- "no endpoint, after the transform, is −2^(p−1)"
+  -- no endpoint, after the transform, is −2^(p−1)
   pub not-least : NoLeast signed f
 
 -- what is asked of each block
@@ -61,18 +61,18 @@ pub record Suited (format : ℕ) (block : List ℕ) : Type 0 where
   pub known-format : format ≤ 1
   pub bytes : IsBlock block
   pub spanning : Spanning (isSigned format) (fieldsOf format block)
-  -- a mode, which a reserved block has not; "Mode 14 remains left out."
+  -- a mode, which a reserved block has not; mode 14 is left out
   pub mode-from : 1 ≤ modeOf block
   pub mode-to : modeOf block ≤ 13
 
 -- what is asked of the two
 pub record Matched (format : ℕ) (x : List ℕ) (other : ℕ) (y : List ℕ) : Type 0 where
-  -- "same mode and same partition"
+  -- one mode and one partition
   pub one-mode : modeOf x ≡ modeOf y
   pub one-partition : fieldsOf format x .partition ≡ fieldsOf other y .partition
-  -- "for each region at least one of the two blocks has a channel whose eight palette values differ"
+  -- for each region at least one of the two blocks has a channel whose palette values differ
   pub differ : RegionsDiffer format x other y
-  -- "never one of each format"
+  -- never one block of each format
   pub one-format : format ≡ other
 
 -- The theorem, whole: two such blocks that show the same 48 values are the same sixteen bytes.

@@ -1,4 +1,4 @@
--- When a tile that is marked a twin may go: its block is a copy, byte for byte, of the block that stays. Assumes nothing.
+-- S-84: when a tile that is marked a twin may go: its block is a copy, byte for byte, of the block that stays. Assumes nothing.
 use mathlib.Core.Path.{_≡_}
 use mathlib.Core.Logic.{_⊎_}
 use mathlib.Core.Bool.{Bool, true, false}
@@ -60,7 +60,7 @@ abbrev pub NoTileLost : Type 0
 NoTileLost = (store lent after : List ℕ) (r : TwinList) → Listed store lent r after → r .answer ≡ done → (goes : ℕ → Bool) → Chosen store after goes
     → (n : ℕ) → n < recordsIn store → goes n ≡ true → KeptTile store after goes n
 
--- a record that is marked kept, of the format of record n and with its 48 values
+-- S-46: a record that is marked kept, of the format of record n and with its 48 values
 pub record KeptPicture (store after : List ℕ) (n : ℕ) : Type 0 where
   pub place : ℕ
   pub before : place < n
@@ -75,6 +75,7 @@ NoPictureLost = (store lent after : List ℕ) (r : TwinList) → Listed store le
 
 -- ---- a test for it, which a program computes: each of the two blocks meets the premises by itself
 
+-- S-84: of two blocks of a format, and of two records of a store.
 unfoldable pub coveredPair : ℕ → List ℕ → List ℕ → Bool
 coveredPair format block earlier =
     both (trusted format block)
@@ -88,6 +89,7 @@ covered store n earlier =
 
 -- ---- what demand 3 alone covers: both unsigned, of one mode from 11 to 13
 
+-- S-84: two records that meet the premises of S-3.
 pub record ByDemand3 (store : List ℕ) (n earlier : ℕ) : Type 0 where
   pub unsigned : formatOf store n ≡ 0
   pub earlier-unsigned : formatOf store earlier ≡ 0

@@ -1,4 +1,4 @@
--- Which records of a store are faulty, and why: one definition for both forms of a record. Assumes nothing.
+-- S-89: which records of a store are faulty, and why: one definition for both forms of a record. Assumes nothing.
 use mathlib.Core.Path.{_≡_}
 use mathlib.Core.Bool.{Bool, not}
 use mathlib.Core.List.{List, [], _∷_}

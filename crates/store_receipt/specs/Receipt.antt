@@ -1,4 +1,4 @@
--- A clean-up with a receipt: the receipt, and what the call answers and writes. Assumes nothing.
+-- S-47: a clean-up with a receipt: the receipt, and what the call answers and writes. Assumes nothing.
 use mathlib.Core.Path.{_≡_}
 use mathlib.Core.List.{List, [], _∷_, _++_}
 use Prim.Native.Nat.{ℕ, zero, suc, _+_, _*_, _/_, _%_, _≤_, _<_}

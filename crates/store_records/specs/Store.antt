@@ -1,4 +1,4 @@
--- A store is a list of bytes, a record every 24 of them. What the record call and the block call answer. Assumes nothing.
+-- S-39 to S-41: a store is a list of bytes, a record every 24 of them. What the record call and the block call answer. Assumes nothing.
 use mathlib.Core.Path.{_≡_}
 use mathlib.Core.Bool.{Bool, not}
 use mathlib.Core.List.{List, [], _∷_}
@@ -13,14 +13,14 @@ use Rattle.raw_bytes.specs.Bytes.{lowFirst}
 use Rattle.store_records.specs.declared.RecordReading.{RecordReading}
 use Rattle.store_records.specs.declared.RecordReading.the-variants.{Record, Refused}
 
--- "Record: bytes 0 to 3 tile number, low byte first; 4 format; 5 to 7 zero; 8 to 23 block. No header."
+-- S-39: a record has 24 bytes: tile number (0 to 3, low byte first), format (4), zeros (5 to 7), block (8 to 23). A store has no header.
 abbrev pub recordSize : ℕ
 recordSize = 24
 
 abbrev pub headSize : ℕ
 headSize = 8
 
--- "store longer than 48,000 bytes (2,000 records)"
+-- S-39: a store has at most 2,000 records.
 abbrev pub storeLimit : ℕ
 storeLimit = 48000
 
@@ -44,15 +44,15 @@ formatOf store n = byteOf store n 4
 abbrev pub spareZero : List ℕ → ℕ → Bool
 spareZero store n = both (eqb (byteOf store n 5) 0) (both (eqb (byteOf store n 6) 0) (eqb (byteOf store n 7) 0))
 
--- "bytes 24n+8 to 24n+23 for record n"
+-- S-41: the block of record n is bytes 24 n + 8 to 24 n + 23.
 unfoldable pub blockOf : List ℕ → ℕ → List ℕ
 blockOf store n = take blockSize (drop (n * recordSize + headSize) store)
 
--- "The tile is read from the record's first four bytes, refused or not." No such record: 0.
+-- S-82: the tile number of record n, refused or not; 0 where there is no such record.
 unfoldable pub tileAt : List ℕ → ℕ → ℕ
 tileAt store n = pick (ltb n (recordsIn store)) (tileOf store n) 0
 
--- "record by number: 5, 6, 8, 1, 7", "first met wins"
+-- S-40: 5, 6, 8, 1, 7: the first check that is met.
 abbrev pub recordChecks : List ℕ → ℕ → List (Bool × ℕ)
 recordChecks store n =
     (ltb storeLimit (length store), longStore) ∷
@@ -81,12 +81,12 @@ abbrev pub valuesAt : ℕ → List ℕ → ℕ → List ℕ
 valuesAt zero store n = tileOf store n ∷ formatOf store n ∷ []
 valuesAt (suc number) store n = []
 
--- "It gives a record's tile number and format, or the refusal's number alone."
+-- S-40: tile number and format, or the number of the refusal alone.
 pub record Read (store : List ℕ) (n : ℕ) (r : RecordReading) : Type 0 where
   pub answers : numberOf r ≡ recordRefusal store n
   pub gives : valuesOf r ≡ valuesAt (recordRefusal store n) store n
 
--- "It hands back the record's sixteen block bytes as a part of the store .. The part is empty exactly when the record call refuses."
+-- S-41: the record's sixteen block bytes as a part of the store, empty exactly when `record_at` refuses.
 abbrev pub partAt : ℕ → List ℕ → ℕ → List ℕ
 partAt zero store n = blockOf store n
 partAt (suc number) store n = []

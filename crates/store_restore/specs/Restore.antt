@@ -1,4 +1,4 @@
--- A store from its cleaned store and the receipt: which receipts fit, the bytes, and what the call answers. Assumes nothing.
+-- S-48: a store from its cleaned store and the receipt: which receipts fit, the bytes, and what the call answers. Assumes nothing.
 use mathlib.Core.Path.{_≡_}
 use mathlib.Core.Bool.{Bool, not}
 use mathlib.Core.List.{List, [], _∷_, _++_}

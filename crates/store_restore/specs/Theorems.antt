@@ -1,4 +1,4 @@
--- What a clean-up with a receipt and its undoing promise together. Assumes nothing.
+-- S-49, S-50: what a clean-up with a receipt and its undoing promise together. Assumes nothing.
 use mathlib.Core.Path.{_≡_}
 use mathlib.Core.List.{List, _++_}
 use mathlib.Core.Logic.{_⊎_}
@@ -19,12 +19,13 @@ receiptBytes r written = take (r .removed * entrySize) written
 
 -- ---- undone
 
+-- S-49: the call is done and gives the store back, byte for byte.
 pub record SameStore (store room : List ℕ) (s : Restored) (later : List ℕ) : Type 0 where
   pub answer : s .answer ≡ done
   pub records : s .records ≡ recordsIn store
   pub same-bytes : later ≡ store ++ drop (length store) room
 
--- For every store that the clean-up takes: `restore_store`, given exactly what the clean-up wrote and room for the store, is done and gives the
+-- S-49: for every store that the clean-up takes: `restore_store`, given exactly what the clean-up wrote and room for the store, is done and gives the
 -- store back, byte for byte.
 abbrev pub Undone : Type 0
 Undone = (store lent paper after written : List ℕ) (r : Cleaned) → ReceiptInto store lent paper r after written → r .answer ≡ done
@@ -39,7 +40,7 @@ Taken = (store lent paper after written : List ℕ) (r : Cleaned) → ReceiptInt
 
 -- ---- no tile number is lost
 
--- the tile number of entry e
+-- S-50: the tile number of entry e
 abbrev pub entryTile : List ℕ → ℕ → ℕ
 entryTile receipt e = lowFirst receipt (e * entrySize + 4) 4
 
@@ -55,7 +56,7 @@ pub record InReceipt (tile : ℕ) (r : Cleaned) (written : List ℕ) : Type 0 wh
   pub there : place < r .removed
   pub same-tile : entryTile (receiptBytes r written) place ≡ tile
 
--- The tile number of every record is in the cleaned store or in the receipt.
+-- S-50: the tile number of every record is in the cleaned store or in the receipt.
 abbrev pub NoTileLost : Type 0
 NoTileLost = (store lent paper after written : List ℕ) (r : Cleaned) → ReceiptInto store lent paper r after written → r .answer ≡ done
     → (n : ℕ) → n < recordsIn store → InCleaned (tileOf store n) r after ⊎ InReceipt (tileOf store n) r written

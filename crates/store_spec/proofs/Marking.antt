@@ -223,7 +223,7 @@ module _ (store : List ℕ) (n : ℕ) where
       (λ a. cases (ltb (firstTwin store n) n) (λ t. ltb-true _ _ t) (λ f. absurd (omega (arith, rw (a, f) at e))))
       (λ f. absurd (omega (arith, rw f at e)))
 
-  -- `markAt` is the mark that the words ask, and the only one
+  -- S-43: the computed mark is one that the words admit.
   pub mark-is : Marked store n (markAt store n)
   mark-is = record {
     bad = λ r. sym (mark-bad r);
@@ -234,6 +234,7 @@ module _ (store : List ℕ) (n : ℕ) where
       no-less : (firstTwin store n < n → ⊥) → n ≤ firstTwin store n
       no-less r = cases (ltb (firstTwin store n) n) (λ t. absurd (r (ltb-true _ _ t))) (λ f. ltb-false _ _ f)
 
+  -- S-43: the words admit no other mark.
   pub mark-one : (mark : ℕ) → Marked store n mark → mark ≡ markAt store n
   mark-one mark m =
       cases (isRecord store n)

@@ -1,4 +1,4 @@
--- What the scratch space of a twin list holds: of each record a fingerprint, and behind all of those the pictures. Assumes nothing.
+-- S-85: what the scratch space of a twin list holds: of each record a fingerprint, and behind all of those the pictures. Assumes nothing.
 use mathlib.Core.Path.{_≡_}
 use mathlib.Core.List.{List, _++_}
 use Prim.Native.Nat.{ℕ, zero, suc, _+_, _*_, _/_, _%_, _<_}
@@ -67,7 +67,7 @@ pictureIn scratch count n = take valueCount (drop (count + valueCount * n) scrat
 pub record Pictured (store scratch : List ℕ) : Type 0 where
   pub at : (k : ℕ) → k < recordsIn store → Unrefused store k → pictureIn scratch (recordsIn store) k ≡ pictureAt store k
 
--- .. and its fingerprint
+-- each such record also has its fingerprint
 pub record Kept (store scratch : List ℕ) : Type 0 where
   pub pictured : Pictured store scratch
   pub print : (k : ℕ) → k < recordsIn store → Unrefused store k → getD scratch k 0 ≡ printOf (kindAt store k) (pictureAt store k)

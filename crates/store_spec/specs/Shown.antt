@@ -1,4 +1,4 @@
--- What a record of a store shows, and whether it holds a picture. Assumes nothing.
+-- S-42: what a record of a store shows, and whether it holds a picture. Assumes nothing.
 use mathlib.Core.Path.{_≡_}
 use mathlib.Core.Bool.{Bool}
 use mathlib.Core.List.{List}
@@ -14,11 +14,11 @@ use Rattle.store_records.specs.Store.{formatOf, blockOf, recordRefusal}
 unfoldable pub pictureAt : List ℕ → ℕ → List ℕ
 pictureAt store n = pixelsOf (isSigned (formatOf store n)) (blockOf store n)
 
--- "a reserved block shows zeros but holds no picture"
+-- S-8: a reserved block shows zeros but holds no picture.
 abbrev pub Reserved : List ℕ → ℕ → Type 0
 Reserved store n = modeOf (blockOf store n) ≡ 0
 
--- record n is not refused; it is reserved
+-- S-42: record n is not refused; it is reserved
 abbrev pub isRecord : List ℕ → ℕ → Bool
 isRecord store n = eqb (recordRefusal store n) done
 

@@ -1,4 +1,4 @@
--- What a twin is, in words and by computing; the marks and counts of a store. Assumes nothing.
+-- S-42, S-43: what a twin is, in words and by computing; the marks and counts of a store. Assumes nothing.
 use mathlib.Core.Path.{_≡_}
 use mathlib.Core.Bool.{Bool, not}
 use mathlib.Core.List.{List, [], _∷_, _++_}
@@ -18,7 +18,7 @@ use Rattle.store_spec.specs.declared.TwinList.{TwinList}
 
 -- ---- in words
 
--- two unrefused records "of the same format, with the same 48 values, and neither of the two reserved"
+-- S-42: two unrefused records of one format, with the same 48 values, neither of them reserved.
 pub record Alike (store : List ℕ) (n earlier : ℕ) : Type 0 where
   pub unrefused : Unrefused store n
   pub earlier-unrefused : Unrefused store earlier
@@ -27,12 +27,13 @@ pub record Alike (store : List ℕ) (n earlier : ℕ) : Type 0 where
   pub earlier-unreserved : Reserved store earlier → ⊥
   pub same-values : pictureAt store earlier ≡ pictureAt store n
 
--- "A twin is now an earlier unrefused record of the same format, with the same 48 values, and neither of the two reserved." (02, T-04)
+-- S-42: a twin is a record with an earlier one that is alike.
 pub record Twin (store : List ℕ) (n : ℕ) : Type 0 where
   pub earlier : ℕ
   pub before : earlier < n
   pub shows : Alike store n earlier
 
+-- S-43: the marks of kept records, twins and refused ones.
 abbrev pub keptMark : ℕ
 keptMark = 0
 
@@ -45,7 +46,7 @@ badMark = 2
 abbrev pub marks : List ℕ
 marks = keptMark ∷ twinMark ∷ badMark ∷ []
 
--- "Marks: 2 for a record that the record call refuses (1 or 7); 1 for a twin; 0 for a kept one."
+-- S-43: mark 2 for a refused record, 1 for a twin, 0 for any other.
 pub record Marked (store : List ℕ) (n mark : ℕ) : Type 0 where
   pub bad : (Unrefused store n → ⊥) → mark ≡ badMark
   pub twin : Twin store n → mark ≡ twinMark
@@ -53,21 +54,22 @@ pub record Marked (store : List ℕ) (n mark : ℕ) : Type 0 where
 
 -- ---- by computing: proofs/ shows that `markAt` is the one number that `Marked` admits
 
--- record n holds a picture of the format: it is not refused, of that format and not reserved
+-- S-42: record n holds a picture of the format: it is not refused, of that format and not reserved
 unfoldable pub holding : List ℕ → ℕ → ℕ → Bool
 holding store n format = both (isRecord store n) (both (eqb (formatOf store n) format) (not (isReserved store n)))
 
--- .. and decodes to the values
+-- record n holds such a picture and decodes to the values
 unfoldable pub showing : List ℕ → ℕ → ℕ → List ℕ → Bool
 showing store n format values = both (holding store n format) (same (pictureAt store n) values)
 
 unfoldable pub alike : List ℕ → ℕ → ℕ → Bool
 alike store n earlier = both (holding store n (formatOf store n)) (showing store earlier (formatOf store n) (pictureAt store n))
 
--- "The search stops at the first such record": its number, or n where there is none
+-- S-42, S-83: the first record that record n is a twin of; n where there is none.
 unfoldable pub firstTwin : List ℕ → ℕ → ℕ
 firstTwin store n = firstBelow (alike store n) n
 
+-- S-43: the mark of record n, and the marks of a store.
 unfoldable pub markAt : List ℕ → ℕ → ℕ
 markAt store n = pick (isRecord store n) (pick (ltb (firstTwin store n) n) twinMark keptMark) badMark
 
@@ -80,7 +82,7 @@ pub record Marks (store marks : List ℕ) : Type 0 where
 
 -- ---- the call
 
--- "twin list: 5, 6, 3", "first met wins"; of a store's size and of the room for marks
+-- S-43: 5, 6, 3: the first check that is met, from the store's size and the room for marks.
 abbrev pub listChecks : ℕ → ℕ → List (Bool × ℕ)
 listChecks size room =
     (ltb storeLimit size, longStore) ∷
@@ -93,7 +95,7 @@ listRefusal size room = firstMet (listChecks size room)
 abbrev pub refusal : ℕ → TwinList
 refusal number = record { answer = number; kept = 0; twins = 0; bad = 0 }
 
--- "Three counts come back, each the number of marks of its kind"
+-- S-43: three counts, each the number of its marks.
 abbrev pub answerAt : ℕ → List ℕ → TwinList
 answerAt zero store =
     record {
@@ -104,11 +106,12 @@ answerAt zero store =
     }
 answerAt (suc number) store = refusal (suc number)
 
--- "A refusal changes no lent byte or value. Done writes exactly .. the first marks, one a record; the rest stays."
+-- S-30: done writes exactly one mark a record; a refusal writes nothing.
 abbrev pub marksAt : ℕ → List ℕ → List ℕ → List ℕ
 marksAt zero store lent = marksOf store ++ drop (recordsIn store) lent
 marksAt (suc number) store lent = lent
 
+-- S-43: the statement of `twin_list`: its answer r, and the lent marks `after`.
 pub record Listed (store lent : List ℕ) (r : TwinList) (after : List ℕ) : Type 0 where
   pub answers : r ≡ answerAt (listRefusal (length store) (length lent)) store
   pub holds : after ≡ marksAt (listRefusal (length store) (length lent)) store lent
@@ -120,11 +123,11 @@ abbrev pub firstRefusal : ℕ → ℕ → ℕ
 firstRefusal zero next = next
 firstRefusal (suc number) next = suc number
 
--- "5, 6, 3", where 3 is also met by scratch space for fewer records than the store has
+-- S-85: 5, 6, 3, where 3 is also met by scratch space for fewer records than the store has.
 unfoldable pub scratchRefusal : ℕ → ℕ → ℕ → ℕ
 scratchRefusal size room space = firstRefusal (listRefusal size room) (listRefusal size (space / entrySize))
 
--- a refusal changes no lent value either
+-- S-85: a refusal changes no lent value either
 abbrev pub scratchAt : ℕ → List ℕ → List ℕ → List ℕ
 scratchAt zero store lent = scratchOf store lent
 scratchAt (suc number) store lent = lent

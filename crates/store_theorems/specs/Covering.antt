@@ -1,4 +1,4 @@
--- A clean-up beside the twin list of the same store. Assumes nothing.
+-- S-90: a clean-up beside the twin list of the same store. Assumes nothing.
 use mathlib.Core.Path.{_≡_}
 use mathlib.Core.Bool.{Bool}
 use mathlib.Core.List.{List}

@@ -1,4 +1,4 @@
--- A store to which records are appended: what was said of the earlier records stays so. Assumes nothing.
+-- S-51: a store to which records are appended: what was said of the earlier records stays so. Assumes nothing.
 use mathlib.Core.Path.{_≡_}
 use mathlib.Core.List.{List, _++_}
 use Prim.Native.Nat.{ℕ, _*_, _%_, _≤_, _<_}
@@ -44,7 +44,7 @@ CleanedGrows = (store more : List ℕ) (lent after : List ℕ) (r : Cleaned) →
     → (wide later : List ℕ) (s : Cleaned) → CleanedInto (store ++ more) wide s later → s .answer ≡ done
     → take (r .kept * recordSize) (cleanedBytes s later) ≡ cleanedBytes r after
 
--- Cleaning every night is cleaning once: appended to a cleaned store and cleaned again, the records give the same bytes as the whole store
+-- S-90: Cleaning every night is cleaning once: appended to a cleaned store and cleaned again, the records give the same bytes as the whole store
 -- cleaned at the end.
 abbrev pub Nightly : Type 0
 Nightly = (store more : List ℕ) (lent after : List ℕ) (r : Cleaned) → CleanedInto store lent r after → r .answer ≡ done

@@ -1,4 +1,4 @@
--- Looking alike is an equivalence, and the order of a store's records does not decide which pictures are kept. Assumes nothing.
+-- S-52: looking alike is an equivalence, and the order of a store's records does not decide which pictures are kept. Assumes nothing.
 use mathlib.Core.Path.{_≡_}
 use mathlib.Core.List.{List}
 use Prim.Native.Nat.{ℕ, _<_}

@@ -1,4 +1,4 @@
--- What a clean-up keeps of the pictures of a store. Assumes nothing.
+-- S-46: what a clean-up keeps of the pictures of a store. Assumes nothing.
 use mathlib.Core.Path.{_≡_}
 use mathlib.Core.Logic.{_⊎_}
 use mathlib.Core.List.{List}
@@ -24,7 +24,7 @@ abbrev pub EveryPictureShown : Type 0
 EveryPictureShown = (store lent after : List ℕ) (r : Cleaned) → CleanedInto store lent r after → r .answer ≡ done
     → (n : ℕ) → Unrefused store n → ShownBy store n (cleanedBytes r after)
 
--- A record that is refused, or whose mode is reserved, stays byte for byte.
+-- S-45: a record that is refused, or whose mode is reserved, stays byte for byte.
 abbrev pub FaultyStay : Type 0
 FaultyStay = (store lent after : List ℕ) (r : Cleaned) → CleanedInto store lent r after → r .answer ≡ done
     → (n : ℕ) → n < recordsIn store → (Unrefused store n → ⊥) ⊎ Reserved store n → Written store r after n

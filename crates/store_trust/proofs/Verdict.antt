@@ -127,7 +127,7 @@ module _ (format : ℕ) (block : List ℕ) where
   refused : (Trusted format block → ⊥) → false ≡ trusted format block
   refused h = sym (is-false (trusted format block) (λ t. h (sound format block t)))
 
-  -- "false for any other format or length"
+  -- S-84: false for any other format or length
   pub other-format : 1 < format → false ≡ trusted format block
   other-format h = refused (λ t. omega (arith, t .suited .known-format))
 

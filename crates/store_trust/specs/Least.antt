@@ -1,4 +1,4 @@
--- A colour with a channel at −2^(p−1), as the code looks for it. Assumes nothing.
+-- S-84: a colour with a channel at −2^(p−1), as the code looks for it. Assumes nothing.
 use mathlib.Core.Bool.{Bool}
 use Prim.Native.Nat.{ℕ, _*_}
 use Rattle.laws.specs.Pick.{either}

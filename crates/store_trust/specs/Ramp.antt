@@ -1,4 +1,4 @@
--- Palettes as the code has them: the picture of a block whose indices run through them. Assumes nothing.
+-- S-84: palettes as the code has them: the picture of a block whose indices run through them. Assumes nothing.
 use mathlib.Core.Bool.{Bool}
 use mathlib.Core.List.{List, [], _∷_, _++_}
 use Prim.Native.Nat.{ℕ, _+_, _-_, _*_, _%_}

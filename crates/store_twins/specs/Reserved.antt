@@ -1,4 +1,4 @@
--- What 02's T-04 promises of a reserved record: it stands alone. Assumes nothing.
+-- S-42: a reserved record has no twin and is none. Assumes nothing.
 use mathlib.Core.Path.{_≡_}
 use mathlib.Core.List.{List}
 use Prim.Native.Nat.{ℕ, _<_}
@@ -9,7 +9,7 @@ use Rattle.store_spec.specs.Shown.{Reserved}
 use Rattle.store_spec.specs.declared.TwinList.{TwinList}
 use Rattle.store_spec.specs.Twins.{Twin, keptMark, twinMark, Listed}
 
--- "An unrefused reserved record is always kept"; refused or not it is never marked a twin, and no record is a twin of it.
+-- S-42, S-43: an unrefused reserved record is kept. Refused or not, it is never marked a twin, and no record is a twin of it.
 pub record Alone (store after : List ℕ) (n : ℕ) : Type 0 where
   pub kept : Unrefused store n → getD after n 0 ≡ keptMark
   pub no-twin : getD after n 0 ≡ twinMark → ⊥

@@ -1,4 +1,4 @@
--- Text as a list of bytes: a number in decimal and in hex, and a word that is stored in a lent text. Assumes nothing.
+-- S-73, S-74: text as a list of bytes: a number in decimal and in hex, and a word that is stored in a lent text. Assumes nothing.
 use mathlib.Core.Path.{_≡_}
 use mathlib.Core.List.{List, [], _∷_, _++_}
 use Prim.Native.Nat.{ℕ, zero, suc, _+_, _/_, _%_}
@@ -18,7 +18,7 @@ unfoldable pub decimalIn : ℕ → ℕ → List ℕ
 decimalIn zero n = []
 decimalIn (suc most) n = pick (ltb n 10) ((48 + n) ∷ []) (decimalIn most (n / 10) ++ ((48 + n % 10) ∷ []))
 
--- "Numbers are decimal": a number below 10^20, as all of 64 bits are
+-- S-73: numbers are decimal: one below 10^20, as all of 64 bits are.
 unfoldable pub decimal : ℕ → List ℕ
 decimal n = decimalIn 20 n
 
@@ -26,7 +26,7 @@ decimal n = decimalIn 20 n
 unfoldable pub hexDigit : ℕ → ℕ
 hexDigit digit = pick (ltb digit 10) (48 + digit) (55 + digit)
 
--- "four upper-case hex digits"
+-- S-73: four upper-case hex digits.
 unfoldable pub hex : ℕ → List ℕ
 hex value = hexDigit (value / 4096 % 16) ∷ hexDigit (value / 256 % 16) ∷ hexDigit (value / 16 % 16) ∷ hexDigit (value % 16) ∷ []
 
@@ -38,11 +38,11 @@ field n = decimal n ++ blank
 abbrev pub storeRefused : List ℕ
 storeRefused = 115 ∷ 116 ∷ 111 ∷ 114 ∷ 101 ∷ 32 ∷ 114 ∷ 101 ∷ 102 ∷ 117 ∷ 115 ∷ 101 ∷ 100 ∷ 32 ∷ []
 
--- "For a refused store it prints only `store refused` and the number."
+-- S-73: of a refused store, these words and the number only.
 unfoldable pub refusalLine : ℕ → List ℕ
 refusalLine number = storeRefused ++ decimal number ++ lineFeed
 
--- The word is stored from `at` on, `next` is the place behind it, and all else is as it was.
+-- S-74: the word is stored from `at` on, `next` is the place behind it, and all else is as it was.
 pub record Written (entry : List ℕ) (at : ℕ) (word : List ℕ) (next : ℕ) (exit : List ℕ) : Type 0 where
   pub next-is : next ≡ at + length word
   pub exit-is : exit ≡ sets entry at word

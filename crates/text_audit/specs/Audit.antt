@@ -1,5 +1,5 @@
--- What the audit program prints of a store: a line that names the columns, a line a twin with its verdict, and a last line with the counts.
--- Assumes nothing.
+-- S-74, S-88: what the audit program prints of a store: a line that names the columns, a line a twin with its verdict, and a last line with the
+-- counts. Assumes nothing.
 use mathlib.Core.Path.{_≡_}
 use mathlib.Core.Bool.{Bool, not}
 use mathlib.Core.List.{List, [], _∷_, _++_}

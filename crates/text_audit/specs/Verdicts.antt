@@ -1,4 +1,4 @@
--- What the audit's verdicts promise beside the clean-up. Assumes nothing.
+-- S-88: what the audit's verdicts promise beside the clean-up. Assumes nothing.
 use mathlib.Core.Path.{_≡_}
 use mathlib.Core.Bool.{Bool, true, false}
 use mathlib.Core.List.{List}

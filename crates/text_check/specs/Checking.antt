@@ -1,4 +1,4 @@
--- What the program checking prints of a store: a line a faulty record, lowest first, and a last line with the counts; of a store that is
+-- S-74, S-89: what the program checking prints of a store: a line a faulty record, lowest first, and a last line with the counts; of a store that is
 -- refused whole the line of the refusal is all. Assumes nothing.
 use mathlib.Core.List.{List, [], _∷_, _++_}
 use Prim.Native.Nat.{ℕ, zero, suc}

@@ -1,5 +1,5 @@
--- What the clean-up program writes of a store: a line for each record that is removed, a last line with the counts, and behind it the
--- cleaned store; or the line of a refused store alone. Assumes nothing.
+-- S-74: what the clean-up program writes of a store: a line for each record that is removed, a last line with the counts, and behind it the cleaned
+-- store; or the line of a refused store alone. Assumes nothing.
 use mathlib.Core.Path.{_≡_}
 use mathlib.Core.List.{List, [], _∷_, _++_}
 use Prim.Native.Nat.{ℕ, zero, suc, _+_}

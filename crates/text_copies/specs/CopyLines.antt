@@ -1,4 +1,4 @@
--- What the clean-up prints of a store beside what the audit prints: its removal lines are the audit's `copy` lines, cut after their fourth
+-- S-88: what the clean-up prints of a store beside what the audit prints: its removal lines are the audit's `copy` lines, cut after their fourth
 -- word. Assumes nothing.
 use mathlib.Core.Path.{_≡_}
 use mathlib.Core.Bool.{Bool}

@@ -1,5 +1,5 @@
--- What the program infinities prints of a store: a line a record in which a value is minus infinity, and a last line with the counts.
--- Assumes nothing.
+-- S-74: what the program infinities prints of a store: a line a record in which a value is minus infinity, and a last line with the counts. Assumes
+-- nothing.
 use mathlib.Core.Path.{_≡_}
 use mathlib.Core.Bool.{Bool}
 use mathlib.Core.List.{List, [], _∷_, _++_}
@@ -18,11 +18,11 @@ use Rattle.store_spec.specs.Twins.{listRefusal}
 use Rattle.text.specs.Text.{lineFeed, decimal, field, refusalLine}
 use Rattle.text_infinities.specs.declared.Finding.{Finding}
 
--- "values .. equal 0xFC00": whether value j does
+-- S-26: whether value j is 0xFC00.
 unfoldable pub infiniteAt : List ℕ → ℕ → Bool
 infiniteAt values j = eqb (getD values j 0) minusInfinity
 
--- how many values of a record are minus infinity, and the first of them; a refused record has no values
+-- S-74: how many values of a record are minus infinity, and the first of them; a refused record has no values
 abbrev pub findingAt : ℕ → List ℕ → ℕ → Finding
 findingAt zero store n = record {
   infinite = infinitiesOf (isSigned (formatOf store n)) (blockOf store n);

@@ -1,4 +1,4 @@
--- The lines of a store's listing: document 01's format, sentence by sentence. Assumes nothing.
+-- S-73: the lines of a store's listing. Assumes nothing.
 use mathlib.Core.List.{List, [], _∷_, _++_}
 use Prim.Native.Nat.{ℕ, zero, suc}
 use lib.ListN.{getD}
@@ -9,17 +9,17 @@ use Rattle.store_spec.specs.Shown.{pictureAt}
 use Rattle.store_spec.specs.Twins.{markAt}
 use Rattle.text.specs.Text.{blank, lineFeed, decimal, hex, field}
 
--- a triple "in four upper-case hex digits each", and the end of the line
+-- S-73: a triple in hex digits, and the end of the line.
 unfoldable pub tripleOf : ℕ → ℕ → ℕ → List ℕ
 tripleOf red green blue = hex red ++ blank ++ hex green ++ blank ++ hex blue ++ lineFeed
 
--- "mode, mark, and pixel 15's triple"
+-- S-73: mode, mark and pixel 15's triple.
 unfoldable pub shownRest : List ℕ → ℕ → List ℕ
 shownRest store n =
     field (modeOf (blockOf store n)) ++ field (markAt store n)
     ++ tripleOf (getD (pictureAt store n) 45 0) (getD (pictureAt store n) 46 0) (getD (pictureAt store n) 47 0)
 
--- "A refused record has `-` for mode and for each value of the triple."
+-- S-73: a refused record has `-` for its mode and for each value of the triple.
 unfoldable pub refusedRest : List ℕ → ℕ → List ℕ
 refusedRest store n = 45 ∷ 32 ∷ [] ++ field (markAt store n) ++ (45 ∷ 32 ∷ 45 ∷ 32 ∷ 45 ∷ 10 ∷ [])
 
@@ -27,8 +27,7 @@ abbrev pub restAt : ℕ → List ℕ → ℕ → List ℕ
 restAt zero store n = shownRest store n
 restAt (suc number) store n = refusedRest store n
 
--- "for each record: record number, tile, answer, mode, mark, and pixel 15's triple .. Numbers are decimal but for the triple. The tile is
--- read from the record's first four bytes, refused or not."
+-- S-73: record number, tile, answer, mode, mark and triple. The tile is read from the first four bytes, refused or not.
 unfoldable pub lineOf : List ℕ → ℕ → List ℕ
 lineOf store n = field n ++ field (tileAt store n) ++ field (recordRefusal store n) ++ restAt (recordRefusal store n) store n
 

@@ -1,5 +1,5 @@
--- What the programs run_place and run_unplace write of the store that they read: the answer, a byte, and then the moved store; of a
--- refused store the answer is all. Assumes nothing.
+-- S-74: what the programs run_place and run_unplace write of the store that they read: the answer, a byte, and then the moved store; of a refused
+-- store the answer is all. Assumes nothing.
 use mathlib.Core.List.{List, [], _∷_}
 use Prim.Native.Nat.{ℕ, zero, suc}
 use Rattle.bcn_spec.specs.Answers.{done}

@@ -81,7 +81,7 @@ module _ {store : List ℕ} {edge face : ℕ} {lent after : List ℕ} {r : Fault
     unfolding pixel
     pixel-few = omega arith
 
-    -- "gives the triple of the right block"
+    -- S-57: the triple of the right block
     value-here : (c : ℕ) → c < 3 → getD after (3 * k + c) 0 ≡ getD (tripleOf (shownIn store n) pixel) c 0
     unfolding tripleFor tripleAt n pixel x y
     value-here c hc =

@@ -1,4 +1,4 @@
--- The values of a square picture, row by row from the top, as a Portable Float Map. Assumes nothing.
+-- S-64, S-74: the values of a square picture, row by row from the top, as a Portable Float Map. Assumes nothing.
 use mathlib.Core.List.{List, _++_}
 use Prim.Native.Nat.{ℕ, _+_, _-_, _*_, _/_, _%_, _<_}
 use Rattle.laws.specs.Made.{made, join}
@@ -6,7 +6,7 @@ use Rattle.pfm_floats.specs.Bytes.{Numbers}
 use Rattle.pfm_header.specs.Header.{headerOf}
 use Rattle.pfm.specs.File.{colourAt, pixelBytes}
 
--- "rows from the bottom up": pixel j of the file is pixel j mod side of row side − 1 − j div side
+-- S-64: rows come from the bottom up: pixel j of the file is pixel j mod side of row side − 1 − j div side
 unfoldable pub pixelUp : ℕ → ℕ → ℕ
 pixelUp side j = (side - 1 - j / side) * side + j % side
 

@@ -1,5 +1,5 @@
--- What the program run_probe writes of its question: whether a store is a probe of an edge, as a line; or a face of it as a Portable Float
--- Map. Assumes nothing.
+-- S-74: what the program run_probe writes of its question: whether a store is a probe of an edge, as a line; or a face of it as a Portable Float Map.
+-- Assumes nothing.
 use mathlib.Core.List.{List, [], _∷_, _++_}
 use Prim.Native.Nat.{ℕ, zero, suc, _+_, _*_}
 use lib.Dec.{eqb, ltb}

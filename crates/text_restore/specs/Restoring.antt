@@ -1,4 +1,4 @@
--- What the program `restoring` writes of its input: one byte, the answer, and where that is 0 the restored store. Assumes nothing.
+-- S-74: what the program `restoring` writes of its input: one byte, the answer, and where that is 0 the restored store. Assumes nothing.
 use mathlib.Core.Path.{_≡_}
 use mathlib.Core.Bool.{Bool}
 use mathlib.Core.List.{List, [], _∷_, _++_}
@@ -13,7 +13,7 @@ use Rattle.store_clean.specs.Clean.{cleanedOf}
 use Rattle.store_receipt.specs.Receipt.{entrySize, receiptOf}
 use Rattle.store_restore.specs.Restore.{restoreRefusal, restoredOf}
 
--- ---- the input: "4 bytes L (low byte first), L bytes of the cleaned store, then the receipt"
+-- ---- the input: the length of the cleaned store in 4 bytes, low byte first; the cleaned store; the receipt
 
 abbrev pub lengthSize : ℕ
 lengthSize = 4
@@ -79,7 +79,7 @@ fourBytes n = n % 0x100 ∷ n / 0x100 % 0x100 ∷ n / 0x10000 % 0x100 ∷ n / 0x
 abbrev pub inputOf : List ℕ → List ℕ → List ℕ
 inputOf cleaned receipt = fourBytes (length cleaned) ++ (cleaned ++ receipt)
 
--- Of every store that a clean-up takes: handed the cleaned store and the receipt, the program writes the answer 0 and the same store.
+-- S-49, S-74: of every store that a clean-up takes: handed the cleaned store and the receipt, the program writes the answer 0 and the same store.
 abbrev pub ProgramUndoes : Type 0
 ProgramUndoes = (store : List ℕ) → length store ≤ storeLimit → length store % recordSize ≡ 0
     → restoringOutput (inputOf (cleanedOf store) (receiptOf store)) ≡ done ∷ store

@@ -4,7 +4,7 @@ use mathlib.Core.List.{List, _++_}
 use Prim.Native.Nat.{ℕ, zero, suc, _≤_, _<_}
 use lib.ListN.{length, drop}
 use borrow.Author.Tests.{lt-ltb, le-ltb, eq-eqb, ne-eqb}
-use Rattle.bcn_spec.specs.Answers.{done, badFormat, badBlock, shortOutput}
+use Rattle.bcn_spec.specs.Answers.{done, badFormat, blockNot16, shortOutput}
 use Rattle.bcn_spec.specs.Bits.{blockSize}
 use Rattle.bc6h_spec.specs.Fields.{modeOf}
 use Rattle.bc6h_spec.specs.Picture.{valueCount, isSigned}
@@ -20,7 +20,7 @@ module _ (format size room : ℕ) where
   unfolding refusalOf
   format-refused h = simp (lt-ltb _ _ h)
 
-  pub block-refused : format ≤ 1 → (size ≡ blockSize → ⊥) → refusalOf format size room ≡ badBlock
+  pub block-refused : format ≤ 1 → (size ≡ blockSize → ⊥) → refusalOf format size room ≡ blockNot16
   unfolding refusalOf
   block-refused h s = simp (le-ltb _ _ h, ne-eqb _ _ s)
 
@@ -74,7 +74,7 @@ module _ (block : List ℕ) (format : ℕ) (out : List ℕ) where
   pub painted-format : (r : Pixels) → 1 < format → r ≡ record { answer = badFormat; mode = 0; infinite = 0 } → Painted block format out r out
   painted-format r h = refused-at block format out 0 r (format-refused format (length block) (length out) h)
 
-  pub painted-block : (r : Pixels) → format ≤ 1 → (length block ≡ blockSize → ⊥) → r ≡ record { answer = badBlock; mode = 0; infinite = 0 } → Painted block format out r out
+  pub painted-block : (r : Pixels) → format ≤ 1 → (length block ≡ blockSize → ⊥) → r ≡ record { answer = blockNot16; mode = 0; infinite = 0 } → Painted block format out r out
   painted-block r h s = refused-at block format out 1 r (block-refused format (length block) (length out) h s)
 
   pub painted-output : (r : Pixels) → format ≤ 1 → length block ≡ blockSize → length out < valueCount → r ≡ record { answer = shortOutput; mode = 0; infinite = 0 } → Painted block format out r out

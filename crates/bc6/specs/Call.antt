@@ -6,7 +6,7 @@ use Prim.Native.Nat.{ℕ, zero, suc}
 use lib.Dec.{eqb, ltb}
 use lib.ListN.{length, drop}
 use Rattle.laws.specs.Checks.{firstMet}
-use Rattle.bcn_spec.specs.Answers.{done, badFormat, badBlock, shortOutput}
+use Rattle.bcn_spec.specs.Answers.{done, badFormat, blockNot16, shortOutput}
 use Rattle.bcn_spec.specs.Bits.{blockSize}
 use Rattle.bc6h_spec.specs.Fields.{modeOf}
 use Rattle.bc6h_spec.specs.Picture.{valueCount, isSigned}
@@ -16,7 +16,7 @@ use Rattle.bc6.specs.declared.Pixels.{Pixels}
 -- S-31: 1, 2, 3: the first check that is met, from the format, the block's length and the room.
 unfoldable pub refusalOf : ℕ → ℕ → ℕ → ℕ
 refusalOf format size room =
-    firstMet ((ltb 1 format, badFormat) ∷ (not (eqb size blockSize), badBlock) ∷ (ltb room valueCount, shortOutput) ∷ [])
+    firstMet ((ltb 1 format, badFormat) ∷ (not (eqb size blockSize), blockNot16) ∷ (ltb room valueCount, shortOutput) ∷ [])
 
 -- S-26, S-31: the answer has the mode and how many values are 0xFC00. A reserved block is done, with mode 0; a refusal has mode 0 and counts none.
 abbrev pub answerAt : ℕ → List ℕ → ℕ → Pixels

@@ -131,7 +131,7 @@ pub fn block_pixels(block: &[u8], format: u8, out: &mut [u16]) -> Pixels
         return Pixels::refused(Answer::BAD_FORMAT);
     }
     if block.len() != Block::SIZE {
-        return Pixels::refused(Answer::BAD_BLOCK);
+        return Pixels::refused(Answer::BLOCK_NOT_16);
     }
     if out.len() < Picture::VALUES {
         return Pixels::refused(Answer::SHORT_OUTPUT);

@@ -6,7 +6,7 @@ use native.Mathlib.Omega.{arith}
 use lib.ListN.{length}
 use borrow.Author.Tests.{lt-ltb, le-ltb, eq-eqb, ne-eqb}
 use Rattle.bc6h_spec.specs.declared.Fields.{Fields}
-use Rattle.bcn_spec.specs.Answers.{done, badFormat, badBlock, reservedMode}
+use Rattle.bcn_spec.specs.Answers.{done, badFormat, blockNot16, reservedMode}
 use Rattle.bcn_spec.specs.Bits.{blockSize}
 use Rattle.bc6h_spec.specs.Fields.{modeOf, noFields, fieldsOf}
 use Rattle.bc6h_spec.proofs.Reading.{fields-mode}
@@ -22,7 +22,7 @@ module _ (block : List ℕ) (format : ℕ) {f : Fields} where
   bad-format h e = record { answers = rw (lt-ltb 1 format h, e) refl }
 
   module _ (k : format ≤ 1) where
-    pub bad-block : (length block ≡ blockSize → ⊥) → f ≡ noFields → Extracted block format (record { answer = badBlock; fields = f })
+    pub bad-block : (length block ≡ blockSize → ⊥) → f ≡ noFields → Extracted block format (record { answer = blockNot16; fields = f })
     bad-block ne e = record { answers = rw (le-ltb 1 format k, ne-eqb (length block) blockSize ne, e) refl }
 
     module _ (l : length block ≡ blockSize) where

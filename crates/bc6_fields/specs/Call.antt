@@ -6,7 +6,7 @@ use Prim.Native.Nat.{ℕ, zero, suc}
 use lib.Dec.{eqb, ltb}
 use lib.ListN.{length}
 use Rattle.laws.specs.Checks.{firstMet}
-use Rattle.bcn_spec.specs.Answers.{done, badFormat, badBlock, reservedMode}
+use Rattle.bcn_spec.specs.Answers.{done, badFormat, blockNot16, reservedMode}
 use Rattle.bcn_spec.specs.Bits.{blockSize}
 use Rattle.bc6h_spec.specs.Fields.{modeOf, noFields, fieldsOf}
 use Rattle.bc6_fields.specs.declared.FieldsRead.{FieldsRead}
@@ -14,7 +14,7 @@ use Rattle.bc6_fields.specs.declared.FieldsRead.{FieldsRead}
 -- S-35: 1, 2, 4: the format, the block's length, its mode.
 abbrev pub refusalOf : ℕ → ℕ → ℕ → ℕ
 refusalOf format size mode =
-    firstMet ((ltb 1 format, badFormat) ∷ (not (eqb size blockSize), badBlock) ∷ (eqb mode 0, reservedMode) ∷ [])
+    firstMet ((ltb 1 format, badFormat) ∷ (not (eqb size blockSize), blockNot16) ∷ (eqb mode 0, reservedMode) ∷ [])
 
 -- S-35: a refusal's record is all zeros.
 abbrev pub answerAt : ℕ → ℕ → List ℕ → FieldsRead

@@ -111,7 +111,7 @@ pub fn block_fields(block: &[u8], format: u8) -> FieldsRead
     }
     if block.len() != Block::SIZE {
         return FieldsRead {
-            answer: Answer::BAD_BLOCK,
+            answer: Answer::BLOCK_NOT_16,
             fields: Fields::none(),
         };
     }

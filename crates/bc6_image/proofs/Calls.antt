@@ -13,7 +13,7 @@ use Rattle.laws.specs.Pick.{pick, both}
 use Rattle.laws.specs.Checks.{firstMet}
 use Rattle.laws.proofs.Checks.{none-met}
 use Rattle.laws.proofs.Tests.{cases, both-true}
-use Rattle.bcn_spec.specs.Answers.{done, badFormat, shortOutput, badBlocks}
+use Rattle.bcn_spec.specs.Answers.{done, badFormat, shortOutput, blocksMisfit}
 use Rattle.bcn_spec.specs.Bits.{blockSize, blocksIn, blockAt}
 use Rattle.bc6h_spec.specs.Picture.{isSigned}
 use Rattle.bc6h_spec.specs.Block.{pixelsOf}
@@ -25,7 +25,7 @@ use Rattle.bc6_blocks.specs.declared.BlocksPixels.{BlocksPixels}
 use Rattle.bc6_blocks.specs.Run.{runRefusal, runAnswer, RunPainted}
 use Rattle.bc6_blocks.proofs.Calls.{block-by-block}
 use Rattle.bc6_image.specs.declared.FacePixels.{FacePixels}
-use Rattle.bc6_image.specs.Face.{lanes, opaque, laneOf, laneAt, rowSize, FaceShown, faceIn, roomy, faceRefusal, faceAnswer, faceValues, FacePainted}
+use Rattle.bc6_image.specs.Face.{lanes, opaque, laneOf, laneAt, rowSize, FaceShown, faceIn, roomy, faceRefusal, faceAnswer, faceValues, ImagePainted}
 use Rattle.bc6_image.specs.Stores.{FaceWritten, Fitting}
 use Rattle.bc6_image.proofs.Places.{lanes-low, put-shown, shown-is, is-shown}
 
@@ -85,7 +85,7 @@ module _ (alpha : Bool) (size format width height pitch room : ℕ) where
   refused-format f = rw (lt-ltb _ _ f)
 
   module _ (f : format ≤ 1) where
-    pub refused-blocks : eqb size (blockSize * (width * height)) ≡ false → badBlocks ≡ faceRefusal alpha size format width height pitch room
+    pub refused-blocks : eqb size (blockSize * (width * height)) ≡ false → blocksMisfit ≡ faceRefusal alpha size format width height pitch room
     unfolding faceRefusal
     refused-blocks b = rw (le-ltb _ _ f, b)
 
@@ -153,7 +153,7 @@ module _ (alpha : Bool) (size format width height pitch room : ℕ) where
   pub known : faceRefusal alpha size format width height pitch room ≡ done → Known
   unfolding faceRefusal roomy
   known z =
-      let none = none-met ((ltb 1 format, badFormat) ∷ (not (eqb size (blockSize * (width * height))), badBlocks) ∷ (not (roomy alpha width height pitch room), shortOutput) ∷ []) tt z in
+      let none = none-met ((ltb 1 format, badFormat) ∷ (not (eqb size (blockSize * (width * height))), blocksMisfit) ∷ (not (roomy alpha width height pitch room), shortOutput) ∷ []) tt z in
       let parts = parted (not-false (roomy alpha width height pitch room) (none .1 .1 .0)) in
       record {
         format-known = ltb-false 1 format (none .0);
@@ -173,8 +173,8 @@ module _ (alpha : Bool) (size format width height pitch room : ℕ) where
 -- ---- the outcome
 
 module _ {alpha : Bool} {blocks : List ℕ} {width height format : ℕ} {out : List ℕ} {pitch : ℕ} {r : FacePixels} {after : List ℕ}
-    (p : FacePainted alpha blocks width height format out pitch r after) where
-  pub one-outcome : {s : FacePixels} {other : List ℕ} → FacePainted alpha blocks width height format out pitch s other → (r ≡ s) × (after ≡ other)
+    (p : ImagePainted alpha blocks width height format out pitch r after) where
+  pub one-outcome : {s : FacePixels} {other : List ℕ} → ImagePainted alpha blocks width height format out pitch s other → (r ≡ s) × (after ≡ other)
   one-outcome q = (p .answers ∙ sym (q .answers), p .holds ∙ sym (q .holds))
 
   pub answer-is : r .answer ≡ faceRefusal alpha (length blocks) format width height pitch (length out)
@@ -245,7 +245,7 @@ module _ {alpha : Bool} {blocks : List ℕ} {width height format : ℕ} {out : L
 -- ---- the two layouts show the same: red, green and blue are the same values, alpha is 1.0 in every pixel, and so is the answer the same
 
 module _ {blocks : List ℕ} {width height format : ℕ} {out lent : List ℕ} {pitch step : ℕ} {r s : FacePixels} {after left : List ℕ}
-    (p : FacePainted false blocks width height format out pitch r after) (q : FacePainted true blocks width height format lent step s left)
+    (p : ImagePainted false blocks width height format out pitch r after) (q : ImagePainted true blocks width height format lent step s left)
     (z : faceRefusal false (length blocks) format width height pitch (length out) ≡ done)
     (d : faceRefusal true (length blocks) format width height step (length lent) ≡ done) where
   pub same-answer : r ≡ s
@@ -265,10 +265,10 @@ module _ {blocks : List ℕ} {width height format : ℕ} {out lent : List ℕ} {
 
 module _ (alpha : Bool) (blocks : List ℕ) (width height format : ℕ) (out : List ℕ) (pitch : ℕ) {number : ℕ}
     (e : number ≡ faceRefusal alpha (length blocks) format width height pitch (length out)) where
-  pub painted-refused : {r : FacePixels} → (number ≡ done → ⊥) → r ≡ record { answer = number; infinite = 0 } → FacePainted alpha blocks width height format out pitch r out
+  pub painted-refused : {r : FacePixels} → (number ≡ done → ⊥) → r ≡ record { answer = number; infinite = 0 } → ImagePainted alpha blocks width height format out pitch r out
   painted-refused {r} n a = go (faceRefusal alpha (length blocks) format width height pitch (length out)) refl
     where
-      go : (k : ℕ) → faceRefusal alpha (length blocks) format width height pitch (length out) ≡ k → FacePainted alpha blocks width height format out pitch r out
+      go : (k : ℕ) → faceRefusal alpha (length blocks) format width height pitch (length out) ≡ k → ImagePainted alpha blocks width height format out pitch r out
       go zero z = absurd (n (e ∙ z))
       go (suc k) z = record { answers = a ∙ ap (λ (m : ℕ). record { answer = m; infinite = 0 }) (e ∙ z) ∙ rw z refl; holds = rw z refl }
 
@@ -277,7 +277,7 @@ module _ (alpha : Bool) (blocks : List ℕ) (width height format : ℕ) (out : L
     known-done = known alpha (length blocks) format width height pitch (length out) (sym e ∙ n)
 
     pub painted-done : {infinite : ℕ} {after : List ℕ} → FaceWritten (isSigned format) alpha blocks width pitch (blocksIn blocks) out infinite after
-        → FacePainted alpha blocks width height format out pitch (record { answer = number; infinite = infinite }) after
+        → ImagePainted alpha blocks width height format out pitch (record { answer = number; infinite = infinite }) after
     painted-done {infinite} {after} w =
         let z : faceRefusal alpha (length blocks) format width height pitch (length out) ≡ done = sym e ∙ n in
         let fits = known-done .fits in

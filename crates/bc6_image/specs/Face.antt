@@ -8,7 +8,7 @@ use lib.ListN.{length, getD}
 use Rattle.laws.specs.Pick.{pick, both, either}
 use Rattle.laws.specs.Checks.{firstMet}
 use Rattle.laws.specs.Made.{made}
-use Rattle.bcn_spec.specs.Answers.{done, badFormat, shortOutput, badBlocks}
+use Rattle.bcn_spec.specs.Answers.{done, badFormat, shortOutput, blocksMisfit}
 use Rattle.bcn_spec.specs.Bits.{blockSize, blockAt}
 use Rattle.bc6h_spec.specs.Picture.{isSigned}
 use Rattle.bc6h_spec.specs.Block.{pixelsOf}
@@ -72,7 +72,7 @@ roomy alpha width height pitch room =
 -- 1, then 15, then 3
 unfoldable pub faceRefusal : Bool → ℕ → ℕ → ℕ → ℕ → ℕ → ℕ → ℕ
 faceRefusal alpha size format width height pitch room =
-    firstMet ((ltb 1 format, badFormat) ∷ (not (eqb size (blockSize * (width * height))), badBlocks) ∷ (not (roomy alpha width height pitch room), shortOutput) ∷ [])
+    firstMet ((ltb 1 format, badFormat) ∷ (not (eqb size (blockSize * (width * height))), blocksMisfit) ∷ (not (roomy alpha width height pitch room), shortOutput) ∷ [])
 
 -- how many values are minus infinity, as the call over a run of the same blocks counts them; a refusal counts none
 abbrev pub faceAnswer : ℕ → List ℕ → ℕ → FacePixels
@@ -85,6 +85,6 @@ faceValues zero alpha blocks format width height pitch out = faceIn (isSigned fo
 faceValues (suc n) alpha blocks format width height pitch out = out
 
 -- The statement of the calls: the answer r, and the lent values `after`.
-pub record FacePainted (alpha : Bool) (blocks : List ℕ) (width height format : ℕ) (out : List ℕ) (pitch : ℕ) (r : FacePixels) (after : List ℕ) : Type 0 where
+pub record ImagePainted (alpha : Bool) (blocks : List ℕ) (width height format : ℕ) (out : List ℕ) (pitch : ℕ) (r : FacePixels) (after : List ℕ) : Type 0 where
   pub answers : r ≡ faceAnswer (faceRefusal alpha (length blocks) format width height pitch (length out)) blocks format
   pub holds : after ≡ faceValues (faceRefusal alpha (length blocks) format width height pitch (length out)) alpha blocks format width height pitch out

@@ -11,7 +11,7 @@ ghost use lib.Seq.{sets};
 ghost use Rattle.bcn_spec.specs.Bits.{blockSize};
 ghost use Rattle.bc6h_spec.specs.Picture.{isSigned};
 ghost use Rattle.bcn_spec.specs.Bits.{blocksIn};
-ghost use Rattle.bc6_image.specs.Face.{lanes, faceRefusal, FacePainted};
+ghost use Rattle.bc6_image.specs.Face.{lanes, faceRefusal, ImagePainted};
 ghost use Rattle.bc6_image.specs.Stores.{pixelOf, rowOf, blockPut, FaceWritten, Fitting};
 
 // What the calls over a face answer: how many values are minus infinity, 0 on a refusal.
@@ -160,7 +160,7 @@ fn face_refusal(
         return Answer::BAD_FORMAT;
     }
     if !holds_face(size, width, height) {
-        return Answer::BAD_BLOCKS;
+        return Answer::BLOCKS_MISFIT;
     }
     if size == 0 {
         return Answer::DONE;
@@ -188,7 +188,7 @@ fn face_values(
     out: &mut [u16],
     pitch: usize,
 ) -> FacePixels
-    ensures { λ r. ⌜ FacePainted alpha (now (blocks .entry)) width height format (now (out .entry)) pitch r (now (out .exit)) ⌝ }
+    ensures { λ r. ⌜ ImagePainted alpha (now (blocks .entry)) width height format (now (out .entry)) pitch r (now (out .exit)) ⌝ }
 {
     let answer = face_refusal(blocks.len(), format, width, height, alpha, pitch, out.len());
     if answer != Answer::DONE {
@@ -207,7 +207,7 @@ pub fn face_pixels(
     out: &mut [u16],
     pitch: usize,
 ) -> FacePixels
-    ensures { λ r. ⌜ FacePainted false (now (blocks .entry)) width height format (now (out .entry)) pitch r (now (out .exit)) ⌝ }
+    ensures { λ r. ⌜ ImagePainted false (now (blocks .entry)) width height format (now (out .entry)) pitch r (now (out .exit)) ⌝ }
 {
     face_values(blocks, width, height, format, false, out, pitch)
 }
@@ -221,7 +221,7 @@ pub fn face_rgba(
     out: &mut [u16],
     pitch: usize,
 ) -> FacePixels
-    ensures { λ r. ⌜ FacePainted true (now (blocks .entry)) width height format (now (out .entry)) pitch r (now (out .exit)) ⌝ }
+    ensures { λ r. ⌜ ImagePainted true (now (blocks .entry)) width height format (now (out .entry)) pitch r (now (out .exit)) ⌝ }
 {
     face_values(blocks, width, height, format, true, out, pitch)
 }

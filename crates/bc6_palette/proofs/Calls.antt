@@ -8,7 +8,7 @@ use borrow.Author.Tests.{lt-ltb, le-ltb}
 use Rattle.laws.proofs.Search.{is-true}
 use Rattle.laws.proofs.Rows.{length-made}
 use Rattle.bc6h_spec.specs.declared.Fields.{Fields}
-use Rattle.bcn_spec.specs.Answers.{done, badFormat, shortOutput, invalidRecord}
+use Rattle.bcn_spec.specs.Answers.{done, badFormat, shortOutput, invalidFields}
 use Rattle.bc6h_spec.specs.Fields.{Valid}
 use Rattle.bc6h_spec.specs.Picture.{valueCount, isSigned, value, pictureAs, picture}
 use Rattle.bc6_half.specs.declared.Half.{Half}
@@ -32,7 +32,7 @@ module _ (f : Fields) (lent : List ℕ) where
   bad-format h = record { answers = rw (lt-ltb 1 (f .format) h) refl; holds = rw (lt-ltb 1 (f .format) h) refl }
 
   module _ (k : f .format ≤ 1) {r : Bool} (e : r ≡ valid f) where
-    pub bad-record : r ≡ false → FieldsShown f lent invalidRecord lent
+    pub bad-record : r ≡ false → FieldsShown f lent invalidFields lent
     bad-record t = record { answers = rw (le-ltb 1 (f .format) k, sym e ∙ t) refl; holds = rw (le-ltb 1 (f .format) k, sym e ∙ t) refl }
 
     module _ (t : r ≡ true) where

@@ -7,14 +7,14 @@ use lib.Dec.{ltb}
 use lib.ListN.{length, drop}
 use Rattle.laws.specs.Checks.{firstMet}
 use Rattle.bc6h_spec.specs.declared.Fields.{Fields}
-use Rattle.bcn_spec.specs.Answers.{done, badFormat, shortOutput, invalidRecord}
+use Rattle.bcn_spec.specs.Answers.{done, badFormat, shortOutput, invalidFields}
 use Rattle.bc6h_spec.specs.Picture.{valueCount, picture}
 use Rattle.bc6_valid.specs.Validity.{valid}
 
 -- S-38: 1, 10, 3: the first check that is met, from the record and the room
 abbrev pub refusalOf : Fields → ℕ → ℕ
 refusalOf f room =
-    firstMet ((ltb 1 (f .format), badFormat) ∷ (not (valid f), invalidRecord) ∷ (ltb room valueCount, shortOutput) ∷ [])
+    firstMet ((ltb 1 (f .format), badFormat) ∷ (not (valid f), invalidFields) ∷ (ltb room valueCount, shortOutput) ∷ [])
 
 -- S-30: done writes exactly the first 48 values; a refusal writes nothing.
 abbrev pub valuesAt : ℕ → Fields → List ℕ → List ℕ

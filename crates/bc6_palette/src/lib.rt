@@ -187,7 +187,7 @@ pub fn fields_pixels(fields: Fields, out: &mut [u16]) -> u8
         return Answer::BAD_FORMAT;
     }
     if !is_valid(fields) {
-        return Answer::INVALID_RECORD;
+        return Answer::INVALID_FIELDS;
     }
     if out.len() < Picture::VALUES {
         return Answer::SHORT_OUTPUT;

@@ -6,35 +6,35 @@ use Prim.Native.Nat.{ℕ, _≤_, _<_}
 use lib.ListN.{length}
 use borrow.Author.Tests.{lt-ltb, le-ltb, eq-eqb, ne-eqb}
 use Rattle.bc6h_spec.specs.declared.Fields.{Fields}
-use Rattle.bcn_spec.specs.Answers.{done, badFormat, invalidRecord, badBuffer}
+use Rattle.bcn_spec.specs.Answers.{done, badFormat, invalidFields, badBuffer}
 use Rattle.bcn_spec.specs.Bits.{blockSize}
 use Rattle.bcn_spec.specs.Bits.{bytesOf}
-use Rattle.bc6h_spec.specs.Writer.{numberFrom, blockOf}
+use Rattle.bc6h_spec.specs.Writer.{numberFrom, writtenBlock}
 use Rattle.bc6_valid.specs.Validity.{valid}
-use Rattle.bc6_writer.specs.Call.{Written}
+use Rattle.bc6_writer.specs.Call.{BlockWritten}
 
 -- the statement admits one outcome
-pub one-outcome : {f : Fields} {lent : List ℕ} {r s : ℕ} {a b : List ℕ} → Written f lent r a → Written f lent s b → (r ≡ s) × (a ≡ b)
+pub one-outcome : {f : Fields} {lent : List ℕ} {r s : ℕ} {a b : List ℕ} → BlockWritten f lent r a → BlockWritten f lent s b → (r ≡ s) × (a ≡ b)
 one-outcome p q = (p .answers ∙ sym (q .answers), p .holds ∙ sym (q .holds))
 
 module _ (f : Fields) (lent : List ℕ) where
-  pub bad-format : 1 < f .format → Written f lent badFormat lent
+  pub bad-format : 1 < f .format → BlockWritten f lent badFormat lent
   bad-format h = record { answers = rw (lt-ltb 1 (f .format) h) refl; holds = rw (lt-ltb 1 (f .format) h) refl }
 
   module _ (k : f .format ≤ 1) {r : Bool} (e : r ≡ valid f) where
-    pub bad-record : r ≡ false → Written f lent invalidRecord lent
+    pub bad-record : r ≡ false → BlockWritten f lent invalidFields lent
     bad-record t = record { answers = rw (le-ltb 1 (f .format) k, sym e ∙ t) refl; holds = rw (le-ltb 1 (f .format) k, sym e ∙ t) refl }
 
     module _ (t : r ≡ true) where
-      pub bad-buffer : (length lent ≡ blockSize → ⊥) → Written f lent badBuffer lent
+      pub bad-buffer : (length lent ≡ blockSize → ⊥) → BlockWritten f lent badBuffer lent
       bad-buffer n =
           record {
             answers = rw (le-ltb 1 (f .format) k, sym e ∙ t, ne-eqb (length lent) blockSize n) refl;
             holds = rw (le-ltb 1 (f .format) k, sym e ∙ t, ne-eqb (length lent) blockSize n) refl;
           }
 
-      pub all-written : {after : List ℕ} {n : ℕ} → length lent ≡ blockSize → after ≡ bytesOf 16 n → n ≡ numberFrom f → Written f lent done after
-      unfolding blockOf
+      pub all-written : {after : List ℕ} {n : ℕ} → length lent ≡ blockSize → after ≡ bytesOf 16 n → n ≡ numberFrom f → BlockWritten f lent done after
+      unfolding writtenBlock
       all-written l ea en =
           record {
             answers = rw (le-ltb 1 (f .format) k, sym e ∙ t, eq-eqb (length lent) blockSize l) refl;

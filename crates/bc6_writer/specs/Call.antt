@@ -7,22 +7,22 @@ use lib.Dec.{eqb, ltb}
 use lib.ListN.{length}
 use Rattle.laws.specs.Checks.{firstMet}
 use Rattle.bc6h_spec.specs.declared.Fields.{Fields}
-use Rattle.bcn_spec.specs.Answers.{done, badFormat, invalidRecord, badBuffer}
+use Rattle.bcn_spec.specs.Answers.{done, badFormat, invalidFields, badBuffer}
 use Rattle.bcn_spec.specs.Bits.{blockSize}
-use Rattle.bc6h_spec.specs.Writer.{blockOf}
+use Rattle.bc6h_spec.specs.Writer.{writtenBlock}
 use Rattle.bc6_valid.specs.Validity.{valid}
 
 -- S-36: 1, 10, 11: the format, the record, the lent bytes.
 abbrev pub refusalOf : Fields → ℕ → ℕ
 refusalOf f room =
-    firstMet ((ltb 1 (f .format), badFormat) ∷ (not (valid f), invalidRecord) ∷ (not (eqb room blockSize), badBuffer) ∷ [])
+    firstMet ((ltb 1 (f .format), badFormat) ∷ (not (valid f), invalidFields) ∷ (not (eqb room blockSize), badBuffer) ∷ [])
 
 -- S-30: done writes the block; a refusal writes nothing.
 abbrev pub bytesAt : ℕ → Fields → List ℕ → List ℕ
-bytesAt zero f lent = blockOf f
+bytesAt zero f lent = writtenBlock f
 bytesAt (suc n) f lent = lent
 
 -- S-36: the whole outcome of the call
-pub record Written (f : Fields) (lent : List ℕ) (r : ℕ) (after : List ℕ) : Type 0 where
+pub record BlockWritten (f : Fields) (lent : List ℕ) (r : ℕ) (after : List ℕ) : Type 0 where
   pub answers : r ≡ refusalOf f (length lent)
   pub holds : after ≡ bytesAt (refusalOf f (length lent)) f lent

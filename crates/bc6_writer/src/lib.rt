@@ -19,7 +19,7 @@ ghost use Rattle.bc6h_spec.specs.Writer.{scattered, placed, numberFrom};
 ghost use Rattle.bc6_fields.specs.Places.{entry};
 ghost use Rattle.bcn_util.specs.Stream.{number};
 ghost use Rattle.bc6_writer.specs.Parts.{InPlaces, storedSize, byteAt};
-ghost use Rattle.bc6_writer.specs.Call.{Written};
+ghost use Rattle.bc6_writer.specs.Call.{BlockWritten};
 
 // ---- the bits before the indices
 
@@ -153,13 +153,13 @@ fn write_bytes(words: BitStream, out: &mut [u8])
 
 // The block of a valid record, into sixteen lent bytes.
 pub fn write_block(fields: Fields, out: &mut [u8]) -> u8
-    ensures { λ r. ⌜ Written fields (now (out .entry)) r (now (out .exit)) ⌝ }
+    ensures { λ r. ⌜ BlockWritten fields (now (out .entry)) r (now (out .exit)) ⌝ }
 {
     if 1 < fields.format {
         return Answer::BAD_FORMAT;
     }
     if !is_valid(fields) {
-        return Answer::INVALID_RECORD;
+        return Answer::INVALID_FIELDS;
     }
     if out.len() != Block::SIZE {
         return Answer::BAD_BUFFER;

@@ -4,7 +4,7 @@ use mathlib.Core.List.{List, _++_}
 use Prim.Native.Nat.{ℕ, zero, suc, _≤_, _<_}
 use lib.ListN.{length, drop}
 use borrow.Author.Tests.{lt-ltb, le-ltb, eq-eqb, ne-eqb}
-use Rattle.bcn_spec.specs.Answers.{done, badBlock, shortOutput}
+use Rattle.bcn_spec.specs.Answers.{done, blockNot16, shortOutput}
 use Rattle.bcn_spec.specs.Bits.{blockSize, numberOf}
 use Rattle.bc7_spec.specs.Fields.{modeIn, modeOf}
 use Rattle.bc7_spec.specs.Block.{byteCount, bytesOf}
@@ -15,7 +15,7 @@ use Rattle.bc7.specs.Call.{refusalOf, answerAt, Painted}
 -- ---- the checks
 
 module _ (size room : ℕ) where
-  pub block-refused : (size ≡ blockSize → ⊥) → refusalOf size room ≡ badBlock
+  pub block-refused : (size ≡ blockSize → ⊥) → refusalOf size room ≡ blockNot16
   unfolding refusalOf
   block-refused s = simp (ne-eqb _ _ s)
 
@@ -58,7 +58,7 @@ refused-at : (block out : List ℕ) (n : ℕ) (r : Bc7Pixels) → refusalOf (len
 refused-at block out n r z e = record { answers = e ∙ rw z refl; holds = rw z refl }
 
 module _ (block out : List ℕ) where
-  pub painted-block : (r : Bc7Pixels) → (length block ≡ blockSize → ⊥) → r ≡ record { answer = badBlock; mode = 0 } → Painted block out r out
+  pub painted-block : (r : Bc7Pixels) → (length block ≡ blockSize → ⊥) → r ≡ record { answer = blockNot16; mode = 0 } → Painted block out r out
   painted-block r s = refused-at block out 1 r (block-refused (length block) (length out) s)
 
   pub painted-output : (r : Bc7Pixels) → length block ≡ blockSize → length out < byteCount → r ≡ record { answer = shortOutput; mode = 0 } → Painted block out r out

@@ -6,7 +6,7 @@ use Prim.Native.Nat.{ℕ, zero, suc}
 use lib.Dec.{eqb, ltb}
 use lib.ListN.{length, drop}
 use Rattle.laws.specs.Checks.{firstMet}
-use Rattle.bcn_spec.specs.Answers.{done, badBlock, shortOutput}
+use Rattle.bcn_spec.specs.Answers.{done, blockNot16, shortOutput}
 use Rattle.bcn_spec.specs.Bits.{blockSize}
 use Rattle.bc7_spec.specs.Fields.{modeOf}
 use Rattle.bc7_spec.specs.Block.{byteCount, bytesOf}
@@ -14,7 +14,7 @@ use Rattle.bc7.specs.declared.Bc7Pixels.{Bc7Pixels}
 
 -- S-66: 2, then 3 for fewer than 64 bytes: the first check that is met, from the block's length and the room.
 unfoldable pub refusalOf : ℕ → ℕ → ℕ
-refusalOf size room = firstMet ((not (eqb size blockSize), badBlock) ∷ (ltb room byteCount, shortOutput) ∷ [])
+refusalOf size room = firstMet ((not (eqb size blockSize), blockNot16) ∷ (ltb room byteCount, shortOutput) ∷ [])
 
 -- S-66: the answer has the mode, 0 to 7, or 8 for a reserved block; 0 on a refusal.
 abbrev pub answerAt : ℕ → List ℕ → Bc7Pixels

@@ -35,7 +35,7 @@ pub fn bc7_pixels(block: &[u8], out: &mut [u8]) -> Bc7Pixels
     ensures { λ r. ⌜ Painted (now (block .entry)) (now (out .entry)) r (now (out .exit)) ⌝ }
 {
     if block.len() != Block::SIZE {
-        return Bc7Pixels::refused(Answer::BAD_BLOCK);
+        return Bc7Pixels::refused(Answer::BLOCK_NOT_16);
     }
     if out.len() < Bc7Pixels::BYTES {
         return Bc7Pixels::refused(Answer::SHORT_OUTPUT);

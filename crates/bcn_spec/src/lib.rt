@@ -13,7 +13,7 @@ impl Answer {
 
     pub const BAD_FORMAT: u8 = 1;
 
-    pub const BAD_BLOCK: u8 = 2;
+    pub const BLOCK_NOT_16: u8 = 2;
 
     pub const SHORT_OUTPUT: u8 = 3;
 
@@ -29,7 +29,7 @@ impl Answer {
 
     pub const UNEVEN_BLOCKS: u8 = 9;
 
-    pub const INVALID_RECORD: u8 = 10;
+    pub const INVALID_FIELDS: u8 = 10;
 
     pub const BAD_BUFFER: u8 = 11;
 
@@ -39,7 +39,7 @@ impl Answer {
 
     pub const BAD_SIZE: u8 = 14;
 
-    pub const BAD_BLOCKS: u8 = 15;
+    pub const BLOCKS_MISFIT: u8 = 15;
 
     pub const UNEVEN_SIZE: u8 = 16;
 
@@ -68,7 +68,7 @@ impl Answer {
         [
             Answer::DONE,
             Answer::BAD_FORMAT,
-            Answer::BAD_BLOCK,
+            Answer::BLOCK_NOT_16,
             Answer::SHORT_OUTPUT,
             Answer::RESERVED_MODE,
             Answer::LONG_STORE,
@@ -76,12 +76,12 @@ impl Answer {
             Answer::SPARE_BYTE,
             Answer::NO_RECORD,
             Answer::UNEVEN_BLOCKS,
-            Answer::INVALID_RECORD,
+            Answer::INVALID_FIELDS,
             Answer::BAD_BUFFER,
             Answer::RESERVED_BLOCK,
             Answer::FOREIGN_HEADER,
             Answer::BAD_SIZE,
-            Answer::BAD_BLOCKS,
+            Answer::BLOCKS_MISFIT,
             Answer::UNEVEN_SIZE,
             Answer::BAD_PLACE,
             Answer::PLACED_RECORD,

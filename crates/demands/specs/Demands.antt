@@ -20,7 +20,7 @@ use Rattle.bc6_blocks.specs.declared.BlocksPixels.{BlocksPixels}
 use Rattle.bc6_blocks.specs.Run.{RunPainted}
 use Rattle.bc6_fields.specs.declared.FieldsRead.{FieldsRead}
 use Rattle.bc6_fields.specs.Call.{Extracted}
-use Rattle.bc6_writer.specs.Call.{Written}
+use Rattle.bc6_writer.specs.Call.{BlockWritten}
 use Rattle.bc7_spec.specs.Block.{byteCount}
 use Rattle.bc7.specs.declared.Bc7Pixels.{Bc7Pixels}
 use Rattle.bc7.specs.Call as bc7
@@ -105,10 +105,10 @@ pub record CleanUp : Type 0 where
 -- S-36: every unreserved block comes back byte for byte; every valid record comes back as it went in.
 abbrev pub BlockAgain : Type 0
 BlockAgain = (block : List ℕ) (format : ℕ) → IsBlock block → format ≤ 1 → 1 ≤ modeOf block → (read : FieldsRead) → Extracted block format read
-    → (lent after : List ℕ) (r : ℕ) → length lent ≡ blockSize → Written (read .fields) lent r after → (read .answer ≡ done) × ((r ≡ done) × (after ≡ block))
+    → (lent after : List ℕ) (r : ℕ) → length lent ≡ blockSize → BlockWritten (read .fields) lent r after → (read .answer ≡ done) × ((r ≡ done) × (after ≡ block))
 
 abbrev pub RecordAgain : Type 0
-RecordAgain = (f : Fields) → Valid f → (lent after : List ℕ) (r : ℕ) → length lent ≡ blockSize → Written f lent r after
+RecordAgain = (f : Fields) → Valid f → (lent after : List ℕ) (r : ℕ) → length lent ≡ blockSize → BlockWritten f lent r after
     → (read : FieldsRead) → Extracted after (f .format) read → (r ≡ done) × (read ≡ record { answer = done; fields = f })
 
 -- S-63: reading the file that `dds_write` left gives the same size, format and blocks.

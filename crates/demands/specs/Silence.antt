@@ -13,7 +13,7 @@ use Rattle.bc6.specs.Call.{Painted}
 use Rattle.bc6_blocks.specs.declared.BlocksPixels.{BlocksPixels}
 use Rattle.bc6_blocks.specs.Run.{RunPainted}
 use Rattle.bc6_image.specs.declared.FacePixels.{FacePixels}
-use Rattle.bc6_image.specs.Face.{FacePainted}
+use Rattle.bc6_image.specs.Face.{ImagePainted}
 use Rattle.bc6_fields.specs.declared.FieldsRead.{FieldsRead}
 use Rattle.bc6_fields.specs.Call.{Extracted}
 use Rattle.bc6_writer.specs.Call as writer
@@ -57,8 +57,8 @@ pub record Silent (number : ℕ) (counts : List ℕ) (lent after : List (List �
 pub record Demand1 : Type 0 where
   pub block-pixels : {b o a : List ℕ} {f : ℕ} {r : Pixels} → Painted b f o r a → Silent (r .answer) (r .mode ∷ r .infinite ∷ []) (o ∷ []) (a ∷ [])
   pub blocks-pixels : {b o a : List ℕ} {f : ℕ} {r : BlocksPixels} → RunPainted b f o r a → Silent (r .answer) (r .blocks ∷ r .infinite ∷ []) (o ∷ []) (a ∷ [])
-  pub face-pixels : {b o a : List ℕ} {w h f p : ℕ} {r : FacePixels} → FacePainted false b w h f o p r a → Silent (r .answer) (r .infinite ∷ []) (o ∷ []) (a ∷ [])
-  pub face-rgba : {b o a : List ℕ} {w h f p : ℕ} {r : FacePixels} → FacePainted true b w h f o p r a → Silent (r .answer) (r .infinite ∷ []) (o ∷ []) (a ∷ [])
+  pub face-pixels : {b o a : List ℕ} {w h f p : ℕ} {r : FacePixels} → ImagePainted false b w h f o p r a → Silent (r .answer) (r .infinite ∷ []) (o ∷ []) (a ∷ [])
+  pub face-rgba : {b o a : List ℕ} {w h f p : ℕ} {r : FacePixels} → ImagePainted true b w h f o p r a → Silent (r .answer) (r .infinite ∷ []) (o ∷ []) (a ∷ [])
   pub block-fields : {b : List ℕ} {f : ℕ} {r : FieldsRead} → Extracted b f r → Silent (r .answer) (numbersOf (r .fields)) [] []
   pub write-block : {f : Fields} {o a : List ℕ} {r : ℕ} → writer.Written f o r a → Silent r [] (o ∷ []) (a ∷ [])
   pub fields-pixels : {f : Fields} {o a : List ℕ} {r : ℕ} → FieldsShown f o r a → Silent r [] (o ∷ []) (a ∷ [])

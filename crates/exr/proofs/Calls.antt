@@ -11,8 +11,8 @@ use lib.Seq.{take-at, drop-at, take-all, drop-drop}
 use borrow.Author.Tests.{lt-ltb, le-ltb, eq-eqb, ne-eqb, ltb-true, ltb-false, eqb-true, eqb-false}
 use borrow.Rule.Slice.PartMut.{midOf, putMid}
 use Rattle.laws.proofs.Tests.{cases}
-use Rattle.bcn_spec.specs.Answers.{done, badFormat, shortOutput, badBlocks, unevenSize}
-use Rattle.pfm.specs.File.{sizeEven, blockBytes}
+use Rattle.bcn_spec.specs.Answers.{done, badFormat, shortOutput, blocksMisfit, unevenSize}
+use Rattle.pfm.specs.File.{sizeWritable, blockBytes}
 use Rattle.pfm.proofs.Calls.{Small, small, size-means, bytes-are}
 use Rattle.pfm.proofs.Lines.{sets-front}
 use Rattle.text.specs.Text.{Written}
@@ -32,7 +32,7 @@ module _ (width height : ℕ) where
     pub all : (8 + 6 * width) * height ≤ 100696064
     pub front : frontLength height ≤ 33081
 
-  pub lines-small : sizeEven width height ≡ true → Lines
+  pub lines-small : sizeWritable width height ≡ true → Lines
   unfolding frontLength
   lines-small t =
       let s = size-means width height t in
@@ -41,20 +41,20 @@ module _ (width height : ℕ) where
       let a : (8 + 6 * width) * height ≤ 24584 * 4096 = mul-le-mul {n₂ = 24584} {m₂ = 4096} (omega arith) h in
       record { first = omega arith; all = omega arith; front = omega arith }
 
-  pub length-none : sizeEven width height ≡ false → 0 ≡ lengthOf width height
+  pub length-none : sizeWritable width height ≡ false → 0 ≡ lengthOf width height
   unfolding lengthOf
   length-none s = rw s
 
-  pub length-some : {front : ℕ} → sizeEven width height ≡ true → front ≡ frontLength height → front + (8 + 6 * width) * height ≡ lengthOf width height
+  pub length-some : {front : ℕ} → sizeWritable width height ≡ true → front ≡ frontLength height → front + (8 + 6 * width) * height ≡ lengthOf width height
   unfolding lengthOf fileLength lineLength
   length-some s e = rw (s, e)
 
-  pub length-is : {size : ℕ} → sizeEven width height ≡ true → size ≡ lengthOf width height → size ≡ fileLength width height
+  pub length-is : {size : ℕ} → sizeWritable width height ≡ true → size ≡ lengthOf width height → size ≡ fileLength width height
   unfolding lengthOf
   length-is s e = e ∙ rw s
 
   -- four lines a row of blocks
-  pub bytes-lines : sizeEven width height ≡ true → (32 + 96 * (width / 4)) * (height / 4) ≡ lineLength width * height
+  pub bytes-lines : sizeWritable width height ≡ true → (32 + 96 * (width / 4)) * (height / 4) ≡ lineLength width * height
   unfolding lineLength
   bytes-lines t =
       let k = small width height t in
@@ -71,12 +71,12 @@ module _ (size format width height room : ℕ) where
   write-format f = rw (lt-ltb _ _ f)
 
   module _ (f : format ≤ 1) where
-    pub write-size : sizeEven width height ≡ false → writeRefusal size format width height room ≡ unevenSize
+    pub write-size : sizeWritable width height ≡ false → writeRefusal size format width height room ≡ unevenSize
     unfolding writeRefusal
     write-size s = rw (le-ltb _ _ f, s)
 
-    module _ (s : sizeEven width height ≡ true) where
-      pub write-blocks : (size ≡ blockBytes width height → ⊥) → writeRefusal size format width height room ≡ badBlocks
+    module _ (s : sizeWritable width height ≡ true) where
+      pub write-blocks : (size ≡ blockBytes width height → ⊥) → writeRefusal size format width height room ≡ blocksMisfit
       unfolding writeRefusal
       write-blocks b = rw (le-ltb _ _ f, s, ne-eqb _ _ b)
 
@@ -92,7 +92,7 @@ module _ (size format width height room : ℕ) where
   -- what "done" says
   pub record WriteKnown : Type 0 where
     pub known : format ≤ 1
-    pub even : sizeEven width height ≡ true
+    pub even : sizeWritable width height ≡ true
     pub bytes : size ≡ blockBytes width height
     pub fits : fileLength width height ≤ room
 
@@ -102,7 +102,7 @@ module _ (size format width height room : ℕ) where
       (λ t. absurd (omega (arith, sym (write-format (ltb-true _ _ t)) ∙ z)))
       (λ t.
       let f = ltb-false 1 format t in
-      cases (sizeEven width height)
+      cases (sizeWritable width height)
       (λ s.
       cases (eqb size (blockBytes width height))
       (λ e.

@@ -6,11 +6,11 @@ use lib.Dec.{eqb, ltb}
 use lib.ListN.{length, getD, drop}
 use Rattle.laws.specs.Pick.{pick}
 use Rattle.laws.specs.Made.{made, join}
-use Rattle.bcn_spec.specs.Answers.{done, badFormat, shortOutput, badBlocks, unevenSize}
+use Rattle.bcn_spec.specs.Answers.{done, badFormat, shortOutput, blocksMisfit, unevenSize}
 use Rattle.bcn_spec.specs.Bits.{blockAt}
 use Rattle.bc6h_spec.specs.Picture.{isSigned}
 use Rattle.bc6h_spec.specs.Block.{pixelsOf}
-use Rattle.pfm.specs.File.{sizeEven, blockBytes}
+use Rattle.pfm.specs.File.{sizeWritable, blockBytes}
 use Rattle.exr_header.specs.Header.{lowFirst, frontOf, frontLength, lineLength}
 use Rattle.exr.specs.declared.ExrWritten.{ExrWritten}
 
@@ -53,8 +53,8 @@ fileLength width height = frontLength height + lineLength width * height
 unfoldable pub writeRefusal : ℕ → ℕ → ℕ → ℕ → ℕ → ℕ
 writeRefusal size format width height room =
     pick (ltb 1 format) badFormat
-    (pick (sizeEven width height)
-    (pick (eqb size (blockBytes width height)) (pick (ltb room (fileLength width height)) shortOutput done) badBlocks)
+    (pick (sizeWritable width height)
+    (pick (eqb size (blockBytes width height)) (pick (ltb room (fileLength width height)) shortOutput done) blocksMisfit)
     unevenSize)
 
 abbrev pub writtenAt : ℕ → ℕ → ℕ → ExrWritten
@@ -73,4 +73,4 @@ pub record PictureWritten (blocks : List ℕ) (format width height : ℕ) (out :
 
 -- The length of the file of a size, 0 where it is refused.
 unfoldable pub lengthOf : ℕ → ℕ → ℕ
-lengthOf width height = pick (sizeEven width height) (fileLength width height) 0
+lengthOf width height = pick (sizeWritable width height) (fileLength width height) 0

@@ -6,7 +6,7 @@ ghost use Prim.Native.Nat.{_<_, _≤_, _+_, _*_};
 ghost use lib.ListN.{length, getD, drop};
 ghost use lib.Seq.{sets};
 ghost use Rattle.bcn_spec.specs.Bits.{blockSize};
-ghost use Rattle.pfm.specs.File.{sideEven, sizeEven};
+ghost use Rattle.pfm.specs.File.{sideEven, sizeWritable};
 ghost use Rattle.exr_header.specs.Header.{lowFirst};
 ghost use Rattle.exr.specs.Bands.{quarterOf, channelSets, blockSets, headSets, bandAt, bandsOf};
 ghost use Rattle.exr.specs.File.{headOf, lengthOf, writeRefusal, PictureWritten};
@@ -144,7 +144,7 @@ fn side_even(side: u32) -> bool
 }
 
 fn size_even(width: u32, height: u32) -> bool
-    ensures { λ r. ⌜ r ≡ sizeEven width height ⌝ }
+    ensures { λ r. ⌜ r ≡ sizeWritable width height ⌝ }
 {
     if !side_even(width) {
         return false;
@@ -173,7 +173,7 @@ fn write_refusal(size: usize, format: u8, width: u32, height: u32, room: usize) 
         return Answer::UNEVEN_SIZE;
     }
     if size != (width / 4) as usize * (height / 4) as usize * Block::SIZE {
-        return Answer::BAD_BLOCKS;
+        return Answer::BLOCKS_MISFIT;
     }
     if room < exr_length(width, height) {
         return Answer::SHORT_OUTPUT;

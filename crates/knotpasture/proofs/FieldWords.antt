@@ -10,7 +10,7 @@ use Rattle.bc6h_spec.specs.Fields.{modeOf, fieldsOf}
 use Rattle.bc6_fields.specs.declared.FieldsRead.{FieldsRead}
 use Rattle.bc6_fields.specs.Call.{refusalOf, answerAt, Extracted}
 use Rattle.bc6_fields.proofs.Calls.{mode-read}
-use Rattle.bc6_writer.specs.Call.{Written}
+use Rattle.bc6_writer.specs.Call.{BlockWritten}
 use Rattle.bc6_palette.specs.Call.{FieldsShown}
 use Rattle.bc6_numbers.specs.Numbers.{numberCount, numbersOf}
 use Rattle.knotpasture.specs.Words.{twoBytes}
@@ -59,8 +59,8 @@ one-fields d e = (d .answers ∙ sym (e .answers), d .holds ∙ sym (e .holds))
 -- ---- the writer
 
 -- what the writer leaves is told of the record that the numbers make
-pub of-numbers : {f g : Fields} {lent : List ℕ} {r : ℕ} {after : List ℕ} → f ≡ g → Written f lent r after → Written g lent r after
-of-numbers {f} {g} {lent} {r} {after} e w = subst (λ (h : Fields). Written h lent r after) e w
+pub of-numbers : {f g : Fields} {lent : List ℕ} {r : ℕ} {after : List ℕ} → f ≡ g → BlockWritten f lent r after → BlockWritten g lent r after
+of-numbers {f} {g} {lent} {r} {after} e w = subst (λ (h : Fields). BlockWritten h lent r after) e w
 
 -- ---- what a record shows
 

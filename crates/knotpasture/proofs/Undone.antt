@@ -11,7 +11,7 @@ use Rattle.bcn_spec.specs.Answers.{done}
 use Rattle.bcn_spec.specs.Bits.{blockSize, IsBlock}
 use Rattle.bc6h_spec.specs.Fields.{modeOf, fieldsOf, Valid}
 use Rattle.bc6h_spec.proofs.Reading.{fields-valid}
-use Rattle.bc6_writer.specs.Call.{Written}
+use Rattle.bc6_writer.specs.Call.{BlockWritten}
 use Rattle.bc6_writer.proofs.Undone.{answered, read-back, written-size, written-mode, block-of-fields}
 use Rattle.bc6_numbers.specs.Numbers.{numberCount, numbersOf, fieldsFrom}
 use Rattle.bc6_numbers.proofs.Back.{fields-back}
@@ -30,17 +30,17 @@ numbers-are block format s k m {lent} l d =
 -- every unreserved block comes back byte for byte
 pub block-back : (block : List ℕ) (format : ℕ) → IsBlock block → format ≤ 1 → 1 ≤ modeOf block
     → {lent : List ℕ} → length lent ≡ numberCount → {r : ℕ} {numbers : List ℕ} → FieldsCalled block format lent r numbers
-    → {out : List ℕ} → length out ≡ blockSize → {s : ℕ} {after : List ℕ} → Written (fieldsFrom numbers) out s after → (s ≡ done) × (after ≡ block)
+    → {out : List ℕ} → length out ≡ blockSize → {s : ℕ} {after : List ℕ} → BlockWritten (fieldsFrom numbers) out s after → (s ≡ done) × (after ≡ block)
 block-back block format b k m l {r} {numbers} d o w =
     block-of-fields block format b k m
     (ap fieldsFrom (numbers-are block format (b .sixteen) k m l d) ∙ fields-back (fieldsOf format block) (fields-valid format block k m)) o w
 
 -- the numbers of every valid record come back as they went in
-pub numbers-back : (f : Fields) → Valid f → {out : List ℕ} → length out ≡ blockSize → {s : ℕ} {block : List ℕ} → Written (fieldsFrom (numbersOf f)) out s block
+pub numbers-back : (f : Fields) → Valid f → {out : List ℕ} → length out ≡ blockSize → {s : ℕ} {block : List ℕ} → BlockWritten (fieldsFrom (numbersOf f)) out s block
     → {lent : List ℕ} → length lent ≡ numberCount → {r : ℕ} {numbers : List ℕ} → FieldsCalled block (f .format) lent r numbers
     → (s ≡ done) × (numbers ≡ numbersOf f)
 numbers-back f v {out} o {s} {block} w l d =
-    let x : Written f out s block = of-numbers (fields-back f v) w in (
+    let x : BlockWritten f out s block = of-numbers (fields-back f v) w in (
       answered f v o x,
       numbers-are block (f .format) (written-size f v o x) (v .format-known) (written-mode f v o x) l d ∙ ap numbersOf (read-back f v o x),
     )

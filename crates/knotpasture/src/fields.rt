@@ -4,7 +4,7 @@ use bc6_numbers::Numbers;
 use bcn_spec::Answer;
 ghost use Rattle.bc6_numbers.specs.Numbers.{fieldsFrom};
 ghost use Rattle.bc6_palette.specs.Call.{FieldsShown};
-ghost use Rattle.bc6_writer.specs.Call.{Written};
+ghost use Rattle.bc6_writer.specs.Call.{BlockWritten};
 ghost use Rattle.knotpasture.specs.Fields.{FieldsCalled};
 
 #[no_mangle]
@@ -25,7 +25,7 @@ pub extern "C" fn knot_block_fields(block: &[u8], format: u8, numbers: &mut [u16
 
 #[no_mangle]
 pub extern "C" fn knot_write_block(numbers: &[u16], out: &mut [u8]) -> u32
-    ensures { λ r. ⌜ Written (fieldsFrom (now (numbers .entry))) (now (out .entry)) r (now (out .exit)) ⌝ }
+    ensures { λ r. ⌜ BlockWritten (fieldsFrom (now (numbers .entry))) (now (out .entry)) r (now (out .exit)) ⌝ }
 {
     bc6_writer::write_block(bc6_numbers::fields_from(numbers), out) as u32
 }

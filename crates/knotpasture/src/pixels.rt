@@ -2,7 +2,7 @@
 use crate::two_bytes;
 ghost use mathlib.Core.Bool.{true, false};
 ghost use Prim.Native.Nat.{_+_, _*_};
-ghost use Rattle.bc6_image.specs.Face.{FacePainted};
+ghost use Rattle.bc6_image.specs.Face.{ImagePainted};
 ghost use Rattle.knotpasture.specs.Pixels.{PixelsCalled, RunCalled};
 
 #[no_mangle]
@@ -39,7 +39,7 @@ pub extern "C" fn knot_face_pixels(
     pitch: usize,
     infinite: &mut usize,
 ) -> u32
-    ensures { λ r. ⌜ FacePainted false (now (blocks .entry)) width height format (now (out .entry)) pitch (record { answer = r; infinite = now (infinite .exit) }) (now (out .exit)) ⌝ }
+    ensures { λ r. ⌜ ImagePainted false (now (blocks .entry)) width height format (now (out .entry)) pitch (record { answer = r; infinite = now (infinite .exit) }) (now (out .exit)) ⌝ }
 {
     let face = bc6_image::face_pixels(blocks, width, height, format, out, pitch);
     *infinite = face.infinite;
@@ -56,7 +56,7 @@ pub extern "C" fn knot_face_rgba(
     pitch: usize,
     infinite: &mut usize,
 ) -> u32
-    ensures { λ r. ⌜ FacePainted true (now (blocks .entry)) width height format (now (out .entry)) pitch (record { answer = r; infinite = now (infinite .exit) }) (now (out .exit)) ⌝ }
+    ensures { λ r. ⌜ ImagePainted true (now (blocks .entry)) width height format (now (out .entry)) pitch (record { answer = r; infinite = now (infinite .exit) }) (now (out .exit)) ⌝ }
 {
     let face = bc6_image::face_rgba(blocks, width, height, format, out, pitch);
     *infinite = face.infinite;

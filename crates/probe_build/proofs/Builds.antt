@@ -12,7 +12,7 @@ use Rattle.laws.specs.Made.{made, join}
 use Rattle.laws.proofs.Tests.{both-true}
 use Rattle.laws.proofs.Checks.{none-met}
 use Rattle.laws.proofs.Joined.{run-length}
-use Rattle.bcn_spec.specs.Answers.{done, badFormat, shortOutput, badBlocks, badEdge}
+use Rattle.bcn_spec.specs.Answers.{done, badFormat, shortOutput, blocksMisfit, badEdge}
 use Rattle.bcn_spec.specs.Bits.{blockSize}
 use Rattle.probe_places.specs.declared.Place.{Place}
 use Rattle.probe_places.specs.Places.{placeSize}
@@ -71,7 +71,7 @@ module _ (size format edge room : ℕ) where
     bad-format h = rw (first-edge, last-edge, lt-ltb 1 format h)
 
     module _ (f : format ≤ 1) where
-      pub bad-blocks : (size ≡ blockSize * recordCount edge → ⊥) → badBlocks ≡ buildRefusal size format edge room
+      pub bad-blocks : (size ≡ blockSize * recordCount edge → ⊥) → blocksMisfit ≡ buildRefusal size format edge room
       unfolding buildRefusal
       bad-blocks h = rw (first-edge, last-edge, le-ltb _ _ f, ne-eqb size (blockSize * recordCount edge) h)
 

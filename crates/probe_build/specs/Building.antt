@@ -7,7 +7,7 @@ use lib.Dec.{eqb, ltb}
 use lib.ListN.{length, getD, drop}
 use Rattle.laws.specs.Checks.{firstMet}
 use Rattle.laws.specs.Made.{made, join}
-use Rattle.bcn_spec.specs.Answers.{done, badFormat, shortOutput, badBlocks, badEdge}
+use Rattle.bcn_spec.specs.Answers.{done, badFormat, shortOutput, blocksMisfit, badEdge}
 use Rattle.bcn_spec.specs.Bits.{blockSize}
 use Rattle.probe_places.specs.declared.Place.{Place}
 use Rattle.probe_places.specs.Places.{placeSize}
@@ -59,7 +59,7 @@ builtOf blocks format edge first = join (made (recordOf blocks format edge first
 abbrev pub buildChecks : ℕ → ℕ → ℕ → ℕ → List (Bool × ℕ)
 buildChecks size format edge room =
     (not (edgeFits edge), badEdge) ∷ (ltb 1 format, badFormat) ∷
-    (not (eqb size (blockSize * recordCount edge)), badBlocks) ∷ (ltb room (placeSize * recordCount edge), shortOutput) ∷ []
+    (not (eqb size (blockSize * recordCount edge)), blocksMisfit) ∷ (ltb room (placeSize * recordCount edge), shortOutput) ∷ []
 
 unfoldable pub buildRefusal : ℕ → ℕ → ℕ → ℕ → ℕ
 buildRefusal size format edge room = firstMet (buildChecks size format edge room)
@@ -84,7 +84,7 @@ pub record BuiltTo (blocks : List ℕ) (format edge first : ℕ) (lent : List �
 -- ---- examples
 
 -- the order of the checks
-two-blocks : buildRefusal 192 1 2 1000 ≡ badBlocks
+two-blocks : buildRefusal 192 1 2 1000 ≡ blocksMisfit
 unfolding buildRefusal recordCount
 two-blocks = refl
 
@@ -96,7 +96,7 @@ format-before-blocks : buildRefusal 0 2 1 0 ≡ badFormat
 unfolding buildRefusal recordCount
 format-before-blocks = refl
 
-blocks-before-room : buildRefusal 95 1 1 0 ≡ badBlocks
+blocks-before-room : buildRefusal 95 1 1 0 ≡ blocksMisfit
 unfolding buildRefusal recordCount
 blocks-before-room = refl
 

@@ -149,7 +149,7 @@ fn build_refusal(size: usize, format: u8, edge: usize, room: usize) -> u8
     }
     let count = record_count(edge);
     if size != Block::SIZE * count {
-        return Answer::BAD_BLOCKS;
+        return Answer::BLOCKS_MISFIT;
     }
     if room < Place::SIZE * count {
         return Answer::SHORT_OUTPUT;

@@ -13,7 +13,7 @@ use Rattle.laws.proofs.Search.{holds, is-true}
 use Rattle.laws.proofs.Below.{below-all, below-more, below-fails, below-upto}
 use Rattle.bcn_spec.specs.Answers.{done, badFormat, spareByte, badPlace}
 use Rattle.probe_places.specs.declared.Place.{Place}
-use Rattle.probe_places.specs.Places.{faceCount, noFace, byteAt, formatIn, faceIn, columnIn, rowIn, placeIn, zeroByte, restZero, placeChecks, placeRefusal, recordChecks, placeRecordRefusal}
+use Rattle.probe_places.specs.Places.{faceCount, noFace, byteAt, formatIn, faceIn, columnIn, rowIn, placeIn, zeroByte, restZero, placeChecks, placeRefusal, placeRecordChecks, placeRecordRefusal}
 
 -- ---- a place
 
@@ -80,7 +80,7 @@ module _ (store : List ℕ) (n : ℕ) where
   pub fine : placeRecordRefusal store n ≡ done → Fine
   unfolding placeRecordRefusal placeRefusal zeroByte restZero
   fine e =
-      let m = none-met (recordChecks store n) tt e in
+      let m = none-met (placeRecordChecks store n) tt e in
       record {
         small = ltb-false _ _ (m .0);
         zeros = λ k h. eqb-true _ _ (is-true _ (below-at (zeroByte store n) 6 k (holds (not-false (restZero store n) (m .1 .0))) h));

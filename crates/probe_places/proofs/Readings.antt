@@ -16,7 +16,7 @@ use Rattle.probe_places.specs.declared.Place.{Place}
 use Rattle.probe_places.specs.declared.PlacedRecord.{PlacedRecord}
 use Rattle.probe_places.specs.declared.PlacedReading.{PlacedReading}
 use Rattle.probe_places.specs.declared.PlacedReading.the-variants as reading
-use Rattle.probe_places.specs.Places.{placeSize, placeLimit, placesIn, pairAt, tileIn, formatIn, faceIn, columnIn, rowIn, placeIn, blockIn, recordChecks, placeRecordRefusal}
+use Rattle.probe_places.specs.Places.{placeSize, placeLimit, placesIn, pairAt, tileIn, formatIn, faceIn, columnIn, rowIn, placeIn, blockIn, placeRecordChecks, placeRecordRefusal}
 use Rattle.probe_places.specs.Readings.{placedChecks, placedRefusal, Readable, valuesAt, PlacedRead, placedPart}
 
 -- ---- which check
@@ -54,7 +54,7 @@ known store n z =
       fits = ltb-false _ _ (m .0);
       whole = eqb-true _ _ (not-false _ (m .1 .0));
       below = ltb-true _ _ (not-false _ (m .1 .1 .0));
-      unrefused = no-number (recordChecks store n) (m .1 .1 .1);
+      unrefused = no-number (placeRecordChecks store n) (m .1 .1 .1);
     }
 
 pub known-of : {store : List ℕ} {n r : ℕ} → r ≡ placedRefusal store n → r ≡ done → Known store n

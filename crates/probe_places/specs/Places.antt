@@ -97,8 +97,8 @@ unfoldable pub placeRefusal : Place → ℕ
 placeRefusal p = firstMet (placeChecks p)
 
 -- S-54: 1, 7, 17: of record n, whatever the store's size.
-abbrev pub recordChecks : List ℕ → ℕ → List (Bool × ℕ)
-recordChecks store n = (ltb 1 (formatIn store n), badFormat) ∷ (not (restZero store n), spareByte) ∷ placeChecks (placeIn store n)
+abbrev pub placeRecordChecks : List ℕ → ℕ → List (Bool × ℕ)
+placeRecordChecks store n = (ltb 1 (formatIn store n), badFormat) ∷ (not (restZero store n), spareByte) ∷ placeChecks (placeIn store n)
 
 unfoldable pub placeRecordRefusal : List ℕ → ℕ → ℕ
-placeRecordRefusal store n = firstMet (recordChecks store n)
+placeRecordRefusal store n = firstMet (placeRecordChecks store n)

@@ -5,7 +5,7 @@ ghost use mathlib.Core.List.{[], _∷_};
 ghost use Prim.Native.Nat.{_<_};
 ghost use Rattle.probe_places.specs.Faults.{noFault, faultAlone};
 ghost use Rattle.probe_places.specs.Places.{placeSize, placeHead, placeLimit, faceCount, noFace, placesIn, placeIn, pairAt, tileIn, restZero, placeRefusal, placeRecordRefusal};
-ghost use Rattle.probe_places.specs.Readings.{placedRefusal, numberOf, placedPart, PlacedRead};
+ghost use Rattle.probe_places.specs.Readings.{placedRefusal, placedNumber, placedPart, PlacedRead};
 use bcn_spec::Answer;
 use bcn_spec::Block;
 use raw_bytes::u16_at;
@@ -79,7 +79,7 @@ pub enum PlacedReading {
 impl PlacedReading {
     // The number that a reading stands for: 0 for a record.
     pub fn number(self) -> u8
-        ensures { λ r. ⌜ r ≡ numberOf self ⌝ }
+        ensures { λ r. ⌜ r ≡ placedNumber self ⌝ }
     {
         match self {
             PlacedReading::Record(_) => Answer::DONE,

@@ -9,14 +9,14 @@ use lib.ListN.{length, drop}
 use borrow.Author.Tests.{eq-eqb, ne-eqb, le-ltb, ltb-false}
 use Rattle.laws.proofs.Tests.{cases}
 use Rattle.laws.proofs.Checks.{none-met}
-use Rattle.bcn_spec.specs.Answers.{done, badSize, badBlocks}
+use Rattle.bcn_spec.specs.Answers.{done, badSize, blocksMisfit}
 use Rattle.dds.specs.declared.DdsRead.{DdsRead}
 use Rattle.dds.specs.Dds.{headerSize, headerOurs, sizeOurs, blocksAlong, widthOf, heightOf, formatOf, headRefusal, HeadRead, FileRead, BlocksRead}
 use Rattle.dds.specs.Dds as dds
 use Rattle.dds.proofs.Headers.{ours-so, size-so}
 use Rattle.dds.proofs.Reading.{head-foreign, head-size, head-done, head-known, head-number, head-is, sized-blocks, sized-done, read-number, read-is, read-known, part-is, part-length}
 use Rattle.pfm.specs.declared.PfmWritten.{PfmWritten}
-use Rattle.pfm.specs.File.{SideEven, sizeEven, blockBytes, fileLength, writeRefusal, PictureWritten}
+use Rattle.pfm.specs.File.{SideEven, sizeWritable, blockBytes, fileLength, writeRefusal, PictureWritten}
 use Rattle.pfm.proofs.Calls.{size-means}
 use Rattle.run_pfm.specs.Export.{sizeSmall, exportChecks, exportRefusal, Exported}
 
@@ -30,7 +30,7 @@ one-outcome d e = (d .answers ∙ sym (e .answers), d .holds ∙ sym (e .holds))
 blocks-whole : {side : ℕ} → SideEven side → blocksAlong side ≡ side / 4
 blocks-whole e = omega (arith, e .fours)
 
-bytes-same : (width height : ℕ) → sizeEven width height ≡ true → dds.blockBytes width height ≡ blockBytes width height
+bytes-same : (width height : ℕ) → sizeWritable width height ≡ true → dds.blockBytes width height ≡ blockBytes width height
 unfolding blockBytes dds.blockBytes
 bytes-same width height s = let e = size-means width height s in ap₂ (λ (a b : ℕ). a * b * 16) (blocks-whole (e .0)) (blocks-whole (e .1))
 
@@ -59,7 +59,7 @@ module _ (file : List ℕ) (room : ℕ) where
     refused-large s = rw (ours, sized, s)
 
     module _ (small : sizeSmall (widthOf file) (heightOf file) ≡ true) where
-      refused-blocks : (length file ≡ headerSize + dds.blockBytes (widthOf file) (heightOf file) → ⊥) → exportRefusal file room ≡ badBlocks
+      refused-blocks : (length file ≡ headerSize + dds.blockBytes (widthOf file) (heightOf file) → ⊥) → exportRefusal file room ≡ blocksMisfit
       unfolding exportRefusal
       refused-blocks n = rw (ours, sized, small, ne-eqb _ _ n)
 
@@ -69,7 +69,7 @@ module _ (file : List ℕ) (room : ℕ) where
       unfolding exportRefusal writeRefusal
       refused-last size b l =
           let f : formatOf file ≤ 1 = ⊎-elim (λ e. omega arith) (λ e. omega arith) (head-known file h .ours .dxgi) in
-          cases (sizeEven (widthOf file) (heightOf file))
+          cases (sizeWritable (widthOf file) (heightOf file))
           (λ s. rw (ours, sized, small, eq-eqb _ _ l, le-ltb _ _ f, s, eq-eqb _ _ (b ∙ bytes-same (widthOf file) (heightOf file) s)))
           (λ s. rw (ours, sized, small, eq-eqb _ _ l, le-ltb _ _ f, s))
 

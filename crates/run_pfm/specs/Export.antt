@@ -7,10 +7,10 @@ use lib.Dec.{eqb, leb, ltb}
 use lib.ListN.{length, drop}
 use Rattle.laws.specs.Pick.{both}
 use Rattle.laws.specs.Checks.{firstMet}
-use Rattle.bcn_spec.specs.Answers.{shortOutput, foreignHeader, badSize, badBlocks, unevenSize}
+use Rattle.bcn_spec.specs.Answers.{shortOutput, foreignHeader, badSize, blocksMisfit, unevenSize}
 use Rattle.dds.specs.Dds.{headerSize, headerOurs, sizeOurs, blockBytes, widthOf, heightOf, formatOf}
 use Rattle.pfm.specs.declared.PfmWritten.{PfmWritten}
-use Rattle.pfm.specs.File.{sizeEven, fileLength, writtenAt, leftAt}
+use Rattle.pfm.specs.File.{sizeWritable, fileLength, writtenAt, leftAt}
 
 -- S-65: at most 64 by 64 pixels.
 abbrev pub smallLimit : ℕ
@@ -24,8 +24,8 @@ abbrev pub exportChecks : List ℕ → ℕ → List (Bool × ℕ)
 exportChecks file room =
     (not (headerOurs file), foreignHeader) ∷
     (not (both (sizeOurs (widthOf file) (heightOf file)) (sizeSmall (widthOf file) (heightOf file))), badSize) ∷
-    (not (eqb (length file) (headerSize + blockBytes (widthOf file) (heightOf file))), badBlocks) ∷
-    (not (sizeEven (widthOf file) (heightOf file)), unevenSize) ∷ (ltb room (fileLength (widthOf file) (heightOf file)), shortOutput) ∷ []
+    (not (eqb (length file) (headerSize + blockBytes (widthOf file) (heightOf file))), blocksMisfit) ∷
+    (not (sizeWritable (widthOf file) (heightOf file)), unevenSize) ∷ (ltb room (fileLength (widthOf file) (heightOf file)), shortOutput) ∷ []
 
 unfoldable pub exportRefusal : List ℕ → ℕ → ℕ
 exportRefusal file room = firstMet (exportChecks file room)

@@ -9,7 +9,7 @@ use Rattle.laws.specs.Made.{made}
 use Rattle.bc6h_spec.specs.declared.Fields.{Fields}
 use Rattle.bc6h_spec.specs.Fields.{noFields}
 use Rattle.bc6_numbers.specs.Numbers.{numberCount, fieldsFrom}
-use Rattle.bc6_writer.specs.Call.{refusalOf, bytesAt, Written}
+use Rattle.bc6_writer.specs.Call.{refusalOf, bytesAt, BlockWritten}
 use Rattle.run_write.specs.Record.{numberIn, fieldsIn, byteOf, recordBytes}
 
 module _ (piece : List ℕ) where
@@ -34,7 +34,7 @@ module _ (piece : List ℕ) where
   unfolding fieldsIn
   a-record l {f} {numbers} e g = rw (eq-eqb (length piece) 44 l) (g ∙ ap fieldsFrom e)
 
-  pub written : {f : Fields} {answer : ℕ} {block : List ℕ} → f ≡ fieldsIn piece → Written f (replicate 16 0) answer block
+  pub written : {f : Fields} {answer : ℕ} {block : List ℕ} → f ≡ fieldsIn piece → BlockWritten f (replicate 16 0) answer block
       → made (byteOf answer block) 17 ≡ recordBytes piece
   unfolding recordBytes
   written {f} {answer} {block} e w =

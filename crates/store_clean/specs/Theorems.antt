@@ -26,7 +26,7 @@ abbrev pub cleanedBytes : Cleaned → List ℕ → List ℕ
 cleanedBytes r after = take (r .kept * recordSize) after
 
 -- record n of the store is record `staying .. n` of the result, byte for byte: as many stand before it as stay before it in the store
-pub record Written (store : List ℕ) (r : Cleaned) (after : List ℕ) (n : ℕ) : Type 0 where
+pub record StaysWritten (store : List ℕ) (r : Cleaned) (after : List ℕ) (n : ℕ) : Type 0 where
   pub there : staying (goes store) n < r .kept
   pub same-record : recordOf after (staying (goes store) n) ≡ recordOf store n
 
@@ -40,7 +40,7 @@ pub record Source (store : List ℕ) (after : List ℕ) (k : ℕ) : Type 0 where
 
 -- Each record that stays is there, once for each time it stood, and in order.
 pub record AllThere (store : List ℕ) (r : Cleaned) (after : List ℕ) : Type 0 where
-  pub written : (n : ℕ) → n < recordsIn store → goes store n ≡ false → Written store r after n
+  pub written : (n : ℕ) → n < recordsIn store → goes store n ≡ false → StaysWritten store r after n
   pub source : (k : ℕ) → k < r .kept → Source store after k
   pub in-order : (m n : ℕ) → m < n → goes store m ≡ false → staying (goes store) m < staying (goes store) n
   pub adds-up : r .kept + r .removed ≡ recordsIn store

@@ -69,9 +69,9 @@ abbrev pub Unrefused : List ℕ → ℕ → Type 0
 Unrefused store n = recordRefusal store n ≡ done
 
 -- The number and the values that each case of a reading stands for.
-abbrev pub numberOf : RecordReading → ℕ
-numberOf (Record r) = done
-numberOf (Refused number) = number
+abbrev pub readingNumber : RecordReading → ℕ
+readingNumber (Record r) = done
+readingNumber (Refused number) = number
 
 abbrev pub valuesOf : RecordReading → List ℕ
 valuesOf (Record r) = r .tile ∷ r .format ∷ []
@@ -83,7 +83,7 @@ valuesAt (suc number) store n = []
 
 -- S-40: tile number and format, or the number of the refusal alone.
 pub record Read (store : List ℕ) (n : ℕ) (r : RecordReading) : Type 0 where
-  pub answers : numberOf r ≡ recordRefusal store n
+  pub answers : readingNumber r ≡ recordRefusal store n
   pub gives : valuesOf r ≡ valuesAt (recordRefusal store n) store n
 
 -- S-41: the record's sixteen block bytes as a part of the store, empty exactly when `record_at` refuses.

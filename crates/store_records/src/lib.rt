@@ -2,7 +2,7 @@
 
 ghost use mathlib.Core.Path.{_≡_};
 ghost use mathlib.Core.List.{[], _∷_};
-ghost use Rattle.store_records.specs.Store.{recordSize, headSize, storeLimit, recordsIn, tileAt, numberOf, partAt, recordRefusal, Read};
+ghost use Rattle.store_records.specs.Store.{recordSize, headSize, storeLimit, recordsIn, tileAt, readingNumber, partAt, recordRefusal, Read};
 use bcn_spec::Answer;
 use bcn_spec::Block;
 use raw_bytes::u32_at;
@@ -21,7 +21,7 @@ pub enum RecordReading {
 impl RecordReading {
     // The number that a reading stands for: 0 for a record.
     pub fn number(self) -> u8
-        ensures { λ r. ⌜ r ≡ numberOf self ⌝ }
+        ensures { λ r. ⌜ r ≡ readingNumber self ⌝ }
     {
         match self {
             RecordReading::Record(_) => Answer::DONE,

@@ -9,7 +9,7 @@ use Rattle.store_records.specs.Store.{recordsIn, formatOf, blockOf, Unrefused}
 use Rattle.store_spec.specs.Shown.{pictureAt, Reserved}
 use Rattle.store_clean.specs.declared.Cleaned.{Cleaned}
 use Rattle.store_clean.specs.Clean.{CleanedInto}
-use Rattle.store_clean.specs.Theorems.{cleanedBytes, Written}
+use Rattle.store_clean.specs.Theorems.{cleanedBytes, StaysWritten}
 
 -- A record of `bytes` is not refused and has the format, the mode and the 48 values of record n of the store.
 pub record ShownBy (store : List ℕ) (n : ℕ) (bytes : List ℕ) : Type 0 where
@@ -27,4 +27,4 @@ EveryPictureShown = (store lent after : List ℕ) (r : Cleaned) → CleanedInto 
 -- S-45: a record that is refused, or whose mode is reserved, stays byte for byte.
 abbrev pub FaultyStay : Type 0
 FaultyStay = (store lent after : List ℕ) (r : Cleaned) → CleanedInto store lent r after → r .answer ≡ done
-    → (n : ℕ) → n < recordsIn store → (Unrefused store n → ⊥) ⊎ Reserved store n → Written store r after n
+    → (n : ℕ) → n < recordsIn store → (Unrefused store n → ⊥) ⊎ Reserved store n → StaysWritten store r after n

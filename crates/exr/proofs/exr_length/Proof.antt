@@ -4,12 +4,12 @@ use mathlib.Core.Bool.{true}
 use native.Mathlib.Omega.{arith}
 use borrow.Author.Tests.{not-true, not-false}
 use borrow.Author.Needs.{needs}
-use Rattle.pfm.specs.File.{sizeEven}
+use Rattle.pfm.specs.File.{sizeWritable}
 use Rattle.exr.proofs.Calls.{lines-small, length-none, length-some}
 use Rattle.exr.proofs.exr_length.Statement.{statement}
 use Rattle.exr.proofs.exr_length.Tie as tie
 
-even : (c : tie.Else1) → sizeEven (c .before .before .args .width) (c .before .before .args .height) ≡ true
+even : (c : tie.Else1) → sizeWritable (c .before .before .args .width) (c .before .before .args .height) ≡ true
 even c = sym (c .before .size-even .ensures) ∙ not-false _ (c .if1 .left)
 
 returns : tie.Need-returns

@@ -1,6 +1,5 @@
--- S-68: the rows of one, two and three regions: which pixel lies in which, and their fix-up pixels. "Two and three regions: the rows below, chosen by
--- the partition number": character k is the region of pixel k, and a dash stands before the fix-up pixel of each region but region 0, "in order of
--- pixels, not of regions". Assumes nothing.
+-- S-68: the rows of one, two and three regions, by the partition number. Character k is the region of pixel k; a dash is before the fix-up
+-- pixel of each region but region 0, in order of pixels. Assumes nothing.
 use mathlib.Core.List.{List, [], _∷_}
 use Prim.Native.Nat.{ℕ, suc}
 use Prim.Native.String.{String}

@@ -56,7 +56,7 @@ PlacePut store n p lent r after = MovedTo (puttingFault store n p (length lent))
 bytes-are : placeBytes (record { face = 5; column = 0x102; row = 3 }) ≡ 5 ∷ 2 ∷ 1 ∷ 3 ∷ 0 ∷ []
 bytes-are = refl
 
--- face 6 is none; 255 is "not placed", and then has no position
+-- face 6 is none; 255 is of a record that is not placed, which has no position
 no-face : placeRefusal (record { face = 6; column = 0; row = 0 }) ≡ badPlace
 unfolding placeRefusal
 no-face = refl

@@ -1,5 +1,5 @@
 /* Calls the probe's functions of knotpasture.h as a C program does, with good and bad input. Prints each check that fails.
- * Holds S-1, S-57, S-58, S-87. */
+ * Holds S-1, S-57 to S-59, S-87. */
 #include "knotpasture.h"
 
 #include "check.h"

@@ -114,7 +114,7 @@ moved fault count store lent p =
     silent-one (λ n. moves.movedAt n (fault .faulty) count) (λ r. r .answer) (λ r. r .records ∷ []) refl (λ n. zeros 1)
     (λ n. moves.bytesAt n store lent) lent (λ n. refl) (fault .answer) (p .answers) (p .holds)
 
-faced : (alpha : Bool) (b o : List ℕ) (w h f p : ℕ) {r : FacePixels} {a : List ℕ} → face.FacePainted alpha b w h f o p r a
+faced : (alpha : Bool) (b o : List ℕ) (w h f p : ℕ) {r : FacePixels} {a : List ℕ} → face.ImagePainted alpha b w h f o p r a
     → Silent (r .answer) (r .infinite ∷ []) (o ∷ []) (a ∷ [])
 faced alpha b o w h f p d =
     silent-one (λ n. face.faceAnswer n b f) (λ r. r .answer) (λ r. r .infinite ∷ []) refl (λ n. zeros 1)

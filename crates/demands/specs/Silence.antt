@@ -60,9 +60,9 @@ pub record Demand1 : Type 0 where
   pub face-pixels : {b o a : List ℕ} {w h f p : ℕ} {r : FacePixels} → ImagePainted false b w h f o p r a → Silent (r .answer) (r .infinite ∷ []) (o ∷ []) (a ∷ [])
   pub face-rgba : {b o a : List ℕ} {w h f p : ℕ} {r : FacePixels} → ImagePainted true b w h f o p r a → Silent (r .answer) (r .infinite ∷ []) (o ∷ []) (a ∷ [])
   pub block-fields : {b : List ℕ} {f : ℕ} {r : FieldsRead} → Extracted b f r → Silent (r .answer) (numbersOf (r .fields)) [] []
-  pub write-block : {f : Fields} {o a : List ℕ} {r : ℕ} → writer.Written f o r a → Silent r [] (o ∷ []) (a ∷ [])
+  pub write-block : {f : Fields} {o a : List ℕ} {r : ℕ} → writer.BlockWritten f o r a → Silent r [] (o ∷ []) (a ∷ [])
   pub fields-pixels : {f : Fields} {o a : List ℕ} {r : ℕ} → FieldsShown f o r a → Silent r [] (o ∷ []) (a ∷ [])
-  pub record-at : {s : List ℕ} {n : ℕ} {r : RecordReading} → records.Read s n r → Silent (records.numberOf r) (records.valuesOf r) [] []
+  pub record-at : {s : List ℕ} {n : ℕ} {r : RecordReading} → records.Read s n r → Silent (records.readingNumber r) (records.valuesOf r) [] []
   pub record-block : (s : List ℕ) (n : ℕ) → Silent (records.recordRefusal s n) (records.partAt (records.recordRefusal s n) s n) [] []
   pub twin-list : {s m a : List ℕ} {r : TwinList} → Listed s m r a → Silent (r .answer) (r .kept ∷ r .twins ∷ r .bad ∷ []) (m ∷ []) (a ∷ [])
   pub twin-list-in : {s m w a b : List ℕ} {r : TwinList} → ListedIn s m w r a b → Silent (r .answer) (r .kept ∷ r .twins ∷ r .bad ∷ []) (m ∷ w ∷ []) (a ∷ b ∷ [])
@@ -70,7 +70,7 @@ pub record Demand1 : Type 0 where
   pub clean-store : {s o a : List ℕ} {r : Cleaned} → CleanedInto s o r a → Silent (r .answer) (r .kept ∷ r .removed ∷ []) (o ∷ []) (a ∷ [])
   pub clean-with-receipt : {s o p a w : List ℕ} {r : Cleaned} → ReceiptInto s o p r a w → Silent (r .answer) (r .kept ∷ r .removed ∷ []) (o ∷ p ∷ []) (a ∷ w ∷ [])
   pub restore-store : {c p o a : List ℕ} {r : Restored} → RestoredInto c p o r a → Silent (r .answer) (r .records ∷ []) (o ∷ []) (a ∷ [])
-  pub placed-record-at : {s : List ℕ} {n : ℕ} {r : PlacedReading} → placed.PlacedRead s n r → Silent (placed.numberOf r) (placed.valuesOf r) [] []
+  pub placed-record-at : {s : List ℕ} {n : ℕ} {r : PlacedReading} → placed.PlacedRead s n r → Silent (placed.placedNumber r) (placed.valuesOf r) [] []
   pub placed-record-block : (s : List ℕ) (n : ℕ) → Silent (placed.placedRefusal s n) (placed.placedPart (placed.placedRefusal s n) s n) [] []
   pub place-store : (s : List ℕ) {o a : List ℕ} {r : Moved} → PlacedStore s o r a → Silent (r .answer) (r .records ∷ []) (o ∷ []) (a ∷ [])
   pub unplace-store : (s : List ℕ) {o a : List ℕ} {r : Moved} → UnplacedStore s o r a → Silent (r .answer) (r .records ∷ []) (o ∷ []) (a ∷ [])

@@ -12,7 +12,7 @@ use Rattle.laws.proofs.Rows.{made-same}
 use Rattle.pfm_floats.specs.declared.Rgb.{Rgb}
 use Rattle.pfm_floats.specs.Bytes.{rgbBytes}
 use Rattle.pfm_header.specs.Header.{headerOf, headerLength}
-use Rattle.pfm_header.specs.Header.{Written as HeaderWritten}
+use Rattle.pfm_header.specs.Header.{HeaderPut as HeaderWritten}
 use Rattle.pfm_header.proofs.Text.{length-header, places-small}
 use Rattle.pfm.specs.File.{colourAt, pixelBytes}
 use Rattle.pfm.proofs.Bands.{length-pixel}

@@ -25,7 +25,7 @@ def word_at(data, at):
 
 
 def header_fault(data):
-    """Why a header is none of ours, in words: the first of the tests of T-09 that it fails. The proved program decides; this only tells."""
+    """Why a header is none of ours, in words: the first of the tests of S-61 that it fails. The proved program decides; this only tells."""
     if data[:4] != b"DDS ":
         return "it does not begin with 'DDS ', as a DDS file does"
     if len(data) < HEADER and data[84:88] in (b"DX10", b""):

@@ -7,13 +7,12 @@ use native.Mathlib.Nat.{mod-lt}
 use native.Mathlib.Omega.{arith}
 use borrow.Author.Tests.{le-leb, lt-leb}
 use lib.Dec.{eqb, lit<, lit≤}
-use lib.ListN.{length, getD, drop, length-append, length-drop, List·getD-append}
-use lib.Seq.{getD-drop}
+use lib.ListN.{getD, drop}
 use Rattle.laws.specs.Pick.{pick}
 use Rattle.laws.specs.Bit.{bit}
 use Rattle.laws.specs.Made.{made, countOf}
 use Rattle.laws.specs.Ranges.{InBits}
-use Rattle.laws.proofs.Rows.{made-same, getD-made, length-made}
+use Rattle.laws.proofs.Rows.{made-same}
 use Rattle.bc6h_spec.specs.declared.Fields.{Fields}
 use Rattle.bc6h_spec.specs.Layout.{row, twoRegions, precision, ownWidth, transformed}
 use Rattle.bcn_spec.specs.Regions.{mapOf, fixupOf}
@@ -26,7 +25,7 @@ use Rattle.bc6h_spec.specs.Picture.{firstEnd, otherEnd, endpoint, weights, betw
 use Rattle.bc6h_spec.proofs.Ranges.{unquantized-in}
 use Rattle.bc6h_spec.proofs.Reading.{at-endpoint, at-index, read-valid}
 use Rattle.bc6h_spec.proofs.Modes.{mode-range}
-use Rattle.bc6h_spec.proofs.Widths.{Mode, known, mode-facts, first-fits, other-fits}
+use Rattle.bc6h_spec.proofs.Widths.{known}
 use Rattle.bc6h_spec.proofs.Shown.{endpoint-in, unsigned-finite}
 use Rattle.bc6h_spec.proofs.Finite.{narrow-finite}
 use Rattle.bcn_data.specs.declared.Subset2Map.{Subset2Map}

@@ -1,7 +1,7 @@
 -- The call over a run of blocks: its refusals, its one outcome, and what a caller learns from it. Assumes nothing.
 use mathlib.Core.Path.{_≡_, _∙_, refl, sym, ap}
-use mathlib.Core.List.{List, _++_}
-use Prim.Native.Nat.{ℕ, zero, suc, _*_, _/_, _%_, _≤_, _<_}
+use mathlib.Core.List.{List}
+use Prim.Native.Nat.{ℕ, suc, _*_, _/_, _%_, _≤_, _<_}
 use lib.ListN.{length, take, drop}
 use lib.Seq.{take-at}
 use borrow.Author.Tests.{lt-ltb, le-ltb, eq-eqb, ne-eqb}
@@ -15,7 +15,7 @@ use Rattle.bc6.specs.Call.{refusalOf, Painted}
 use Rattle.bc6.proofs.Calls.{written}
 use Rattle.bc6_blocks.specs.declared.BlocksPixels.{BlocksPixels}
 use Rattle.bcn_spec.specs.Bits.{blocksIn, blockAt}
-use Rattle.bc6_blocks.specs.Run.{shownAt, runOf, runRefusal, runAnswer, runValues, RunWritten, RunPainted}
+use Rattle.bc6_blocks.specs.Run.{shownAt, runRefusal, RunWritten, RunPainted}
 use Rattle.bc6_blocks.proofs.Runs.{run-at, run-infinities}
 
 -- ---- the checks

@@ -1,7 +1,7 @@
 -- The values of a run of blocks, block by block. Assumes nothing.
 use mathlib.Core.Path.{_≡_, _∙_, refl, sym, ap, ap₂}
 use mathlib.Core.Bool.{Bool}
-use mathlib.Core.List.{List, [], _∷_, _++_, append-nil, append-assoc}
+use mathlib.Core.List.{List, [], _++_, append-nil, append-assoc}
 use mathlib.Core.Logic.{⊎-elim}
 use Prim.Native.Nat.{ℕ, zero, suc, _+_, _-_, _*_, _≤_, _<_}
 use native.Mathlib.Nat.{le-of-suc-le-suc, not-suc-le-zero, eq-or-lt-of-le}
@@ -9,7 +9,7 @@ use native.Mathlib.Numerals.{add-one}
 use native.Mathlib.Omega.{arith}
 use lib.ListN.{length, take, drop, length-append, length-drop, drop-of-length-le}
 use lib.Seq.{take-all, take-at, drop-at, drop-drop}
-use borrow.Rule.Slice.PartMut.{midOf, putMid, post-is}
+use borrow.Rule.Slice.PartMut.{midOf, putMid}
 use Rattle.laws.specs.Made.{made, countOf, total}
 use Rattle.laws.proofs.Rows.{join-last, count-le}
 use Rattle.laws.proofs.Counts.{count-append, count-join}

@@ -4,7 +4,7 @@ use mathlib.Core.Bool.{Bool, not}
 use mathlib.Core.List.{List, [], _∷_, _++_}
 use Prim.Native.Nat.{ℕ, zero, suc, _*_, _/_, _%_}
 use lib.Dec.{eqb, ltb}
-use lib.ListN.{length, take, drop}
+use lib.ListN.{length, drop}
 use Rattle.laws.specs.Checks.{firstMet}
 use Rattle.laws.specs.Made.{made, countOf, join}
 use Rattle.bcn_spec.specs.Answers.{done, badFormat, shortOutput, unevenBlocks}

@@ -8,7 +8,7 @@ use lib.IntN.{ℤ, pos, negsuc, negℤ, natAbs}
 use lib.Signed.{nonNeg, ltZ, leZ}
 use mir.Syntax.{w32}
 use mir.Val.{ofZ}
-use borrow.Author.Tests.{ltb-true, le-leb, lt-leb, eq-eqb, ne-eqb}
+use borrow.Author.Tests.{ltb-true, le-leb, ne-eqb}
 use Rattle.bc6h_spec.specs.Half.{withSign, unquantizeU, unquantizeM}
 
 -- ---- what a test on ℤ tells of a magnitude

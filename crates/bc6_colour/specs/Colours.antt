@@ -1,6 +1,5 @@
 -- S-17 to S-20: an endpoint as a colour. Assumes nothing.
 use mathlib.Core.Bool.{Bool}
-use mathlib.Core.List.{List}
 use Prim.Native.Nat.{ℕ}
 use Rattle.laws.specs.Ranges.{InBits}
 use Rattle.bc6h_spec.specs.declared.Fields.{Fields}

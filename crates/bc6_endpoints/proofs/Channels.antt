@@ -1,15 +1,15 @@
 -- What the calls on a channel's numbers ask, and what they give. Assumes nothing.
-use mathlib.Core.Path.{_≡_, _∙_, refl, sym, ap, subst}
+use mathlib.Core.Path.{_≡_, _∙_, sym, ap, subst}
 use mathlib.Core.Bool.{Bool, true, false}
 use mathlib.Core.List.{List, [], _∷_}
 use Prim.Native.Nat.{ℕ, _^_, _≤_, _<_}
 use native.Mathlib.Omega.{arith}
 use lib.Dec.{lit<, lit≤}
-use lib.IntN.{ℤ, pos, natAbs, _+ℤ_}
+use lib.IntN.{ℤ, pos, natAbs}
 use lib.Pow.{pow-mono, pow-pos}
-use lib.Signed.{mag, nonNeg, pos-natAbs}
+use lib.Signed.{mag, pos-natAbs}
 use mir.Syntax.{w32}
-use mir.Val.{SFits, toZ, ofZ}
+use mir.Val.{toZ, ofZ}
 use mir.ValLaws.{toZ-ofZ}
 use Rattle.laws.specs.Ranges.{Below, Within, InBits}
 use Rattle.laws.proofs.Num.{abs-below, read}
@@ -17,7 +17,7 @@ use Rattle.laws.proofs.Below.{below-four}
 use Rattle.bc6h_spec.specs.Half.{signExtend, transform, unquantized, unquantizeU}
 use Rattle.bc6h_spec.specs.Picture.{delta}
 use Rattle.bc6h_spec.proofs.Ranges.{delta-within, transformed-in}
-use Rattle.bc6_endpoints.specs.Ends.{wholeOf, movedOf, endOf, endFrom, endAt, storedIn, Narrow, Apart, Channel, ChannelEnds, Whole, WholeEnds}
+use Rattle.bc6_endpoints.specs.Ends.{wholeOf, movedOf, endOf, endFrom, endAt, storedIn, Apart, Channel, ChannelEnds, Whole, WholeEnds}
 use Rattle.bc6_endpoints.proofs.Adding.{moved-is, unmoved, from-zero}
 
 -- ---- numbers of a few bits

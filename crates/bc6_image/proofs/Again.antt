@@ -1,19 +1,18 @@
 -- A face of 1 by n blocks with a pitch of 12 is the run of the n blocks. Assumes nothing.
-use mathlib.Core.Path.{_≡_, _∙_, refl, sym, ap}
+use mathlib.Core.Path.{_≡_, _∙_, sym, ap}
 use mathlib.Core.Bool.{Bool, false}
 use mathlib.Core.List.{List, _++_}
 use Prim.Native.Nat.{ℕ, _+_, _-_, _*_, _/_, _%_, _≤_, _<_}
 use native.Mathlib.Omega.{arith}
 use lib.Dec.{ltb}
-use lib.ListN.{length, getD, take, drop, length-append, length-drop}
+use lib.ListN.{length, getD, drop, length-append, length-drop}
 use lib.Seq.{getD-take, getD-drop, getD-append-add}
 use borrow.Author.Tests.{lt-ltb, ltb-true, ltb-false}
 use Rattle.laws.proofs.Tests.{cases}
 use Rattle.bcn_spec.specs.Answers.{done}
 use Rattle.bc6h_spec.specs.Picture.{isSigned}
-use Rattle.bc6h_spec.specs.Block.{pixelsOf}
 use Rattle.bc6_blocks.specs.declared.BlocksPixels.{BlocksPixels}
-use Rattle.bcn_spec.specs.Bits.{blocksIn, blockAt}
+use Rattle.bcn_spec.specs.Bits.{blocksIn}
 use Rattle.bc6_blocks.specs.Run.{shownAt, runOf, runRefusal, RunPainted}
 use Rattle.bc6_blocks.proofs.Runs.{length-run, run-at}
 use Rattle.bc6_blocks.proofs.Calls.{done-when}

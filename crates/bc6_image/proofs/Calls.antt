@@ -6,10 +6,9 @@ use Prim.Native.Nat.{ℕ, zero, suc, _+_, _-_, _*_, _/_, _%_, _≤_, _<_}
 use native.Mathlib.Nat.{zero-mul, mul-add, mul-comm, mul-le-mul-left, mul-mod-right, mul-div-right, div-add-mod, le-div-iff-mul-le}
 use native.Mathlib.Omega.{arith}
 use lib.Dec.{eqb, leb, ltb}
-use lib.ListN.{length, getD, take, drop, List·getD-append}
+use lib.ListN.{length, getD, drop, List·getD-append}
 use lib.Seq.{getD-take, getD-drop}
 use borrow.Author.Tests.{lt-ltb, le-ltb, le-leb, lt-leb, eq-eqb, ne-eqb, ltb-true, ltb-false, leb-true, eqb-true, eqb-false, not-false}
-use Rattle.laws.specs.Pick.{pick, both}
 use Rattle.laws.specs.Checks.{firstMet}
 use Rattle.laws.proofs.Checks.{none-met}
 use Rattle.laws.proofs.Tests.{cases, both-true}
@@ -25,7 +24,7 @@ use Rattle.bc6_blocks.specs.declared.BlocksPixels.{BlocksPixels}
 use Rattle.bc6_blocks.specs.Run.{runRefusal, runAnswer, RunPainted}
 use Rattle.bc6_blocks.proofs.Calls.{block-by-block}
 use Rattle.bc6_image.specs.declared.FacePixels.{FacePixels}
-use Rattle.bc6_image.specs.Face.{lanes, opaque, laneOf, laneAt, rowSize, FaceShown, faceIn, roomy, faceRefusal, faceAnswer, faceValues, ImagePainted}
+use Rattle.bc6_image.specs.Face.{lanes, opaque, laneOf, laneAt, rowSize, FaceShown, faceIn, roomy, faceRefusal, faceAnswer, ImagePainted}
 use Rattle.bc6_image.specs.Stores.{FaceWritten, Fitting}
 use Rattle.bc6_image.proofs.Places.{lanes-low, put-shown, shown-is, is-shown}
 
@@ -176,13 +175,6 @@ module _ {alpha : Bool} {blocks : List ℕ} {width height format : ℕ} {out : L
     (p : ImagePainted alpha blocks width height format out pitch r after) where
   pub one-outcome : {s : FacePixels} {other : List ℕ} → ImagePainted alpha blocks width height format out pitch s other → (r ≡ s) × (after ≡ other)
   one-outcome q = (p .answers ∙ sym (q .answers), p .holds ∙ sym (q .holds))
-
-  pub answer-is : r .answer ≡ faceRefusal alpha (length blocks) format width height pitch (length out)
-  answer-is = ap (λ (x : FacePixels). x .answer) (p .answers) ∙ by-number (faceRefusal alpha (length blocks) format width height pitch (length out))
-    where
-      by-number : (k : ℕ) → faceAnswer k blocks format .answer ≡ k
-      by-number zero = refl
-      by-number (suc k) = refl
 
   -- a refusal leaves every lent value as it was, and counts none
   pub silent : {n : ℕ} → faceRefusal alpha (length blocks) format width height pitch (length out) ≡ suc n → (after ≡ out) × (r .infinite ≡ 0)

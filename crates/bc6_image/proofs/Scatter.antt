@@ -1,48 +1,24 @@
 -- Lists stored one after the other, each from its own place on: what then stands in a place of one, and in a place of none. Assumes nothing.
 use mathlib.Core.Path.{_≡_, _∙_, refl, sym, ap, ap₂}
-use mathlib.Core.List.{List, [], _∷_, _++_}
+use mathlib.Core.List.{List, [], _∷_}
 use mathlib.Core.Logic.{⊎-elim}
 use Prim.Native.Nat.{ℕ, zero, suc, _+_, _*_, _<_}
 use native.Mathlib.Nat.{add-zero, add-suc, le-of-suc-le-suc, not-suc-le-zero, eq-or-lt-of-le}
 use native.Mathlib.Numerals.{add-one}
 use native.Mathlib.Omega.{arith}
-use lib.ListN.{length, getD, set, length-set}
-use lib.Seq.{sets, length-sets, getD-set-same, getD-set-other}
+use lib.ListN.{length, getD, set}
+use lib.Seq.{sets, length-sets}
 use Rattle.laws.specs.Made.{made, join}
 use Rattle.laws.proofs.Rows.{length-made}
 use Rattle.laws.proofs.Joined.{run-length, run-more}
+use Rattle.laws.proofs.Stores.{sets-append, sets-miss, sets-hit}
 use Rattle.bc6_image.specs.Stores.{scattered}
-
--- ---- one list
-
-sets-miss : (vs l : List ℕ) (at i : ℕ) → ((c : ℕ) → c < length vs → i ≡ at + c → ⊥) → getD (sets l at vs) i 0 ≡ getD l i 0
-sets-miss [] l at i off = refl
-sets-miss (a ∷ vs) l at i off =
-    sets-miss vs (set l at a) (suc at) i (λ c h e. off (suc c) (omega arith) (omega arith))
-    ∙ getD-set-other l at i a 0 (λ e. off 0 (omega arith) (omega arith))
-
-sets-hit : (vs l : List ℕ) (at c : ℕ) → c < length vs → at + c < length l → getD (sets l at vs) (at + c) 0 ≡ getD vs c 0
-sets-hit [] l at c h r = absurd (not-suc-le-zero h)
-sets-hit (a ∷ vs) l at zero h r =
-    sets-miss vs (set l at a) (suc at) (at + 0) (λ c b e. omega arith)
-    ∙ ap (λ (k : ℕ). getD (set l at a) k 0) (add-zero at) ∙ getD-set-same l at a 0 (omega arith)
-sets-hit (a ∷ vs) l at (suc c) h r =
-    let next : at + suc c ≡ suc at + c = omega arith in
-    let long : length (set l at a) ≡ length l = length-set l at a in
-    ap (λ (k : ℕ). getD (sets (set l at a) (suc at) vs) k 0) next ∙ sets-hit vs (set l at a) (suc at) c (omega arith) (omega arith)
-
--- two lists, one behind the other
-sets-append : (a b l : List ℕ) (at : ℕ) → sets l at (a ++ b) ≡ sets (sets l at a) (at + length a) b
-sets-append [] b l at = ap (λ (k : ℕ). sets l k b) (sym (add-zero at))
-sets-append (x ∷ a) b l at =
-    let next : suc at + length a ≡ at + suc (length a) = omega arith in
-    sets-append a b (set l at x) (suc at) ∙ ap (λ (k : ℕ). sets (sets (set l at x) (suc at) a) k b) next
 
 -- one value more
 pub sets-made : (f : ℕ → ℕ) (l : List ℕ) (at n : ℕ) → set (sets l at (made f n)) (at + n) (f n) ≡ sets l at (made f (n + 1))
 unfolding made
 sets-made f l at n =
-    ap (λ (k : ℕ). set (sets l at (made f n)) (at + k) (f n)) (sym (length-made f n)) ∙ sym (sets-append (made f n) (f n ∷ []) l at)
+    ap (λ (k : ℕ). set (sets l at (made f n)) (at + k) (f n)) (sym (length-made f n)) ∙ sets-append (made f n) (f n ∷ []) l at _ refl
     ∙ ap (λ (k : ℕ). sets l at (made f k)) (sym (add-one n))
 
 -- ---- lists of one length, each behind the one before it
@@ -52,7 +28,7 @@ module _ (piece : ℕ → List ℕ) (size : ℕ) (each : (n : ℕ) → length (p
   pub sets-run : (l : List ℕ) (at n : ℕ) → sets (sets l at (join (made piece n))) (at + size * n) (piece n) ≡ sets l at (join (made piece (n + 1)))
   sets-run l at n =
       ap (λ (k : ℕ). sets (sets l at (join (made piece n))) (at + k) (piece n)) (sym (run-length piece size each n))
-      ∙ sym (sets-append (join (made piece n)) (piece n) l at)
+      ∙ sets-append (join (made piece n)) (piece n) l at _ refl
       ∙ ap (sets l at) (sym (run-more piece n))
 
 -- ---- a row of lists

@@ -14,7 +14,7 @@ use Rattle.laws.proofs.Rows.{getD-made, length-made, count-le}
 use Rattle.bc6h_spec.specs.declared.Fields.{Fields}
 use Rattle.bc6h_spec.specs.Layout.{twoRegions}
 use Rattle.bc6h_spec.specs.Regions.{regionOf, region1Of}
-use Rattle.bc6h_spec.specs.Fields.{indexBits, indexOf, Valid}
+use Rattle.bc6h_spec.specs.Fields.{indexOf, Valid}
 use Rattle.bc6_numbers.specs.Numbers.{numberCount, numberAt, numbersOf, byteFrom, endpointFrom, indexFrom, fieldsFrom}
 use Rattle.bc6_numbers.proofs.Record.{at-endpoint, at-index, small-number}
 

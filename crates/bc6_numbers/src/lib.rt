@@ -8,13 +8,7 @@ ghost use Rattle.laws.specs.Made.{made};
 ghost use Rattle.bc6_numbers.specs.Numbers.{numberCount, numberAt, numbersOf, byteFrom, endpointFrom, indexFrom, fieldsFrom};
 
 // How many numbers a record is.
-pub struct Numbers {
-    count: usize,
-}
-
-impl Numbers {
-    pub const COUNT: usize = 32;
-}
+pub const NUMBERS: usize = 32;
 
 // Number k of a field record: format, mode, twelve endpoint values, partition, pixels in region 1, sixteen indices.
 fn number_at(fields: Fields, k: usize) -> u16
@@ -45,7 +39,7 @@ pub fn write_numbers(fields: Fields, numbers: &mut [u16])
     requires { ⌜ numberCount ≤ length (now numbers) ⌝ }
     ensures { λ _. ⌜ now (numbers .exit) ≡ numbersOf fields ++ drop numberCount (now (numbers .entry)) ⌝ }
 {
-    for k in 0..Numbers::COUNT {
+    for k in 0..NUMBERS {
         numbers[k] = number_at(fields, k);
     }
 }
@@ -83,7 +77,7 @@ fn indices_from(numbers: &[u16]) -> [u8; 16]
 pub fn fields_from(numbers: &[u16]) -> Fields
     ensures { λ r. ⌜ r ≡ fieldsFrom (now (numbers .entry)) ⌝ }
 {
-    if numbers.len() != Numbers::COUNT {
+    if numbers.len() != NUMBERS {
         return Fields::none();
     }
     Fields {

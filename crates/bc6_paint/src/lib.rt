@@ -15,8 +15,7 @@ ghost use mathlib.Core.Bool.{true, false};
 ghost use Prim.Native.Nat.{_+_, _/_, _%_, _^_, _≤_, _<_};
 ghost use lib.Dec.{eqb};
 ghost use lib.IntN.{pos};
-ghost use lib.ListN.{length, getD};
-ghost use Rattle.laws.specs.Pick.{pick};
+ghost use lib.ListN.{length};
 ghost use Rattle.laws.specs.Bit.{bit};
 ghost use Rattle.bc6_paint.specs.Values.{digit, oneSecond, oneWeight, twoSecond, twoWeight, maskOf, TurnOf, pointOf, selected, PairStored, PairCounted};
 

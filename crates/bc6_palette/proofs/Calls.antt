@@ -5,17 +5,14 @@ use mathlib.Core.List.{List, _++_}
 use Prim.Native.Nat.{ℕ, _≤_, _<_}
 use lib.ListN.{length, drop}
 use borrow.Author.Tests.{lt-ltb, le-ltb}
-use Rattle.laws.proofs.Search.{is-true}
 use Rattle.laws.proofs.Rows.{length-made}
 use Rattle.bc6h_spec.specs.declared.Fields.{Fields}
 use Rattle.bcn_spec.specs.Answers.{done, badFormat, shortOutput, invalidFields}
-use Rattle.bc6h_spec.specs.Fields.{Valid}
 use Rattle.bc6h_spec.specs.Picture.{valueCount, isSigned, value, pictureAs, picture}
 use Rattle.bc6_half.specs.declared.Half.{Half}
 use Rattle.bc6_valid.specs.Validity.{valid}
-use Rattle.bc6_valid.proofs.Validity.{complete}
 use Rattle.bc6_palette.specs.Triples.{inTriples, flat}
-use Rattle.bc6_palette.specs.Call.{refusalOf, FieldsShown}
+use Rattle.bc6_palette.specs.Call.{FieldsShown}
 use Rattle.bc6_palette.proofs.Flat.{flat-triples}
 
 -- the statement admits one outcome

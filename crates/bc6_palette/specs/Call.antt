@@ -7,7 +7,7 @@ use lib.Dec.{ltb}
 use lib.ListN.{length, drop}
 use Rattle.laws.specs.Checks.{firstMet}
 use Rattle.bc6h_spec.specs.declared.Fields.{Fields}
-use Rattle.bcn_spec.specs.Answers.{done, badFormat, shortOutput, invalidFields}
+use Rattle.bcn_spec.specs.Answers.{badFormat, shortOutput, invalidFields}
 use Rattle.bc6h_spec.specs.Picture.{valueCount, picture}
 use Rattle.bc6_valid.specs.Validity.{valid}
 

@@ -1,5 +1,5 @@
 -- Tables of runs: what can be read of them, and the four numbers that they make. Assumes nothing.
-use mathlib.Core.Path.{_≡_, _∙_, refl, sym, ap, ap₂, subst}
+use mathlib.Core.Path.{_≡_, _∙_, refl, sym, ap, subst}
 use mathlib.Core.Bool.{Bool, true, false}
 use mathlib.Core.List.{List, [], _∷_, _++_}
 use Prim.Native.Nat.{ℕ, zero, suc, zero-le, _+_, _-_, _*_, _/_, _%_, _^_, _<_, _≤_}
@@ -16,7 +16,7 @@ use mir.Val.{SFits, toZ, ofZ}
 use mir.ValLaws.{toZ-ofZ}
 use borrow.Author.Tests.{eq-eqb}
 use Rattle.laws.specs.Pick.{pick}
-use Rattle.laws.specs.Every.{every, below}
+use Rattle.laws.specs.Every.{every}
 use Rattle.laws.proofs.Num.{widened}
 use Rattle.laws.proofs.Tests.{both-left, both-right, below-at}
 use Rattle.bcn_util.specs.Runs.{Run, part, sum, readable, most}

@@ -4,7 +4,7 @@ pub mod one_region;
 
 use bcn_util::BitStream;
 ghost use mathlib.Core.Path.{_≡_};
-ghost use Prim.Native.Nat.{_+_, _*_, _/_, _%_, _^_, _≤_};
+ghost use Prim.Native.Nat.{_+_, _/_, _%_, _^_};
 ghost use lib.Dec.{T};
 ghost use Rattle.bcn_util.specs.Stream.{number};
 ghost use Rattle.bcn_util.specs.Runs.{part, readable};

@@ -1,8 +1,8 @@
 -- The widths of a record's numbers, as the code works them out. Assumes nothing.
-use mathlib.Core.Path.{_≡_, _∙_, refl, sym, ap, subst}
+use mathlib.Core.Path.{_≡_, _∙_, refl, sym, ap}
 use mathlib.Core.Bool.{Bool, true, false}
-use mathlib.Core.List.{List, [], _∷_}
-use Prim.Native.Nat.{ℕ, zero, suc, _+_, _-_, _*_, _/_, _%_, _^_, _≤_, _<_}
+use mathlib.Core.List.{[], _∷_}
+use Prim.Native.Nat.{ℕ, _-_, _*_, _%_, _^_, _≤_, _<_}
 use native.Mathlib.Nat.{one-mul, le-refl}
 use native.Mathlib.Omega.{arith}
 use lib.Dec.{eqb, ltb, lit<, lit≤}
@@ -14,7 +14,7 @@ use Rattle.laws.specs.Bit.{bit}
 use Rattle.laws.specs.Made.{made, countOf}
 use Rattle.laws.proofs.Rows.{made-cong}
 use Rattle.bc6h_spec.specs.Layout.{ownWidth, width, twoRegions}
-use Rattle.bcn_spec.specs.Regions.{mapOf, fixupOf}
+use Rattle.bcn_spec.specs.Regions.{fixupOf}
 use Rattle.bc6h_spec.specs.Regions.{regionOf, region1Of}
 use Rattle.bcn_spec.specs.Indices.{has, storedBits}
 use Rattle.bc6h_spec.specs.Fields.{indexBits, fixups}

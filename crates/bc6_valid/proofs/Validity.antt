@@ -1,5 +1,5 @@
 -- The test `valid` holds of the records that `Valid` admits, and of no other. Assumes nothing.
-use mathlib.Core.Path.{_≡_, refl, sym, ap, subst}
+use mathlib.Core.Path.{_≡_, sym, subst}
 use mathlib.Core.Bool.{false}
 use Prim.Native.Nat.{ℕ, _+_, _-_, _*_, _/_, _%_, _^_, _≤_, _<_}
 use native.Mathlib.Nat.{lt-of-lt-of-le}
@@ -8,7 +8,6 @@ use lib.Dec.{T, eqb, leb, ltb, eqb→eq, leb→le, ltb→lt, le→leb, lt→ltb,
 use lib.ListN.{length, getD}
 use lib.Pow.{pow-mono}
 use borrow.Author.Tests.{eq-eqb}
-use Rattle.laws.specs.Pick.{both}
 use Rattle.laws.specs.Every.{below}
 use Rattle.laws.proofs.Tests.{picks, below-at, both-left, both-right}
 use Rattle.laws.proofs.Search.{holds, both-hold}

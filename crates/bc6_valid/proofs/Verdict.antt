@@ -17,7 +17,7 @@ use Rattle.bc6_valid.specs.Validity.{endpointFits, indexFits, valid}
 use Rattle.bc6_valid.specs.Sizes.{secondFixup, sizeAt}
 use Rattle.laws.proofs.Below.{below-all}
 use Rattle.bc6_valid.proofs.Sizes.{stored-size}
-use Rattle.bc6_valid.proofs.Validity.{sound, each-end, part-fits, each-index}
+use Rattle.bc6_valid.proofs.Validity.{sound, each-end, part-fits}
 
 module _ (f : Fields) where
   -- ---- one number

@@ -1,8 +1,8 @@
 -- The block's two words, and its bytes. Assumes nothing.
 use mathlib.Core.Path.{_≡_, _∙_, refl, sym, ap, ap₂, subst}
-use mathlib.Core.List.{List, [], _∷_}
+use mathlib.Core.List.{List, _∷_}
 use Prim.Native.Nat.{ℕ, zero, suc, _+_, _-_, _*_, _/_, _%_, _^_, _≤_, _<_}
-use native.Mathlib.Nat.{mul-assoc, mul-comm, add-comm, div-one, pow-suc, add-mul-div-left, add-mul-mod-self-left}
+use native.Mathlib.Nat.{mul-assoc, mul-comm, add-comm, add-mul-div-left, add-mul-mod-self-left}
 use native.Mathlib.Omega.{arith}
 use lib.Arith.{digits-lt}
 use lib.Pow.{pow-add, pow-pos, shr-shr, high, shl-exact, shr-lt}

@@ -1,12 +1,12 @@
 -- The indices, pixel by pixel, each behind those before it. Assumes nothing.
 use mathlib.Core.Path.{_≡_, _∙_, refl, sym, ap, subst}
-use Prim.Native.Nat.{ℕ, suc, _+_, _-_, _*_, _/_, _%_, _^_, _≤_, _<_}
+use Prim.Native.Nat.{ℕ, suc, _+_, _-_, _*_, _%_, _^_, _≤_, _<_}
 use native.Mathlib.Nat.{lt-of-lt-of-le}
 use native.Mathlib.Numerals.{add-one}
 use native.Mathlib.Decide.{decLt}
 use native.Mathlib.Omega.{arith}
 use lib.Dec.{lit≤}
-use lib.ListN.{length, getD, List·getD-eq-default}
+use lib.ListN.{List·getD-eq-default}
 use lib.Pow.{pow-pos, pow-mono, shl-exact}
 use Rattle.laws.specs.Packed.{before, packed}
 use Rattle.laws.proofs.Packing.{packed-lt}

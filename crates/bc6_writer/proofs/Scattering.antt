@@ -1,13 +1,12 @@
 -- The bits before the indices: code by code from the last, and by two words. Assumes nothing.
 use mathlib.Core.Path.{_≡_, _∙_, refl, sym, ap, ap₂, subst}
-use mathlib.Core.Bool.{Bool, true, false}
 use mathlib.Core.List.{List, [], _∷_}
 use Prim.Native.Nat.{ℕ, zero, suc, zero-le, suc-le-suc, _+_, _-_, _*_, _/_, _%_, _^_, _≤_, _<_}
 use native.Mathlib.Nat.{mul-assoc, mul-comm, pow-suc, one-mul, not-suc-le-zero, le-of-suc-le-suc, lt-of-lt-of-le}
 use native.Mathlib.Omega.{arith}
 use lib.Dec.{T, eqb, leb, eqb→eq, lit≤}
 use lib.ListN.{length, getD, take, drop, length-drop}
-use lib.Pow.{pow-mono, shr-lt}
+use lib.Pow.{pow-mono}
 use lib.Seq.{ext-getD, getD-take, getD-drop, length-take-le, take-all, drop-cons, drop-length}
 use borrow.Author.Tests.{le-leb, lt-leb, eq-eqb, ne-eqb}
 use Rattle.laws.specs.Pick.{pick}

@@ -7,7 +7,7 @@ use lib.Dec.{eqb, ltb}
 use lib.ListN.{length}
 use Rattle.laws.specs.Checks.{firstMet}
 use Rattle.bc6h_spec.specs.declared.Fields.{Fields}
-use Rattle.bcn_spec.specs.Answers.{done, badFormat, invalidFields, badBuffer}
+use Rattle.bcn_spec.specs.Answers.{badFormat, invalidFields, badBuffer}
 use Rattle.bcn_spec.specs.Bits.{blockSize}
 use Rattle.bc6h_spec.specs.Writer.{writtenBlock}
 use Rattle.bc6_valid.specs.Validity.{valid}

@@ -2,7 +2,7 @@
 use mathlib.Core.Path.{_≡_, subst}
 use mathlib.Core.Logic.{⊎-elim}
 use mathlib.Core.Bool.{true}
-use Prim.Native.Nat.{ℕ, zero, suc, _+_, _*_, _/_, _%_, _≤_, _<_}
+use Prim.Native.Nat.{ℕ, zero, suc, _%_, _≤_, _<_}
 use native.Mathlib.Omega.{arith}
 use lib.Arith.{lt-of-le-ne}
 use lib.IntN.{ℤ, pos, negsuc, natAbs}
@@ -15,7 +15,7 @@ use Rattle.bc6h_spec.specs.Fields.{Valid}
 use Rattle.bc6h_spec.specs.Half.{withSign, unquantizeM, unquantized, highestPattern, minusInfinity}
 use Rattle.bc6h_spec.specs.Picture.{value, valueCount, pictureAs}
 use Rattle.bc6h_spec.proofs.Ranges.{uM-le, Span, interpolated-span}
-use Rattle.bc6h_spec.proofs.Widths.{Mode, known}
+use Rattle.bc6h_spec.proofs.Widths.{known}
 use Rattle.bc6h_spec.proofs.Shown.{weight-below, value-signed}
 
 -- −32767 ≤ z ≤ 32767: all numbers of 16 bits but −32768

@@ -1,16 +1,14 @@
 -- The highest pattern, 0x7BFF in both formats, with its one exception. Assumes nothing.
-use mathlib.Core.Path.{_≡_, refl, sym, ap, subst, _∙_}
+use mathlib.Core.Path.{_≡_, refl, sym, ap, _∙_}
 use mathlib.Core.Bool.{Bool, true, false}
-use Prim.Native.Nat.{ℕ, zero, suc, _+_, _-_, _*_, _/_, _%_, _^_, _<_, _≤_}
-use native.Mathlib.Nat.{mod-eq-of-lt}
+use Prim.Native.Nat.{ℕ, zero, suc, _-_, _*_, _/_, _%_, _<_, _≤_}
 use native.Mathlib.Omega.{arith}
 use lib.Arith.{lt-of-le-ne}
 use native.Mathlib.Decide.{ℕ-discrete}
-use lib.Dec.{T, eqb}
+use lib.Dec.{eqb}
 use lib.IntN.{ℤ, pos, negsuc, negℤ, natAbs, ℤ-discrete}
-use lib.Signed.{mag, nonNeg}
+use lib.Signed.{mag}
 use borrow.Author.Tests.{ne-eqb}
-use Rattle.laws.specs.Pick.{pick}
 use Rattle.laws.specs.Ranges.{InBits}
 use Rattle.laws.proofs.Num.{abs-below}
 use Rattle.bc6h_spec.specs.Half.{withSign, highestPattern, minusInfinity, finishU, scaled, pattern, finishS, finished, isLowest}
@@ -89,8 +87,3 @@ pub no-minus-zero : (s : Bool) (x : ℤ) → InBits s 16 x → finished s x ≡ 
 unfolding finished finishS scaled
 no-minus-zero true x r e = pattern-not (withSign x (31 * natAbs x / 32)) (rw (small (31 * natAbs x / 32) x) (mag-abs x (r .inside))) e
 no-minus-zero false x r e = let h : finished false x ≤ highestPattern = unsigned-top x r in omega (arith, h, e)
-
--- −1 gives 0x0000
-pub minus-one : finished true (negsuc 0) ≡ 0
-unfolding finished finishS scaled
-minus-one = refl

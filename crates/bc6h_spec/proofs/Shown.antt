@@ -1,19 +1,19 @@
 -- The range of what a valid record shows. Assumes nothing.
-use mathlib.Core.Path.{_≡_, refl, sym, ap, _∙_, subst}
+use mathlib.Core.Path.{_≡_, refl, sym, ap, _∙_}
 use mathlib.Core.Logic.{_⊎_, inl, inr}
 use mathlib.Core.Bool.{Bool, true, false}
-use mathlib.Core.List.{List, [], _∷_}
-use Prim.Native.Nat.{ℕ, zero, suc, _+_, _-_, _*_, _/_, _%_, _^_, _≤_, _<_}
+use mathlib.Core.List.{List}
+use Prim.Native.Nat.{ℕ, _+_, _-_, _*_, _/_, _%_, _^_, _≤_, _<_}
 use native.Mathlib.Nat.{mod-lt}
 use native.Mathlib.Decide.{ℕ-discrete, decLt}
 use native.Mathlib.Omega.{arith}
-use lib.Dec.{T, leb, eqb, leb→le, lit<, lit≤}
+use lib.Dec.{T, leb, leb→le, lit<, lit≤}
 use lib.IntN.{ℤ, pos, negsuc, ℤ-discrete}
 use lib.ListN.{length, getD, List·getD-eq-default}
 use borrow.Author.Tests.{ne-eqb}
 use Rattle.laws.specs.Pick.{pick}
 use Rattle.laws.specs.Every.{below}
-use Rattle.laws.specs.Made.{made, countOf}
+use Rattle.laws.specs.Made.{countOf}
 use Rattle.laws.specs.Ranges.{Below, InBits}
 use Rattle.laws.proofs.Tests.{below-at}
 use Rattle.laws.proofs.Counts.{count-never}
@@ -24,10 +24,10 @@ use Rattle.bc6h_spec.specs.Regions.{regionOf}
 use Rattle.bc6h_spec.specs.Fields.{stored, indexOf, Valid}
 use Rattle.bc6h_spec.specs.Half.{unquantized, interpolated, highestPattern, minusInfinity, finished}
 use Rattle.bcn_spec.specs.Weights.{weights8, weights16}
-use Rattle.bc6h_spec.specs.Picture.{firstEnd, otherEnd, endpoint, weights, between, palette, value, valueCount, pictureAs}
+use Rattle.bc6h_spec.specs.Picture.{firstEnd, endpoint, weights, between, palette, value, valueCount, pictureAs}
 use Rattle.bc6h_spec.proofs.Ranges.{first-in, other-in, unquantized-in, interpolated-in}
 use Rattle.bc6h_spec.proofs.Highest.{unsigned-top, signed-top, exception, no-minus-zero}
-use Rattle.bc6h_spec.proofs.Widths.{Mode, known, first-fits, other-fits}
+use Rattle.bc6h_spec.proofs.Widths.{known, first-fits, other-fits}
 
 -- ---- weights
 

@@ -9,7 +9,7 @@ use Rattle.laws.specs.Made.{made}
 use Rattle.laws.specs.First.{firstBelow}
 use Rattle.laws.specs.Packed.{before, unpacked}
 use Rattle.bcn_spec.specs.Answers.{done}
-use Rattle.bcn_spec.specs.Rows.{partitionSet3, fixupsOf, regionOf}
+use Rattle.bcn_spec.specs.Rows.{partitionSet3, fixupsOf, rowRegion}
 use Rattle.bc7_spec.specs.Modes.{modes, modeAt}
 use Rattle.bc7_spec.specs.Layout.{runBits, runIn}
 use Rattle.bc7_spec.specs.Fields.{modeIn, modeOf, partitionIn, rotationIn, selectionIn, storedIn, pbitIn, firstIndexIn, secondIndexIn}
@@ -24,7 +24,7 @@ use Rattle.bc7.proofs.Calls.{done-when, answered, written}
 -- ---- what a block shows: red of the first pixel and of the last
 
 C9-red : (getD (bytesOf C9) 0 0 ≡ 0) × (getD (bytesOf C9) 60 0 ≡ 255)
-unfolding made firstBelow before unpacked partitionSet3 regionOf fixupsOf modes modeAt runBits runIn
+unfolding made firstBelow before unpacked partitionSet3 rowRegion fixupsOf modes modeAt runBits runIn
     modeIn modeOf partitionIn rotationIn selectionIn storedIn pbitIn firstIndexIn secondIndexIn
     lowered widened weightOf bySecond between turned endIn weightIn valueIn byteIn bytesOf
 C9-red = (refl, refl)

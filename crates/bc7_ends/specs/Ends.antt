@@ -1,4 +1,4 @@
--- S-69: the endpoints of a tile as bytes. Assumes nothing.
+-- S-69: the endpoints of a block as bytes. Assumes nothing.
 use mathlib.Core.Path.{_≡_}
 use mathlib.Core.List.{List, [], _∷_, _++_}
 use Prim.Native.Nat.{ℕ, _+_, _*_, _/_, _%_, _^_, _<_, _≤_}

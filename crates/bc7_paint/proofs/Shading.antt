@@ -1,4 +1,4 @@
--- A tile's bytes, one law for each step of the painters. Assumes nothing.
+-- A block's bytes, one law for each step of the painters. Assumes nothing.
 use mathlib.Core.Path.{_≡_, _∙_, refl, sym, ap, ap₂}
 use mathlib.Core.Bool.{Bool, true, false}
 use mathlib.Core.List.{List, _++_}
@@ -110,7 +110,7 @@ module _ (ends : List ℕ) (ones twos rotation : ℕ) (colours alphas : List ℕ
       let m : (4 * k + c) % 4 ≡ c = omega arith in
       sym (ap₂ (λ (p q : ℕ). channelAt ends ones twos colours alphas p (turned rotation q)) d m)
 
--- a tile of one index set, from what `shade` answers and the tests of the two maps
+-- a block of one index set, from what `shade` answers and the tests of the two maps
 one-weight : (alpha : Bool) (w : ℕ) → w ≡ pick alpha w w
 one-weight true w = refl
 one-weight false w = refl
@@ -124,7 +124,7 @@ module _ (ends : List ℕ) (ones twos : ℕ) (weights : List ℕ) (k : ℕ) wher
       ∙ byte-of ends ones twos 0 weights weights k c h
       ∙ ap (byteAt ends ones twos 0 weights weights) n
 
--- a tile of one region
+-- a block of one region
 pub solo-byte : (ends : List ℕ) (rotation : ℕ) (colours alphas : List ℕ) (k c : ℕ) → c < 4
     → soloAt ends rotation (getD colours k 0) (getD alphas k 0) c ≡ byteAt ends 0 0 rotation colours alphas (4 * k + c)
 unfolding soloAt channelAt

@@ -1,5 +1,4 @@
--- S-69 to S-71: what a tile's bytes are, from its endpoints, its regions and its weights. Assumes nothing.
-use mathlib.Core.Path.{_≡_}
+-- S-69 to S-71: what a block's bytes are, from its endpoints, its regions and its weights. Assumes nothing.
 use mathlib.Core.Bool.{Bool}
 use mathlib.Core.List.{List}
 use Prim.Native.Nat.{ℕ, _+_, _*_, _/_, _%_, _<_, _≤_}
@@ -46,7 +45,7 @@ pub record Paintable (ends colours alphas : List ℕ) (rotation : ℕ) (out : Li
 abbrev pub turnedTo : ℕ → ℕ → ℕ → ℕ → ℕ → ℕ
 turnedTo rotation r g b a = pick (eqb rotation 3) b (pick (eqb rotation 2) g (pick (eqb rotation 1) r a))
 
--- byte c of a pixel in a tile of one region, from its weight and that of its alpha
+-- byte c of a pixel in a block of one region, from its weight and that of its alpha
 unfoldable pub soloAt : List ℕ → ℕ → ℕ → ℕ → ℕ → ℕ
 soloAt ends rotation colour alpha c = shadeAt ends (turned rotation c) 0 (pick (eqb (turned rotation c) 3) alpha colour)
 

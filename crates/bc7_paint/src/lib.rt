@@ -1,4 +1,4 @@
-// The 64 bytes of a tile, each worked out from its endpoints and its weight: no palette.
+// The 64 bytes of a block, each worked out from its endpoints and its weight: no palette.
 //
 // The endpoints stand one after the other, red, green, blue, alpha of each: channel c of endpoint e is ends[4 * e + c].
 ghost use mathlib.Core.Path.{_≡_};
@@ -10,7 +10,6 @@ ghost use Rattle.laws.specs.Pick.{pick};
 ghost use Rattle.laws.specs.Bit.{bit};
 ghost use Rattle.laws.specs.Made.{made};
 ghost use Rattle.laws.specs.Ranges.{AllBelow};
-ghost use Rattle.bc7_spec.specs.Bytes.{turned};
 ghost use Rattle.bc7_spec.specs.Bytes as spec;
 ghost use Rattle.bc7_paint.specs.Shades.{regionBy, shadeAt, byteAt, turnedTo, soloAt, put, Paintable};
 
@@ -63,7 +62,7 @@ fn fourth(rotation: u32, r: u8, g: u8, b: u8, a: u8) -> u8
     )
 }
 
-// A tile of two or three regions: two pixels a turn, k and l. `ones` and `twos` are the maps of regions 1 and 2. (What is left of the
+// A block of two or three regions: two pixels a turn, k and l. `ones` and `twos` are the maps of regions 1 and 2. (What is left of the
 // maps is carried from turn to turn, which keeps the compiler from working out a channel of all sixteen pixels at a time, whose
 // vectors would go to the stack; of a turn it makes one vector, the eight bytes in the order in which they stand.)
 pub fn paint_regions(ends: [u16; 24], ones: u16, twos: u16, weights: [u16; 16], out: &mut [u8])
@@ -96,7 +95,7 @@ pub fn paint_regions(ends: [u16; 24], ones: u16, twos: u16, weights: [u16; 16], 
     }
 }
 
-// The bytes of pixel k in a tile of one region, from its weights: alpha has one of its own, and channels may be turned.
+// The bytes of pixel k in a block of one region, from its weights: alpha has one of its own, and channels may be turned.
 fn paint_pixel(ends: [u16; 24], rotation: u32, colour: u16, alpha: u16, k: usize, out: &mut [u8])
     requires { ⌜ (k < 16) × (colour < 65) × (alpha < 65) × (rotation < 4) × AllBelow 256 ends × (64 ≤ length (now out)) ⌝ }
     ensures { λ _. ⌜ now (out .exit) ≡ put (soloAt ends rotation colour alpha) k (now (out .entry)) ⌝ }
@@ -112,7 +111,7 @@ fn paint_pixel(ends: [u16; 24], rotation: u32, colour: u16, alpha: u16, k: usize
     out[at + 3] = fourth(rotation, r, g, b, a);
 }
 
-// A tile of one region: pixels k and l, which is k + 8, in a turn. (One pixel in each of sixteen turns takes more of the stack.)
+// A block of one region: pixels k and l, which is k + 8, in a turn. (One pixel in each of sixteen turns takes more of the stack.)
 pub fn paint_one(
     ends: [u16; 24],
     rotation: u32,

@@ -8,7 +8,7 @@ use lib.Dec.{T, eqb, ltb, eqb→eq, ltb→lt, lit<}
 use Rattle.laws.specs.Pick.{both}
 use Rattle.laws.specs.Every.{below, same}
 use Rattle.laws.proofs.Tests.{both-left, both-right, below-at, same-eq}
-use Rattle.bcn_spec.specs.Rows.{partitionSet3, fixupsOf, regionOf}
+use Rattle.bcn_spec.specs.Rows.{partitionSet3, fixupsOf, rowRegion}
 use Rattle.bcn_util.proofs.Indexing.{Rising}
 use Rattle.bcn_data.specs.declared.Subset2Map.{Subset2Map}
 use Rattle.bcn_data.specs.declared.Subset3Map.{Subset3Map}
@@ -17,16 +17,16 @@ use Rattle.bc7_paint.specs.Shades.{regionAt}
 
 -- what the code takes for the maps of regions 1 and 2 and for the fix-up pixels
 pub record Marked (regions p ones twos : ℕ) (xs : List ℕ) : Type 0 where
-  pub region-is : (k : ℕ) → k < 16 → regionAt ones twos k ≡ regionOf regions p k
-  pub region-fits : (k : ℕ) → k < 16 → regionOf regions p k < regions
+  pub region-is : (k : ℕ) → k < 16 → regionAt ones twos k ≡ rowRegion regions p k
+  pub region-fits : (k : ℕ) → k < 16 → rowRegion regions p k < regions
   pub fixups-are : fixupsOf regions p ≡ xs
 
 module _ (regions p ones twos : ℕ) (xs : List ℕ) where
   abbrev region? : ℕ → Bool
-  region? k = eqb (regionAt ones twos k) (regionOf regions p k)
+  region? k = eqb (regionAt ones twos k) (rowRegion regions p k)
 
   abbrev fits? : ℕ → Bool
-  fits? k = ltb (regionOf regions p k) regions
+  fits? k = ltb (rowRegion regions p k) regions
 
   abbrev marked? : Bool
   marked? = both (below region? 16) (both (below fits? 16) (same (fixupsOf regions p) xs))
@@ -43,7 +43,7 @@ module _ (regions p ones twos : ℕ) (xs : List ℕ) where
 -- ---- one region
 
 one? : T (marked? 1 0 0 0 (0 ∷ []))
-unfolding regionOf fixupsOf
+unfolding rowRegion fixupsOf
 one? = tt
 
 pub one-rising : Rising 0 16 (0 ∷ [])
@@ -58,7 +58,7 @@ abbrev two? : ℕ → Bool
 two? p = both (marked? 2 p (maskOf 1 2 p) 0 (0 ∷ fixupAt 1 2 p ∷ [])) (both (ltb 0 (fixupAt 1 2 p)) (ltb (fixupAt 1 2 p) 16))
 
 all-two : T (below two? 64)
-unfolding partitionSet3 regionOf fixupsOf
+unfolding partitionSet3 rowRegion fixupsOf
 all-two = tt
 
 pub record Two (p : ℕ) (s : Subset2Map) : Type 0 where
@@ -93,7 +93,7 @@ abbrev three? : ℕ → Bool
 three? p = both (marked? 3 p (maskOf 1 3 p) (maskOf 2 3 p) (list3 p)) (rise3? p)
 
 all-three : T (below three? 64)
-unfolding partitionSet3 regionOf fixupsOf
+unfolding partitionSet3 rowRegion fixupsOf
 all-three = tt
 
 pub record Three (p : ℕ) (s : Subset3Map) : Type 0 where

@@ -9,7 +9,7 @@ use Rattle.laws.specs.Every.{every, same}
 use Rattle.laws.specs.Made.{made}
 use Rattle.laws.specs.First.{firstBelow}
 use Rattle.laws.specs.Packed.{before, unpacked}
-use Rattle.bcn_spec.specs.Rows.{partitionSet3, fixupsOf, regionOf}
+use Rattle.bcn_spec.specs.Rows.{partitionSet3, fixupsOf, rowRegion}
 use Rattle.bc7_spec.specs.Modes.{modes, modeAt}
 use Rattle.bc7_spec.specs.Layout.{runBits, runIn}
 use Rattle.bc7_spec.specs.Fields.{modeIn, modeOf, partitionIn, rotationIn, selectionIn, storedIn, pbitIn, firstIndexIn, secondIndexIn}
@@ -91,7 +91,7 @@ shows r = both (eqb (modeOf (r .bytes)) (r .mode)) (same (bytesOf (r .bytes)) (q
 
 -- S-72: every block of the table shows its row.
 all-blocks : T (every shows blocks)
-unfolding made firstBelow before unpacked partitionSet3 regionOf fixupsOf modes modeAt runBits runIn
+unfolding made firstBelow before unpacked partitionSet3 rowRegion fixupsOf modes modeAt runBits runIn
     modeIn modeOf partitionIn rotationIn selectionIn storedIn pbitIn firstIndexIn secondIndexIn
     lowered widened weightOf bySecond between turned endIn weightIn valueIn byteIn bytesOf
 all-blocks = tt

@@ -7,8 +7,8 @@ use lib.ListN.{getD}
 use Rattle.laws.specs.Pick.{both}
 use Rattle.laws.specs.Every.{below}
 use Rattle.bcn_spec.specs.Regions.{regionsIn}
-use Rattle.bcn_spec.specs.Rows.{partitionSet3, rowOf, fixupsOf, regionOf}
-use Rattle.bcn_spec.proofs.Rows.{fixupIn}
+use Rattle.bcn_spec.specs.Rows.{partitionSet3, rowOf, fixupsOf, rowRegion}
+use Rattle.bcn_spec.proofs.Rows.{rowFixup}
 
 -- digits in a base, the first the lowest
 abbrev ofDigits : ℕ → List ℕ → ℕ
@@ -53,17 +53,17 @@ fixups32 =
     15 ∷ 3 ∷ 15 ∷ 10 ∷ 10 ∷ 8 ∷ 9 ∷ 10 ∷ 6 ∷ 15 ∷ 8 ∷ 15 ∷ 3 ∷ 6 ∷ 6 ∷ 8 ∷ 15 ∷ 3 ∷ 15 ∷ 15 ∷ 15 ∷ 15 ∷ 15 ∷ 15 ∷ 15 ∷ 15 ∷ 15 ∷ 15 ∷ 3 ∷ 15 ∷ 15 ∷ 8 ∷ []
 
 abbrev two? : ℕ → Bool
-two? p = both (eqb (ofDigits 2 (regionsIn (rowOf 2 p))) (getD maps2 p 0)) (eqb (fixupIn 2 p 1) (getD fixups2 p 0))
+two? p = both (eqb (ofDigits 2 (regionsIn (rowOf 2 p))) (getD maps2 p 0)) (eqb (rowFixup 2 p 1) (getD fixups2 p 0))
 
 abbrev three? : ℕ → Bool
 three? p =
     both (eqb (ofDigits 4 (regionsIn (rowOf 3 p))) (getD maps3 p 0))
-    (both (eqb (fixupIn 3 p 1) (getD fixups31 p 0)) (eqb (fixupIn 3 p 2) (getD fixups32 p 0)))
+    (both (eqb (rowFixup 3 p 1) (getD fixups31 p 0)) (eqb (rowFixup 3 p 2) (getD fixups32 p 0)))
 
 all-two : T (below two? 64)
-unfolding partitionSet3 regionOf fixupsOf
+unfolding partitionSet3 rowRegion fixupsOf
 all-two = tt
 
 all-three : T (below three? 64)
-unfolding partitionSet3 regionOf fixupsOf
+unfolding partitionSet3 rowRegion fixupsOf
 all-three = tt

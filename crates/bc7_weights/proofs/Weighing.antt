@@ -1,8 +1,8 @@
 -- The steps of `weigh`, one law each, for every index width. Assumes nothing.
-use mathlib.Core.Path.{_≡_, _∙_, refl, sym, ap, ap₂, subst}
-use mathlib.Core.Bool.{Bool, true, false}
-use mathlib.Core.List.{List, _++_}
-use Prim.Native.Nat.{ℕ, zero, suc, _+_, _-_, _*_, _/_, _%_, _^_, _<_, _≤_}
+use mathlib.Core.Path.{_≡_, _∙_, sym, ap, subst}
+use mathlib.Core.Bool.{Bool}
+use mathlib.Core.List.{List}
+use Prim.Native.Nat.{ℕ, _+_, _-_, _*_, _/_, _%_, _^_, _<_, _≤_}
 use native.Mathlib.Nat.{mul-le-mul, mul-add, zero-add}
 use native.Mathlib.Omega.{arith}
 use lib.Dec.{T, eqb, ltb, eqb→eq, ltb→lt}
@@ -15,9 +15,8 @@ use Rattle.laws.specs.Packed.{before, unpacked}
 use Rattle.laws.proofs.Opening.{unpacked-low}
 use Rattle.laws.proofs.Rows.{made-same}
 use Rattle.laws.proofs.Tests.{both-left, both-right, below-at, cases}
-use Rattle.bcn_spec.specs.Weights.{weights8, weights16}
 use Rattle.bcn_util.specs.declared.Indexes.{Indexes}
-use Rattle.bcn_util.specs.Indexed.{indexAt, indexesOf}
+use Rattle.bcn_util.specs.Indexed.{indexesOf}
 use Rattle.bcn_util.proofs.Indexing.{Rising, index-read}
 use Rattle.bc7_spec.specs.Fields.{fieldIn}
 use Rattle.bc7_spec.specs.Bytes.{weightOf}

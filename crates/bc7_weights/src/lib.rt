@@ -1,4 +1,4 @@
-// The weights of a tile's indexes, for every index width.
+// The weights of a block's indexes, for every index width.
 use bcn_util::BitStream;
 use bcn_util::Indexes;
 ghost use mathlib.Core.Path.{_≡_};

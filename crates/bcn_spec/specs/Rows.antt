@@ -88,8 +88,8 @@ abbrev pub rowOf : ℕ → ℕ → String
 rowOf regions partition = getD (rowsOf regions) partition ""
 
 -- the region of a pixel: the row without its dashes
-unfoldable pub regionOf : ℕ → ℕ → ℕ → ℕ
-regionOf regions partition pixel = getD (regionsIn (rowOf regions partition)) pixel 0
+unfoldable pub rowRegion : ℕ → ℕ → ℕ → ℕ
+rowRegion regions partition pixel = getD (regionsIn (rowOf regions partition)) pixel 0
 
 -- the pixels that a dash stands before, from pixel k on
 abbrev pub dashesFrom : ℕ → String → List ℕ

@@ -1,8 +1,8 @@
 -- When values are an entry's, and how the entries that agree are counted. Assumes nothing.
-use mathlib.Core.Path.{_≡_, refl, sym, ap, _∙_}
+use mathlib.Core.Path.{_≡_, sym, _∙_}
 use mathlib.Core.Bool.{Bool, true, false}
 use mathlib.Core.List.{List}
-use Prim.Native.Nat.{ℕ, suc, _+_, _*_, _<_, _≤_}
+use Prim.Native.Nat.{ℕ, _+_, _*_, _<_, _≤_}
 use native.Mathlib.Numerals.{add-one}
 use native.Mathlib.Omega.{arith}
 use lib.ListN.{length, getD, take, drop, replicate}
@@ -13,8 +13,8 @@ use Rattle.laws.proofs.Tests.{picks}
 use Rattle.laws.proofs.Sameness.{same-all, same-not}
 use Rattle.bc6h_spec.specs.Picture.{valueCount}
 use Rattle.bc6.specs.declared.Pixels.{Pixels}
-use Rattle.bc6.specs.Call.{Painted, refusalOf, answerAt, valuesAt}
-use Rattle.check_replay.specs.Entries.{entrySize, formatIn, blockIn, valueIn, valuesIn, infiniteIn, numberFor, valuesFor, agrees, countAt, agreeing}
+use Rattle.bc6.specs.Call.{Painted}
+use Rattle.check_replay.specs.Entries.{entrySize, formatIn, blockIn, valueIn, valuesIn, infiniteIn, agrees, countAt, agreeing}
 
 module _ (values bytes : List ℕ) where
   pub not-same : (k : ℕ) → k < valueCount → (getD values k 0 ≡ valueIn bytes k → ⊥) → false ≡ same values (valuesIn bytes)

@@ -5,30 +5,24 @@ use libc::STDIN_FILENO;
 use libc::STDOUT_FILENO;
 use raw_bytes::u16_at;
 ghost use mathlib.Core.Path.{_≡_};
-ghost use mathlib.Core.List.{[], _∷_};
-ghost use Prim.Native.Nat.{_/_, _<_, _≤_};
+ghost use Prim.Native.Nat.{_/_, _<_};
 ghost use lib.ListN.{length};
 ghost use Rattle.laws.specs.Every.{same};
 ghost use Rattle.bc6h_spec.specs.Picture.{valueCount};
 ghost use Rattle.check_replay.specs.Entries.{entrySize, valueIn, valuesIn, infiniteIn, agrees, countAt, agreeing};
 
-struct Entry {
-    number: usize,
-}
+// An entry's bytes, and where its parts begin.
+const SIZE: usize = 117;
 
-impl Entry {
-    const SIZE: usize = 117;
+const BLOCK: usize = 1;
 
-    const BLOCK: usize = 1;
+const ANSWER: usize = 17;
 
-    const ANSWER: usize = 17;
+const MODE: usize = 18;
 
-    const MODE: usize = 18;
+const COUNT: usize = 19;
 
-    const COUNT: usize = 19;
-
-    const VALUES: usize = 21;
-}
+const VALUES: usize = 21;
 
 // Value k of an entry's values, low byte first.
 fn value_at(bytes: &[u8], k: usize) -> u16
@@ -55,7 +49,7 @@ fn infinite_in(entry: &[u8]) -> u16
     requires { ⌜ length (now entry) ≡ entrySize ⌝ }
     ensures { λ r. ⌜ r ≡ infiniteIn (now (entry .entry)) ⌝ }
 {
-    u16_at(entry, Entry::COUNT)
+    u16_at(entry, COUNT)
 }
 
 // Whether our call answers an entry's block as the entry says.
@@ -64,18 +58,18 @@ fn agrees(entry: &[u8]) -> bool
     ensures { λ r. ⌜ r ≡ agrees (now (entry .entry)) ⌝ }
 {
     let mut values = [0u16; 48];
-    let block = &entry[Entry::BLOCK..Entry::ANSWER];
+    let block = &entry[BLOCK..ANSWER];
     let pixels = bc6::block_pixels(block, entry[0], &mut values);
-    if pixels.answer != entry[Entry::ANSWER] {
+    if pixels.answer != entry[ANSWER] {
         return false;
     }
-    if pixels.mode != entry[Entry::MODE] {
+    if pixels.mode != entry[MODE] {
         return false;
     }
     if pixels.infinite != infinite_in(entry) {
         return false;
     }
-    same_values(&values, &entry[Entry::VALUES..Entry::SIZE])
+    same_values(&values, &entry[VALUES..SIZE])
 }
 
 fn print_word(word: &[u8]) {
@@ -104,8 +98,8 @@ fn replay_one(list: &[u8], n: usize) -> usize
     requires { ⌜ n < length (now list) / entrySize ⌝ }
     ensures { λ r. ⌜ r ≡ countAt (now (list .entry)) n ⌝ }
 {
-    let start = n * Entry::SIZE;
-    let end = start + Entry::SIZE;
+    let start = n * SIZE;
+    let end = start + SIZE;
     if agrees(&list[start..end]) {
         return 1;
     }
@@ -117,7 +111,7 @@ fn replay_one(list: &[u8], n: usize) -> usize
 fn replay(list: &[u8]) -> usize
     ensures { λ r. ⌜ r ≡ agreeing (now (list .entry)) (length (now (list .entry)) / entrySize) ⌝ }
 {
-    let entries = list.len() / Entry::SIZE;
+    let entries = list.len() / SIZE;
     let mut count: usize = 0;
     for n in 0..entries {
         count += replay_one(list, n);
@@ -129,5 +123,5 @@ fn main() {
     let mut list = [0u8; 471040];
     let n = io::read_full(STDIN_FILENO, &mut list);
     let entries = &list[..n];
-    print_counts(replay(entries), entries.len() / Entry::SIZE);
+    print_counts(replay(entries), entries.len() / SIZE);
 }

@@ -5,6 +5,7 @@ use mathlib.Core.List.{List, [], _∷_}
 use Prim.Native.Nat.{ℕ, zero, suc}
 use lib.ListN.{length, getD, replicate}
 use Rattle.laws.specs.Made.{made}
+use Rattle.laws.specs.Checks.{leftBy}
 use Rattle.bcn_spec.specs.Answers.{done}
 use Rattle.bc6h_spec.specs.Fields.{noFields, modeOf}
 use Rattle.bc6_numbers.specs.Numbers.{numberAt, numbersOf}
@@ -112,7 +113,7 @@ moved : (fault : Fault) (count : ℕ) (store lent : List ℕ) {r : Moved} {after
     → Silent (r .answer) (r .records ∷ []) (lent ∷ []) (after ∷ [])
 moved fault count store lent p =
     silent-one (λ n. moves.movedAt n (fault .faulty) count) (λ r. r .answer) (λ r. r .records ∷ []) refl (λ n. zeros 1)
-    (λ n. moves.bytesAt n store lent) lent (λ n. refl) (fault .answer) (p .answers) (p .holds)
+    (λ n. leftBy n store lent) lent (λ n. refl) (fault .answer) (p .answers) (p .holds)
 
 faced : (alpha : Bool) (b o : List ℕ) (w h f p : ℕ) {r : FacePixels} {a : List ℕ} → face.ImagePainted alpha b w h f o p r a
     → Silent (r .answer) (r .infinite ∷ []) (o ∷ []) (a ∷ [])
@@ -170,11 +171,11 @@ demand1 = record {
       probed (probe.probeFault s e .answer) (probe.probeFault s e .faulty) (probe.questionRefusal e f x y) (probe.tripleFor s f x y) (p .answers);
   probe-check = λ s e p. record { zeros = λ no k. refl; unchanged = λ no. refl };
   probe-face = λ {s} {o} {a} {e} {f} p.
-      silent-one (λ n. n) (λ r. r) (λ r. []) refl (λ n. zeros 0) (λ n. faces.faceValues n (faces.faceOf s e f) o) o (λ n. refl)
+      silent-one (λ n. n) (λ r. r) (λ r. []) refl (λ n. zeros 0) (λ n. leftBy n (faces.faceOf s e f) o) o (λ n. refl)
       (faces.faceFault s e f (length o) .answer) (ap (λ (r : Fault). r .answer) (p .answers)) (p .holds);
   probe-build = λ {b} {o} {a} {f} {e} {t} p.
       silent-one (λ n. building.builtAt n (building.recordCount e)) (λ r. r .answer) (λ r. r .records ∷ []) refl (λ n. zeros 1)
-      (λ n. building.bytesAt n (building.builtOf b f e t) o) o (λ n. refl) (building.buildRefusal (length b) f e (length o)) (p .answers) (p .holds);
+      (λ n. leftBy n (building.builtOf b f e t) o) o (λ n. refl) (building.buildRefusal (length b) f e (length o)) (p .answers) (p .holds);
   dds-head = λ {f} p.
       silent-none (λ n. dds.readAt n f) (λ r. r .answer) (λ r. r .width ∷ r .height ∷ r .format ∷ []) refl (λ n. zeros 3) (dds.headRefusal f) (p .answers);
   dds-read = λ {f} p.

@@ -1,13 +1,13 @@
 -- Where a value stands: channel `channel` (0 red, 1 green, 2 blue) of pixel (x, y), row 0 on top. Assumes nothing.
 use mathlib.Core.Path.{_≡_, refl, sym, ap, _∙_}
-use mathlib.Core.List.{List, [], _∷_, _++_, append-nil, append-assoc}
-use Prim.Native.Nat.{ℕ, zero, suc, _+_, _-_, _*_, _/_, _%_, _≤_, _<_}
+use mathlib.Core.List.{List, [], _++_, append-nil, append-assoc}
+use Prim.Native.Nat.{ℕ, zero, suc, _+_, _-_, _*_, _/_, _≤_, _<_}
 use native.Mathlib.Nat.{mul-comm, mul-le-mul-right}
 use native.Mathlib.Omega.{arith}
-use lib.ListN.{length, getD, take, drop}
-use lib.Seq.{drop-drop, drop-at, take-at, take-take}
-use Rattle.laws.specs.Made.{made, join}
+use lib.ListN.{take, drop}
+use lib.Seq.{drop-drop, drop-at}
 use Rattle.laws.proofs.Joined.{run-at}
+use Rattle.laws.proofs.Taken.{part-of-part}
 use Rattle.bcn_spec.specs.Answers.{done}
 use Rattle.exr_header.specs.Header.{lowFirst, headerLength, lineLength, frontLength, lineStart, startBytes, tableOf, headerOf, frontOf}
 use Rattle.exr_header.proofs.Numbers.{header-length, front-length-is, start-length}
@@ -16,17 +16,6 @@ use Rattle.exr.specs.File.{patternAt, halfAt, channelAt, headOf, lineAt,
 use Rattle.exr.proofs.Bands.{length-head}
 use Rattle.exr.proofs.Whole.{length-half, length-channel, length-line}
 use Rattle.exr.proofs.Calls.{written-file}
-
--- part of a part
-part-of : (l : List ℕ) (a b m n : ℕ) → b + n ≤ m → take n (drop b (take m (drop a l))) ≡ take n (drop (a + b) l)
-part-of l a b m n h = go (drop a l) b m n h ∙ ap (take n) (drop-drop b a l)
-  where
-    go : (l : List ℕ) (b m n : ℕ) → b + n ≤ m → take n (drop b (take m l)) ≡ take n (drop b l)
-    go l zero m n h = take-take n m l (omega arith)
-    go [] (suc b) zero n h = refl
-    go [] (suc b) (suc m) n h = refl
-    go (x ∷ l) (suc b) zero n h = absurd (omega arith)
-    go (x ∷ l) (suc b) (suc m) n h = go l b m n (omega arith)
 
 -- the channels of a line stand behind its head, blue first
 module _ (blocks : List ℕ) (format width y : ℕ) where
@@ -110,7 +99,7 @@ module _ (blocks : List ℕ) (format width height y : ℕ) (hy : y < height) whe
         let few : b * width ≤ 2 * width = mul-le-mul-right width (omega arith) in
         let inside : place + 2 ≤ lineLength width = (let e : lineLength width ≡ 8 + 6 * width = refl in omega arith) in
         let back : 2 - b ≡ channel = omega arith in
-        sym (part-of file (lineStart width height y) place (lineLength width) 2 inside)
+        sym (part-of-part file (lineStart width height y) place (lineLength width) 2 inside)
         ∙ ap (λ (t : List ℕ). take 2 (drop place t)) line-place
         ∙ in-line blocks format width y x hx b (omega arith)
         ∙ ap (λ (c : ℕ). halfAt blocks format (width / 4) c y x) back

@@ -4,15 +4,16 @@ use mathlib.Core.Path.{_≡_}
 use mathlib.Core.List.{List}
 use Prim.Native.Nat.{ℕ, zero, suc, _+_, _*_}
 use lib.ListN.{length}
+use Rattle.laws.specs.Checks.{leftBy}
 use Rattle.probe_places.specs.Places.{placeSize, placeHead, placesIn, tileIn, formatIn, faceIn, columnIn, rowIn}
 use Rattle.probe_places.specs.Readings.{placedRefusal}
 use Rattle.store_records.specs.Store.{recordsIn}
 use Rattle.probe_moves.specs.declared.Moved.{Moved}
-use Rattle.probe_moves.specs.Moves.{placedStore, oldStore, placingFault, unplacingFault, placingRefusal, unplacingRefusal, movedAt, bytesAt}
+use Rattle.probe_moves.specs.Moves.{placedStore, oldStore, placingFault, unplacingFault, placingRefusal, unplacingRefusal, movedAt}
 use Rattle.probe_places.specs.declared.Fault.{Fault}
 use Rattle.probe.specs.declared.ProbePixel.{ProbePixel}
 use Rattle.probe.specs.Probe.{probeAnswer}
-use Rattle.probe_faces.specs.Face.{faceOf, faceFault, faceValues}
+use Rattle.probe_faces.specs.Face.{faceOf, faceFault}
 
 -- S-54, S-87: a record: 0 in the low byte, the format in the next, the face in bits 16 to 23, the tile in the high half; a refusal: its number alone
 abbrev pub placedWord : ℕ → List ℕ → ℕ → ℕ
@@ -42,11 +43,11 @@ movedWord moved = moved .answer + moved .records * 0x10000 + moved .faulty * 0x1
 -- The moves: the answer in one word, and the lent bytes as the call leaves them.
 pub record PlaceCalled (old lent : List ℕ) (r : ℕ) (after : List ℕ) : Type 0 where
   pub answers : r ≡ movedWord (movedAt (placingRefusal old (length lent)) (placingFault old (length lent) .faulty) (recordsIn old))
-  pub holds : after ≡ bytesAt (placingRefusal old (length lent)) (placedStore old) lent
+  pub holds : after ≡ leftBy (placingRefusal old (length lent)) (placedStore old) lent
 
 pub record UnplaceCalled (new lent : List ℕ) (r : ℕ) (after : List ℕ) : Type 0 where
   pub answers : r ≡ movedWord (movedAt (unplacingRefusal new (length lent)) (unplacingFault new (length lent) .faulty) (placesIn new))
-  pub holds : after ≡ bytesAt (unplacingRefusal new (length lent)) (oldStore new) lent
+  pub holds : after ≡ leftBy (unplacingRefusal new (length lent)) (oldStore new) lent
 
 -- S-57, S-87: the number in the low byte; red, green and blue in the three sixteen-bit fields above the lowest
 abbrev pub pixelWord : ProbePixel → ℕ
@@ -64,4 +65,4 @@ faultWord fault = fault .answer + fault .faulty * 0x10000
 -- The face call: its number alone, and the lent values as the call leaves them.
 pub record FaceCalled (store : List ℕ) (edge face : ℕ) (lent : List ℕ) (r : ℕ) (after : List ℕ) : Type 0 where
   pub answers : r ≡ faceFault store edge face (length lent) .answer
-  pub holds : after ≡ faceValues (faceFault store edge face (length lent) .answer) (faceOf store edge face) lent
+  pub holds : after ≡ leftBy (faceFault store edge face (length lent) .answer) (faceOf store edge face) lent

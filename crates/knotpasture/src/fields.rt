@@ -1,6 +1,6 @@
 // The fields of a block as 32 numbers, a block from them, and what they show, for C and Rust.
 use crate::two_bytes;
-use bc6_numbers::Numbers;
+use bc6_numbers::NUMBERS;
 use bcn_spec::Answer;
 ghost use Rattle.bc6_numbers.specs.Numbers.{fieldsFrom};
 ghost use Rattle.bc6_palette.specs.Call.{FieldsShown};
@@ -15,7 +15,7 @@ pub extern "C" fn knot_block_fields(block: &[u8], format: u8, numbers: &mut [u16
     if read.answer != Answer::DONE {
         return read.answer as u32;
     }
-    if numbers.len() < Numbers::COUNT {
+    if numbers.len() < NUMBERS {
         return Answer::SHORT_OUTPUT as u32;
     }
     let fields = read.fields;

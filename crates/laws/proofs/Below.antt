@@ -1,11 +1,10 @@
 -- What holds at every number below n, and a loop that tests each of them. Assumes nothing.
-use mathlib.Core.Path.{_≡_, refl, sym, subst}
+use mathlib.Core.Path.{_≡_, sym, subst}
 use mathlib.Core.Bool.{Bool, true, false}
 use Prim.Native.Nat.{ℕ, zero, suc, _+_, _≤_, _<_}
 use native.Mathlib.Numerals.{add-one}
 use native.Mathlib.Omega.{arith}
 use lib.Dec.{T}
-use Rattle.laws.specs.Pick.{both}
 use Rattle.laws.specs.Every.{below}
 use Rattle.laws.proofs.Tests.{below-at}
 use Rattle.laws.proofs.Search.{is-false, both-hold}

@@ -1,6 +1,6 @@
--- Laws of the orders of records: each record of the one store is in the other, an order is one both ways, and orders go on from one another.
+-- Laws of the orders of records: each record of the one store is in the other, and an order is one both ways.
 -- Assumes nothing.
-use mathlib.Core.Path.{_≡_, refl, sym, _∙_, ap, subst}
+use mathlib.Core.Path.{_≡_, sym, _∙_, ap, subst}
 use mathlib.Core.List.{List}
 use Prim.Native.Nat.{ℕ, _/_, _≤_, _<_}
 use native.Mathlib.Omega.{arith}
@@ -42,15 +42,3 @@ module _ {size : ℕ} {s t : List ℕ} (o : Reordered size s t) where
     apart = λ m n hm hn e. sym (first-hits m hm) ∙ ap (o .from) e ∙ first-hits n hn;
     same-bytes = λ m h. sym (o .same-bytes _ (first-inside m h) ∙ ap (recordIn size s) (first-hits m h));
   }
-
-pub ordered-same : (size : ℕ) (s : List ℕ) → Reordered size s s
-ordered-same size s = record { same-size = refl; from = λ n. n; inside = λ n h. h; apart = λ m n hm hn e. e; same-bytes = λ n h. refl }
-
-pub ordered-on : {size : ℕ} {s t u : List ℕ} → Reordered size s t → Reordered size t u → Reordered size s u
-ordered-on o p = record {
-  same-size = p .same-size ∙ o .same-size;
-  from = λ n. o .from (p .from n);
-  inside = λ n h. o .inside (p .from n) (p .inside n h);
-  apart = λ m n hm hn e. p .apart m n hm hn (o .apart (p .from m) (p .from n) (p .inside m hm) (p .inside n hn) e);
-  same-bytes = λ n h. p .same-bytes n h ∙ o .same-bytes (p .from n) (p .inside n h);
-}

@@ -12,7 +12,7 @@ use lib.Dec.{T, eqb, eqb→eq, eqb-refl, T-not, not-T}
 use lib.ListN.{length, getD}
 use borrow.Author.Tests.{eq-eqb}
 use Rattle.laws.specs.Pick.{both, either}
-use Rattle.laws.specs.Every.{below, every, same}
+use Rattle.laws.specs.Every.{every, same}
 use Rattle.laws.specs.Search.{some, equals, repeated, distinct}
 use Rattle.laws.proofs.Tests.{both-left, both-right}
 

@@ -1,8 +1,9 @@
--- Serves every clause. Checks in their order, each beside the number of its refusal. Assumes nothing.
+-- Serves every clause. Checks in their order, each beside the number of its refusal, and what a number leaves. Assumes nothing.
 use mathlib.Core.Path.{_≡_}
-use mathlib.Core.Bool.{Bool, true, false}
-use mathlib.Core.List.{List, [], _∷_}
+use mathlib.Core.Bool.{Bool, false}
+use mathlib.Core.List.{List, [], _∷_, _++_}
 use Prim.Native.Nat.{ℕ, zero, suc}
+use lib.ListN.{length, drop}
 use Rattle.laws.specs.Pick.{pick}
 
 -- the number beside the first test that holds, or 0 where none does
@@ -20,3 +21,8 @@ abbrev pub Numbered : List (Bool × ℕ) → Type 0
 Numbered [] = Unit {0}
 Numbered ((test, zero) ∷ rest) = ⊥
 Numbered ((test, suc number) ∷ rest) = Numbered rest
+
+-- S-30: what a call leaves of what it was lent: with 0 the list is at its front, with any other number nothing changed.
+abbrev pub leftBy : ℕ → List ℕ → List ℕ → List ℕ
+leftBy zero list lent = list ++ drop (length list) lent
+leftBy (suc number) list lent = lent

@@ -1,11 +1,11 @@
 -- Where a pixel stands: pixel (x, y), row 0 on top, at the header's length and 12 · ((height − 1 − y) · width + x). Assumes nothing.
-use mathlib.Core.Path.{_≡_, refl, sym, ap, _∙_}
-use mathlib.Core.List.{List, [], _∷_, _++_, append-nil}
-use Prim.Native.Nat.{ℕ, zero, suc, _+_, _-_, _*_, _/_, _%_, _≤_, _<_}
+use mathlib.Core.Path.{_≡_, sym, ap, _∙_}
+use mathlib.Core.List.{List, [], _++_, append-nil}
+use Prim.Native.Nat.{ℕ, _+_, _-_, _*_, _/_, _%_, _≤_, _<_}
 use native.Mathlib.Nat.{mul-assoc, mul-comm, mul-add}
 use native.Mathlib.Omega.{arith}
 use lib.ListN.{length, take, drop}
-use lib.Seq.{drop-drop, drop-at, take-take}
+use lib.Seq.{drop-drop, drop-at}
 use Rattle.laws.specs.Made.{made, join}
 use Rattle.bcn_spec.specs.Answers.{done}
 use Rattle.bc6h_spec.specs.Picture.{isSigned}
@@ -16,19 +16,9 @@ use Rattle.pfm_header.proofs.Text.{length-header}
 use Rattle.pfm.specs.declared.PfmWritten.{PfmWritten}
 use Rattle.pfm.specs.File.{pixelBytes, pixelAt, rowAt, rowUp, bodyOf, fileOf, PictureWritten}
 use Rattle.laws.proofs.Joined.{run-at}
+use Rattle.laws.proofs.Taken.{part-of-part}
 use Rattle.pfm.proofs.Whole.{length-at, length-row}
 use Rattle.pfm.proofs.Calls.{written-file}
-
--- part of a part
-part-of : (l : List ℕ) (a b m n : ℕ) → b + n ≤ m → take n (drop b (take m (drop a l))) ≡ take n (drop (a + b) l)
-part-of l a b m n h = go (drop a l) b m n h ∙ ap (take n) (drop-drop b a l)
-  where
-    go : (l : List ℕ) (b m n : ℕ) → b + n ≤ m → take n (drop b (take m l)) ≡ take n (drop b l)
-    go l zero m n h = take-take n m l (omega arith)
-    go [] (suc b) zero n h = refl
-    go [] (suc b) (suc m) n h = refl
-    go (x ∷ l) (suc b) zero n h = absurd (omega arith)
-    go (x ∷ l) (suc b) (suc m) n h = go l b m n (omega arith)
 
 module _ (blocks : List ℕ) (format width height x y : ℕ) (hx : x < width) (hy : y < height) where
   place : ℕ
@@ -67,7 +57,7 @@ module _ (blocks : List ℕ) (format width height x y : ℕ) (hx : x < width) (h
       ap (take 12)
       (sym (drop-drop p (headerLength width height) (headerOf width height ++ b)) ∙ ap (drop p) (drop-at (headerOf width height) b (headerLength width height) (length-header width height)))
       ∙ ap (λ (n : ℕ). take 12 (drop n b)) (sym row-place)
-      ∙ sym (part-of b (12 * width * (height - 1 - y)) (12 * x) (12 * width) 12 w)
+      ∙ sym (part-of-part b (12 * width * (height - 1 - y)) (12 * x) (12 * width) 12 w)
       ∙ ap (λ (t : List ℕ). take 12 (drop (12 * x) t)) row-is ∙ pixel-is
 
 -- and in what the call leaves, where it is done: exactly the bytes that it counts

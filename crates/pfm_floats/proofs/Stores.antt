@@ -6,12 +6,9 @@ use native.Mathlib.Omega.{arith}
 use lib.Ieee.{binary32, toBits}
 use lib.ListN.{length, set}
 use lib.Seq.{sets}
+pub use Rattle.laws.proofs.Stores.{sets-append}
 use Rattle.pfm_floats.specs.declared.Rgb.{Rgb}
 use Rattle.pfm_floats.specs.Bytes.{wordBytes, rgbBytes}
-
-pub sets-append : (xs ys l : List ℕ) (i j : ℕ) → i + length xs ≡ j → sets (sets l i xs) j ys ≡ sets l i (xs ++ ys)
-sets-append [] ys l i j e = let same : i ≡ j = omega arith in rw same
-sets-append (x ∷ xs) ys l i j e = sets-append xs ys (set l i x) (suc i) j (omega arith)
 
 -- four stores at n, n + 1, .., as code has them
 four : (l : List ℕ) (n a b c d : ℕ) → set (set (set (set l n a) (n + 1) b) (n + 2) c) (n + 3) d ≡ sets l n (a ∷ b ∷ c ∷ d ∷ [])

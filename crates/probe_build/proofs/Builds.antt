@@ -9,6 +9,7 @@ use lib.ListN.{length, take, drop}
 use lib.Seq.{take-at, drop-at}
 use borrow.Author.Tests.{lt-ltb, le-ltb, eq-eqb, ne-eqb, ltb-true, ltb-false, eqb-true, not-false}
 use Rattle.laws.specs.Made.{made, join}
+use Rattle.laws.specs.Checks.{leftBy}
 use Rattle.laws.proofs.Tests.{both-true}
 use Rattle.laws.proofs.Checks.{none-met}
 use Rattle.laws.proofs.Joined.{run-length}
@@ -18,7 +19,7 @@ use Rattle.probe_places.specs.declared.Place.{Place}
 use Rattle.probe_places.specs.Places.{placeSize}
 use Rattle.probe.specs.Probe.{edgeLimit}
 use Rattle.probe_build.specs.declared.Built.{Built}
-use Rattle.probe_build.specs.Building.{recordCount, placeFor, tileFor, recordWith, recordOf, builtOf, buildChecks, buildRefusal, builtAt, bytesAt, BuiltTo}
+use Rattle.probe_build.specs.Building.{recordCount, placeFor, tileFor, recordWith, recordOf, builtOf, buildChecks, buildRefusal, builtAt, BuiltTo}
 use Rattle.probe_build.proofs.Records.{record-length}
 
 -- ---- the bytes
@@ -114,7 +115,7 @@ module _ (blocks : List ℕ) (format edge first : ℕ) (lent : List ℕ) {a wide
   pub built-refused : {r : Built} → (a ≡ done → ⊥) → r ≡ record { answer = a; records = 0 } → BuiltTo blocks format edge first lent r lent
   built-refused {r} z q = let g = go (buildRefusal (length blocks) format edge (length lent)) e in record { answers = g .0; holds = g .1 }
     where
-      go : (k : ℕ) → a ≡ k → (r ≡ builtAt k (recordCount edge)) × (lent ≡ bytesAt k (builtOf blocks format edge first) lent)
+      go : (k : ℕ) → a ≡ k → (r ≡ builtAt k (recordCount edge)) × (lent ≡ leftBy k (builtOf blocks format edge first) lent)
       go zero w = absurd (z w)
       go (suc k) w = (q ∙ rw w, refl)
 
@@ -141,7 +142,7 @@ module _ {blocks : List ℕ} {format edge first : ℕ} {lent after : List ℕ} {
   pub silent : (r .answer ≡ done → ⊥) → (after ≡ lent) × (r .records ≡ 0)
   silent n = let g = go (buildRefusal (length blocks) format edge (length lent)) refl in (d .holds ∙ g .0, ap (λ (x : Built). x .records) (d .answers) ∙ g .1)
     where
-      go : (k : ℕ) → buildRefusal (length blocks) format edge (length lent) ≡ k → (bytesAt k (builtOf blocks format edge first) lent ≡ lent) × (builtAt k (recordCount edge) .records ≡ 0)
+      go : (k : ℕ) → buildRefusal (length blocks) format edge (length lent) ≡ k → (leftBy k (builtOf blocks format edge first) lent ≡ lent) × (builtAt k (recordCount edge) .records ≡ 0)
       go zero q = absurd (n (answer-number ∙ q))
       go (suc k) q = (refl, refl)
 

@@ -4,8 +4,8 @@ use mathlib.Core.Bool.{Bool, not}
 use mathlib.Core.List.{List, [], _∷_, _++_}
 use Prim.Native.Nat.{ℕ, zero, suc, _+_, _*_, _/_, _%_, _^_}
 use lib.Dec.{eqb, ltb}
-use lib.ListN.{length, getD, drop}
-use Rattle.laws.specs.Checks.{firstMet}
+use lib.ListN.{length, getD}
+use Rattle.laws.specs.Checks.{firstMet, leftBy}
 use Rattle.laws.specs.Made.{made, join}
 use Rattle.bcn_spec.specs.Answers.{done, badFormat, shortOutput, blocksMisfit, badEdge}
 use Rattle.bcn_spec.specs.Bits.{blockSize}
@@ -71,15 +71,10 @@ abbrev pub builtAt : ℕ → ℕ → Built
 builtAt zero count = record { answer = done; records = count }
 builtAt (suc number) count = record { answer = suc number; records = 0 }
 
--- S-30, S-59: the rest of the lent bytes stays; a refusal writes nothing.
-abbrev pub bytesAt : ℕ → List ℕ → List ℕ → List ℕ
-bytesAt zero built lent = built ++ drop (length built) lent
-bytesAt (suc number) built lent = lent
-
--- S-59: the statement of the call: its answer r, and the lent bytes `after`.
+-- S-30, S-59: the statement of the call: its answer r, and the lent bytes `after`, whose rest stays.
 pub record BuiltTo (blocks : List ℕ) (format edge first : ℕ) (lent : List ℕ) (r : Built) (after : List ℕ) : Type 0 where
   pub answers : r ≡ builtAt (buildRefusal (length blocks) format edge (length lent)) (recordCount edge)
-  pub holds : after ≡ bytesAt (buildRefusal (length blocks) format edge (length lent)) (builtOf blocks format edge first) lent
+  pub holds : after ≡ leftBy (buildRefusal (length blocks) format edge (length lent)) (builtOf blocks format edge first) lent
 
 -- ---- examples
 

@@ -4,10 +4,10 @@ use mathlib.Core.List.{List, _++_}
 use Prim.Native.Nat.{ℕ, zero, suc, _+_, _*_, _/_, _%_, _≤_, _<_}
 use native.Mathlib.Nat.{mul-le-mul}
 use native.Mathlib.Omega.{arith}
-use lib.Dec.{ltb}
 use lib.ListN.{length, getD, drop}
 use borrow.Author.Tests.{lt-ltb, le-ltb, ltb-true, ltb-false, not-false}
 use Rattle.laws.specs.Made.{made, join}
+use Rattle.laws.specs.Checks.{leftBy}
 use Rattle.laws.proofs.Checks.{none-met}
 use Rattle.laws.proofs.Rows.{getD-made}
 use Rattle.bcn_spec.specs.Answers.{done, shortOutput, noPixel}
@@ -20,7 +20,7 @@ use Rattle.probe.specs.Held.{Checked}
 use Rattle.probe.proofs.Checking.{then-done, then-records, then-alone, in-range}
 use Rattle.probe.proofs.Probes.{passed-probe}
 use Rattle.probe.proofs.Telling.{answer-number, done-triple}
-use Rattle.probe_faces.specs.Face.{rowValue, rowOf, faceOf, faceChecks, faceRefusal, faceFault, faceValues, FacePainted}
+use Rattle.probe_faces.specs.Face.{rowValue, rowOf, faceOf, faceChecks, faceRefusal, faceFault, FacePainted}
 use Rattle.probe_faces.specs.Strip.{fourRows}
 use Rattle.laws.proofs.Joined.{run-length, run-value}
 use Rattle.probe_faces.proofs.Strips.{row-length, four-length, by-fours}
@@ -70,7 +70,7 @@ module _ {store : List ℕ} {edge : ℕ} (face : ℕ) (lent : List ℕ) {fault :
   by-number : {r : Fault} → r ≡ faceFault store edge face (length lent) → (r .answer ≡ done → ⊥) → FacePainted store edge face lent r lent
   by-number {r} e n = record { answers = e; holds = go (faceFault store edge face (length lent) .answer) refl }
     where
-      go : (k : ℕ) → faceFault store edge face (length lent) .answer ≡ k → lent ≡ faceValues k (faceOf store edge face) lent
+      go : (k : ℕ) → faceFault store edge face (length lent) .answer ≡ k → lent ≡ leftBy k (faceOf store edge face) lent
       go zero q = absurd (n (ap (λ (x : Fault). x .answer) e ∙ q))
       go (suc k) q = refl
 
@@ -104,7 +104,7 @@ module _ {store : List ℕ} {edge face : ℕ} {lent after : List ℕ} {r : Fault
   pub silent : (r .answer ≡ done → ⊥) → after ≡ lent
   silent n = d .holds ∙ go (faceFault store edge face (length lent) .answer) refl
     where
-      go : (k : ℕ) → faceFault store edge face (length lent) .answer ≡ k → faceValues k (faceOf store edge face) lent ≡ lent
+      go : (k : ℕ) → faceFault store edge face (length lent) .answer ≡ k → leftBy k (faceOf store edge face) lent ≡ lent
       go zero q = absurd (n (sym answer-is ∙ q))
       go (suc k) q = refl
 

@@ -1,11 +1,11 @@
 -- S-58: a whole face of a probe. Assumes nothing.
 use mathlib.Core.Path.{_≡_}
 use mathlib.Core.Bool.{Bool, not}
-use mathlib.Core.List.{List, [], _∷_, _++_}
-use Prim.Native.Nat.{ℕ, zero, suc, _*_, _/_, _%_}
+use mathlib.Core.List.{List, [], _∷_}
+use Prim.Native.Nat.{ℕ, _*_, _/_, _%_}
 use lib.Dec.{ltb}
-use lib.ListN.{length, getD, drop}
-use Rattle.laws.specs.Checks.{firstMet}
+use lib.ListN.{length, getD}
+use Rattle.laws.specs.Checks.{firstMet, leftBy}
 use Rattle.laws.specs.Made.{made, join}
 use Rattle.bcn_spec.specs.Answers.{shortOutput, noPixel}
 use Rattle.probe_places.specs.declared.Fault.{Fault}
@@ -33,11 +33,7 @@ faceRefusal edge face room = firstMet (faceChecks edge face room)
 unfoldable pub faceFault : List ℕ → ℕ → ℕ → ℕ → Fault
 faceFault store edge face room = thenAlone (probeFault store edge) (faceRefusal edge face room)
 
-abbrev pub faceValues : ℕ → List ℕ → List ℕ → List ℕ
-faceValues zero shown lent = shown ++ drop (length shown) lent
-faceValues (suc number) shown lent = lent
-
 -- The statement of the call.
 pub record FacePainted (store : List ℕ) (edge face : ℕ) (lent : List ℕ) (r : Fault) (after : List ℕ) : Type 0 where
   pub answers : r ≡ faceFault store edge face (length lent)
-  pub holds : after ≡ faceValues (faceFault store edge face (length lent) .answer) (faceOf store edge face) lent
+  pub holds : after ≡ leftBy (faceFault store edge face (length lent) .answer) (faceOf store edge face) lent

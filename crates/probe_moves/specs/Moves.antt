@@ -1,12 +1,12 @@
 -- S-55: the moves between old stores and stores of places. Assumes nothing.
 use mathlib.Core.Path.{_≡_}
 use mathlib.Core.Bool.{Bool, not}
-use mathlib.Core.List.{List, [], _∷_, _++_}
+use mathlib.Core.List.{List, [], _∷_}
 use Prim.Native.Nat.{ℕ, zero, suc, _+_, _-_, _*_, _/_, _%_}
 use lib.Dec.{eqb, ltb}
-use lib.ListN.{length, drop}
+use lib.ListN.{length}
 use Rattle.laws.specs.Pick.{pick}
-use Rattle.laws.specs.Checks.{firstMet}
+use Rattle.laws.specs.Checks.{firstMet, leftBy}
 use Rattle.laws.specs.Made.{made}
 use Rattle.bcn_spec.specs.Answers.{done, shortOutput, longStore, unevenStore, placedRecord}
 use Rattle.store_records.specs.Store.{recordSize, headSize, storeLimit, recordsIn, byteOf, recordRefusal}
@@ -77,15 +77,10 @@ abbrev pub movedAt : ℕ → ℕ → ℕ → Moved
 movedAt zero faulty count = record { answer = done; records = count; faulty = 0 }
 movedAt (suc number) faulty count = record { answer = suc number; records = 0; faulty = faulty }
 
--- S-30, S-55: a move is all or nothing: what the lent bytes then are.
-abbrev pub bytesAt : ℕ → List ℕ → List ℕ → List ℕ
-bytesAt zero moved lent = moved ++ drop (length moved) lent
-bytesAt (suc number) moved lent = lent
-
--- S-55: the statement of a move: its answer r, and the lent bytes `after`.
+-- S-30, S-55: a move is all or nothing: its answer r, and the lent bytes `after`.
 pub record MovedTo (fault : Fault) (count : ℕ) (moved lent : List ℕ) (r : Moved) (after : List ℕ) : Type 0 where
   pub answers : r ≡ movedAt (fault .answer) (fault .faulty) count
-  pub holds : after ≡ bytesAt (fault .answer) moved lent
+  pub holds : after ≡ leftBy (fault .answer) moved lent
 
 -- S-55: the statements of the two calls.
 abbrev pub PlacedStore : (old lent : List ℕ) (r : Moved) (after : List ℕ) → Type 0

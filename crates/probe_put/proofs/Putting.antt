@@ -2,13 +2,14 @@
 use mathlib.Core.Path.{_≡_, refl, sym, _∙_, ap, ap₂}
 use mathlib.Core.List.{List, [], _∷_, _++_}
 use mathlib.Core.Logic.{_⊎_, ⊎-elim, inl, inr}
-use Prim.Native.Nat.{ℕ, zero, suc, _+_, _*_, _/_, _%_, _≤_, _<_}
+use Prim.Native.Nat.{ℕ, suc, _+_, _*_, _≤_, _<_}
 use native.Mathlib.Omega.{arith}
 use lib.Dec.{ltb}
-use lib.ListN.{length, getD, set, take, drop, length-set}
-use lib.Seq.{sets, paste, length-sets, set-append-left, take-all, getD-set-same, getD-set-other}
+use lib.ListN.{length, getD, set, take, drop}
+use lib.Seq.{sets, paste, length-sets, take-all}
 use borrow.Author.Tests.{ltb-true, ltb-false}
 use Rattle.laws.proofs.Tests.{cases}
+use Rattle.laws.proofs.Stores.{sets-left, sets-miss, sets-hit}
 use Rattle.bcn_spec.specs.Answers.{done}
 use Rattle.probe_places.specs.declared.Place.{Place}
 use Rattle.probe_places.specs.Places.{placeSize, placesIn, byteAt, formatIn, columnIn, rowIn, placeIn, placeRefusal}
@@ -30,33 +31,6 @@ five l n a b c d e =
     let e4 : n + 4 ≡ suc (suc (suc (suc n))) = omega arith in
     rw (e1, e2, e3, e4)
 
-sets-left : (xs a b : List ℕ) (i : ℕ) → i + length xs ≤ length a → sets (a ++ b) i xs ≡ sets a i xs ++ b
-sets-left [] a b i h = refl
-sets-left (x ∷ xs) a b i h =
-    let lt : i < length a = omega arith in
-    let len : length (set a i x) ≡ length a = length-set a i x in
-    ap (λ (t : List ℕ). sets t (suc i) xs) (set-append-left a b i x lt) ∙ sets-left xs (set a i x) b (suc i) (omega arith)
-
--- a byte outside the stores stays
-sets-before : (xs l : List ℕ) (i j : ℕ) → j < i → getD (sets l i xs) j 0 ≡ getD l j 0
-sets-before [] l i j h = refl
-sets-before (x ∷ xs) l i j h = sets-before xs (set l i x) (suc i) j (omega arith) ∙ getD-set-other l i j x 0 (λ e. omega arith)
-
-sets-behind : (xs l : List ℕ) (i j : ℕ) → i + length xs ≤ j → getD (sets l i xs) j 0 ≡ getD l j 0
-sets-behind [] l i j h = refl
-sets-behind (x ∷ xs) l i j h = sets-behind xs (set l i x) (suc i) j (omega arith) ∙ getD-set-other l i j x 0 (λ e. omega arith)
-
--- byte k of the stores
-sets-at : (xs l : List ℕ) (i k : ℕ) → k < length xs → i + k < length l → getD (sets l i xs) (i + k) 0 ≡ getD xs k 0
-sets-at [] l i k h r = absurd (omega arith)
-sets-at (x ∷ xs) l i zero h r =
-    let q : i + 0 ≡ i = omega arith in
-    ap (λ (j : ℕ). getD (sets (set l i x) (suc i) xs) j 0) q ∙ sets-before xs (set l i x) (suc i) i (omega arith) ∙ getD-set-same l i x 0 (omega arith)
-sets-at (x ∷ xs) l i (suc k) h r =
-    let q : i + suc k ≡ suc i + k = omega arith in
-    let len : length (set l i x) ≡ length l = length-set l i x in
-    ap (λ (j : ℕ). getD (sets (set l i x) (suc i) xs) j 0) q ∙ sets-at xs (set l i x) (suc i) k (omega arith) (omega arith)
-
 -- ---- the store
 
 pub put-length : (store : List ℕ) (n : ℕ) (p : Place) → length (putStore store n p) ≡ length store
@@ -77,8 +51,8 @@ pub others-stay : (store : List ℕ) (n : ℕ) (p : Place) (j : ℕ) → (j < n 
 unfolding putStore
 others-stay store n p j h =
     ⊎-elim
-    (λ l. sets-before (placeBytes p) store (n * placeSize + 5) j l)
-    (λ l. sets-behind (placeBytes p) store (n * placeSize + 5) j (omega arith))
+    (λ l. sets-miss (placeBytes p) store (n * placeSize + 5) j (λ k b e. omega arith))
+    (λ l. sets-miss (placeBytes p) store (n * placeSize + 5) j (λ k b e. omega arith))
     h
 
 -- ---- what the record then says
@@ -89,7 +63,7 @@ module _ (store : List ℕ) (n : ℕ) (p : Place) where
   unfolding putStore
   put-byte h k l =
       let q : n * placeSize + (5 + k) ≡ n * placeSize + 5 + k = omega arith in
-      ap (λ (j : ℕ). getD (sets store (n * placeSize + 5) (placeBytes p)) j 0) q ∙ sets-at (placeBytes p) store (n * placeSize + 5) k l (omega arith)
+      ap (λ (j : ℕ). getD (sets store (n * placeSize + 5) (placeBytes p)) j 0) q ∙ sets-hit (placeBytes p) store (n * placeSize + 5) k l (omega arith)
 
   -- every other byte of the record, and of the other records
   pub head-stays : (k : ℕ) → k < 5 → byteAt (putStore store n p) n k ≡ byteAt store n k

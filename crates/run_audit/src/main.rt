@@ -1,19 +1,18 @@
 // Audits a store: reads it from standard input and writes its audit.
 
 use run_streams::Input;
-use run_streams::StoreInput;
+use run_streams::STORE_INPUT;
 use run_streams::first_bytes;
 use run_streams::read_input;
 use run_streams::write_text;
-use text_audit::Audit;
 use text_audit::put_audit;
 
 fn main() {
-    let mut input = [0u8; StoreInput::ROOM];
+    let mut input = [0u8; STORE_INPUT];
     let Input::Whole(size) = read_input(&mut input) else {
         return;
     };
-    let mut text = [0u8; Audit::ROOM];
+    let mut text = [0u8; text_audit::ROOM];
     let end = put_audit(&mut text, first_bytes(&input, size));
     write_text(&text, end);
 }

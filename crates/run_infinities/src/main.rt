@@ -1,19 +1,18 @@
 // Names the records of a store in which a value is minus infinity: reads the store from standard input and writes what there is to say.
 
 use run_streams::Input;
-use run_streams::StoreInput;
+use run_streams::STORE_INPUT;
 use run_streams::first_bytes;
 use run_streams::read_input;
 use run_streams::write_text;
-use text_infinities::Infinities;
 use text_infinities::put_infinities;
 
 fn main() {
-    let mut input = [0u8; StoreInput::ROOM];
+    let mut input = [0u8; STORE_INPUT];
     let Input::Whole(size) = read_input(&mut input) else {
         return;
     };
-    let mut text = [0u8; Infinities::ROOM];
+    let mut text = [0u8; text_infinities::ROOM];
     let end = put_infinities(&mut text, first_bytes(&input, size));
     write_text(&text, end);
 }

@@ -12,7 +12,7 @@ ghost use Rattle.run_list.specs.Listing.{listingRefusal, listingOf};
 use bcn_spec::Answer;
 use raw_bytes::same_bytes;
 use run_streams::Input;
-use run_streams::StoreInput;
+use run_streams::STORE_INPUT;
 use run_streams::first_bytes;
 use run_streams::read_input;
 use run_streams::tell;
@@ -81,7 +81,7 @@ fn tell_damaged(store: &[u8]) {
 }
 
 fn main() {
-    let mut input = [0u8; StoreInput::ROOM];
+    let mut input = [0u8; STORE_INPUT];
     let Input::Whole(size) = read_input(&mut input) else {
         return;
     };

@@ -11,16 +11,10 @@ ghost use lib.ListN.{length, drop};
 ghost use Rattle.laws.specs.Made.{made};
 ghost use Rattle.run_pixels.specs.Shown.{halfAt, shownBytes, recordBytes};
 
-// What is read, and what is written for it.
-struct Record {
-    bytes: [u8; 17],
-}
+// The bytes of what is read, and of what is written for it.
+const SIZE: usize = 17;
 
-impl Record {
-    const SIZE: usize = 17;
-
-    const SHOWN: usize = 100;
-}
+const SHOWN: usize = 100;
 
 fn low_byte(value: u16) -> u8
     ensures { λ r. ⌜ r ≡ value % 256 ⌝ }
@@ -74,11 +68,7 @@ fn piece_end(at: usize, size: usize) -> usize
     requires { ⌜ (at < size) × (size < 2 ^ 63) ⌝ }
     ensures { λ r. ⌜ (at < r) × (r ≤ size) ⌝ }
 {
-    if size - at < Record::SIZE {
-        size
-    } else {
-        at + Record::SIZE
-    }
+    if size - at < SIZE { size } else { at + SIZE }
 }
 
 // What is written for the records of `input`, and how many bytes that is.
@@ -90,13 +80,13 @@ fn decode_records(input: &[u8], out: &mut [u8]) -> usize
     let count = (size + 16) / 17;
     let mut i = 0;
     while i < count {
-        let at = Record::SIZE * i;
+        let at = SIZE * i;
         let end = piece_end(at, size);
-        let to = Record::SHOWN * i;
+        let to = SHOWN * i;
         decode_record(&input[at..end], &mut out[to..]);
         i += 1;
     }
-    Record::SHOWN * count
+    SHOWN * count
 }
 
 // The same, written in one go.

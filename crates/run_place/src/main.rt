@@ -5,7 +5,7 @@ ghost use Rattle.store_records.specs.Store.{storeLimit};
 ghost use Rattle.text_moves.specs.Output.{placedOutput};
 ghost use Rattle.run_streams.specs.Output.{Outgoing};
 use run_streams::Input;
-use run_streams::StoreInput;
+use run_streams::STORE_INPUT;
 use run_streams::first_bytes;
 use run_streams::read_input;
 use run_streams::write_text;
@@ -20,7 +20,7 @@ fn write_placed(input: &[u8], size: usize, out: &[u8], end: usize)
 }
 
 fn main() {
-    let mut input = [0u8; StoreInput::ROOM];
+    let mut input = [0u8; STORE_INPUT];
     let Input::Whole(size) = read_input(&mut input) else {
         return;
     };

@@ -7,7 +7,6 @@ use run_streams::Input;
 use run_streams::first_bytes;
 use run_streams::read_input;
 use run_streams::write_text;
-use text_restore::Restoring;
 use text_restore::put_restoring;
 
 // What goes out is the definition of what was read.
@@ -18,11 +17,11 @@ fn write_restoring(input: &[u8], size: usize, out: &[u8], end: usize)
 }
 
 fn main() {
-    let mut input = [0u8; Restoring::INPUT];
+    let mut input = [0u8; text_restore::INPUT];
     let Input::Whole(size) = read_input(&mut input) else {
         return;
     };
-    let mut out = [0u8; Restoring::OUTPUT];
+    let mut out = [0u8; text_restore::OUTPUT];
     let end = put_restoring(&mut out, first_bytes(&input, size));
     write_restoring(&input, size, &out, end);
 }

@@ -2,7 +2,7 @@
 // `fields_pixels`, and the 48 values that the record shows, two bytes each, low byte first, all zero on a refusal. Input of another length
 // holds no record.
 
-use bc6_numbers::Numbers;
+use bc6_numbers::NUMBERS;
 use bc6h_spec::Fields;
 use bc6h_spec::Picture;
 use run_streams::Input;
@@ -29,12 +29,12 @@ fn two_bytes(low: u8, high: u8) -> u16
     (low as u16) + 256 * (high as u16)
 }
 
-fn numbers_in(input: &[u8]) -> [u16; Numbers::COUNT]
+fn numbers_in(input: &[u8]) -> [u16; NUMBERS]
     requires { ⌜ length (now input) ≡ inputSize ⌝ }
     ensures { λ r. ⌜ r ≡ made (numberIn (now (input .entry))) numberCount ⌝ }
 {
-    let mut numbers = [0u16; Numbers::COUNT];
-    for k in 0..Numbers::COUNT {
+    let mut numbers = [0u16; NUMBERS];
+    for k in 0..NUMBERS {
         numbers[k] = two_bytes(input[2 * k], input[2 * k + 1]);
     }
     numbers

@@ -19,14 +19,8 @@ pub enum Input {
     Failed,
 }
 
-pub struct StoreInput {
-    pub size: usize,
-}
-
-impl StoreInput {
-    // One byte more than a store may have: enough to tell that one is too long.
-    pub const ROOM: usize = Record::STORE + 1;
-}
+// The room for a store that is read, with one byte more than a store may have: enough to tell that one is too long.
+pub const STORE_INPUT: usize = Record::STORE + 1;
 
 // Reads standard input until it ends or the buffer is full. A read that fails is not the end of the input.
 pub fn read_input(buffer: &mut [u8]) -> Input

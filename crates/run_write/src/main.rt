@@ -1,7 +1,7 @@
 // Standard input is a run of 44-byte field records, what run_fields writes after its answers: the format, the mode, twelve endpoints
 // (two bytes each, low byte first), the partition, the pixels in region 1, sixteen indices. For each it writes 17 bytes: the answer and
 // the block, zeros on a refusal. A last piece below 44 bytes is no record, and refused as an invalid one.
-use bc6_numbers::Numbers;
+use bc6_numbers::NUMBERS;
 use bc6h_spec::Fields;
 use libc::STDIN_FILENO;
 use libc::STDOUT_FILENO;
@@ -40,12 +40,12 @@ fn number_in(piece: &[u8], k: usize) -> u16
     two_bytes(piece[k + 12], 0)
 }
 
-fn numbers_in(piece: &[u8]) -> [u16; Numbers::COUNT]
+fn numbers_in(piece: &[u8]) -> [u16; NUMBERS]
     requires { ⌜ length (now piece) ≡ 44 ⌝ }
     ensures { λ r. ⌜ r ≡ made (numberIn (now (piece .entry))) numberCount ⌝ }
 {
-    let mut numbers = [0u16; Numbers::COUNT];
-    for k in 0..Numbers::COUNT {
+    let mut numbers = [0u16; NUMBERS];
+    for k in 0..NUMBERS {
         numbers[k] = number_in(piece, k);
     }
     numbers

@@ -12,7 +12,7 @@ use borrow.Author.Tests.{lt-ltb, le-ltb, eq-eqb, ltb-true, ltb-false}
 use Rattle.laws.specs.Checks.{firstMet}
 use Rattle.laws.proofs.Tests.{cases}
 use Rattle.laws.proofs.Sameness.{true-false, not-so}
-use Rattle.bcn_spec.specs.Answers.{done, badFormat, spareByte}
+use Rattle.bcn_spec.specs.Answers.{badFormat, spareByte}
 use Rattle.bcn_spec.specs.Bits.{blockSize}
 use Rattle.bc6h_spec.specs.Fields.{modeOf}
 use Rattle.store_records.specs.Store.{recordSize, headSize, storeLimit, recordsIn, byteOf, formatOf, spareZero, blockOf, recordRefusal}

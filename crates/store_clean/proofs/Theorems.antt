@@ -5,25 +5,23 @@ use mathlib.Core.List.{List}
 use Prim.Native.Nat.{ℕ, _*_, _≤_, _<_}
 use native.Mathlib.Omega.{arith}
 use lib.ListN.{length, getD, drop, length-append}
-use borrow.Author.Tests.{eqb-true, eqb-false}
 use Rattle.laws.proofs.Tests.{cases}
-use Rattle.laws.proofs.Rows.{length-made}
-use Rattle.laws.proofs.Sameness.{true-false, not-so}
+use Rattle.laws.proofs.Sameness.{true-false}
 use Rattle.bcn_spec.specs.Answers.{done}
 use Rattle.bc6h_spec.specs.Picture.{isSigned}
 use Rattle.bc6h_spec.specs.Block.{pixelsOf}
 use Rattle.store_records.specs.Store.{recordSize, recordsIn}
 use Rattle.store_spec.specs.declared.TwinList.{TwinList}
 use Rattle.store_spec.specs.Shown.{pictureAt}
-use Rattle.store_spec.specs.Twins.{twinMark, Alike, Twin, firstTwin, markAt, marksOf, Listed}
+use Rattle.store_spec.specs.Twins.{twinMark, Alike, Twin, Listed}
 use Rattle.store_spec.proofs.Marking.{first-alike, mark-is}
 use Rattle.store_spec.proofs.Listing as listing
 use Rattle.store_spec.proofs.Listing.{marked-first}
 use Rattle.store_clean.specs.declared.Cleaned.{Cleaned}
-use Rattle.store_clean.specs.Clean.{Repeats, firstOf, goes, recordOf, staying, going, cleanedOf, stayCount, CleanedInto}
+use Rattle.store_clean.specs.Clean.{Repeats, firstOf, goes, recordOf, staying, cleanedOf, stayCount, CleanedInto}
 use Rattle.store_clean.specs.Theorems.{EachHasOne, OnlyThose, StaysInOrder, Held, NoneLost, Again, CleanAgain, NoCopy, TwinsLeft, GoneAreTwins}
 use Rattle.store_clean.proofs.Repeating as repeating
-use Rattle.store_clean.proofs.Leaving.{record-front, staying-less, place-of, left-at, left-same, going-same, going-count}
+use Rattle.store_clean.proofs.Leaving.{record-front, staying-less, place-of, left-at}
 use Rattle.store_clean.proofs.Cleaning as cleaning
 use Rattle.store_clean.proofs.Moving.{Sized, Moved, format-moved, block-moved, cleaned-records, none-goes, cleaned-again, all-stay}
 

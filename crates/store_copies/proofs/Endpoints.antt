@@ -2,16 +2,14 @@
 use mathlib.Core.Path.{_≡_, refl, sym, ap, _∙_, subst}
 use mathlib.Core.Logic.{_≢_}
 use mathlib.Core.Bool.{Bool, true, false}
-use Prim.Native.Nat.{ℕ, suc, _+_, _-_, _*_, _/_, _%_, _^_, _≤_, _<_}
+use Prim.Native.Nat.{ℕ, suc, _+_, _-_, _*_, _%_, _^_, _≤_, _<_}
 use native.Mathlib.Decide.{decLt}
 use native.Mathlib.Omega.{arith}
-use lib.Dec.{ltb}
-use lib.IntN.{ℤ, pos, negsuc, negℤ, natAbs, _+ℤ_, _-ℤ_}
-use lib.Pow.{pow-pos, pow-mono}
+use lib.IntN.{ℤ, pos, negsuc, negℤ, natAbs, _+ℤ_}
+use lib.Pow.{pow-mono}
 use borrow.Author.Tests.{lt-ltb, le-ltb}
-use Rattle.laws.specs.Pick.{pick}
 use Rattle.laws.proofs.Near.{mod-near}
-use Rattle.laws.proofs.Off.{Off, off-pos, off-neg, off-raise, off-same, off-add, off-fun}
+use Rattle.laws.proofs.Off.{Off, off-same, off-add, off-fun}
 use Rattle.bc6h_spec.specs.Half.{signExtend, keep, transform}
 use Rattle.bc6h_spec.specs.Picture.{firstEnd, delta, otherEnd}
 use Rattle.bc6h_spec.proofs.Ranges.{keep-lt, twice}

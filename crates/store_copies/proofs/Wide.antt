@@ -1,4 +1,4 @@
--- Demand 3 on more tiles, from bytes to bytes: one format, one mode up to 13, one partition, either number of regions. Assumes nothing.
+-- Demand 3 on more blocks, from bytes to bytes: one format, one mode up to 13, one partition, either number of regions. Assumes nothing.
 use mathlib.Core.Path.{_≡_, sym, ap, _∙_, subst}
 use mathlib.Core.List.{List}
 use Prim.Native.Nat.{ℕ, _≤_, _<_}

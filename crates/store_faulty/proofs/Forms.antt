@@ -2,10 +2,10 @@
 use mathlib.Core.Path.{_≡_, refl, sym, ap, _∙_}
 use mathlib.Core.Bool.{Bool, true, false, not}
 use mathlib.Core.List.{List}
-use Prim.Native.Nat.{ℕ, zero, suc, _+_, _/_, _%_, _≤_, _<_}
+use Prim.Native.Nat.{ℕ, _+_, _%_, _≤_, _<_}
 use native.Mathlib.Numerals.{add-one}
 use native.Mathlib.Omega.{arith}
-use lib.Dec.{eqb, ltb}
+use lib.Dec.{eqb}
 use lib.ListN.{length}
 use borrow.Author.Tests.{lt-ltb, le-ltb, eq-eqb, ne-eqb, eqb-true, ltb-false, not-false}
 use Rattle.laws.specs.Pick.{pick}
@@ -20,7 +20,6 @@ use Rattle.store_records.proofs.Readings as plain-readings
 use Rattle.probe_places.specs.Places.{placeSize, placesIn}
 use Rattle.probe_places.specs.Readings.{placedRefusal, placedPart}
 use Rattle.probe_places.proofs.Readings as placed
-use Rattle.store_faulty.specs.declared.FaultCounts.{FaultCounts}
 use Rattle.store_faulty.specs.Faulty.{RecordForm, plainForm, placedForm, formOf, countIn, storeChecks, storeRefusal, isRefused, isDamaged, causeOf, howMany, countsOf, Counted}
 
 -- ---- which form

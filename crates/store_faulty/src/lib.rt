@@ -17,23 +17,14 @@ use store_records::record_at;
 use store_records::record_block;
 
 // A form is told by the bytes of its record. Any byte but that of records with a place stands for 24-byte records.
-pub struct Form {
-    pub byte: u8,
-}
+pub const PLAIN: u8 = 24;
 
-impl Form {
-    pub const PLAIN: u8 = 24;
-
-    pub const PLACED: u8 = 32;
-
-    // The most records of a store, of either form.
-    pub const RECORDS: usize = Record::STORE / Record::SIZE;
-}
+pub const PLACED: u8 = 32;
 
 fn record_size(form: u8) -> usize
     ensures { λ r. ⌜ r ≡ formOf form .size ⌝ }
 {
-    if form == Form::PLACED {
+    if form == PLACED {
         return Place::SIZE;
     }
     Record::SIZE
@@ -42,7 +33,7 @@ fn record_size(form: u8) -> usize
 fn store_limit(form: u8) -> usize
     ensures { λ r. ⌜ r ≡ formOf form .limit ⌝ }
 {
-    if form == Form::PLACED {
+    if form == PLACED {
         return Place::STORE;
     }
     Record::STORE
@@ -72,7 +63,7 @@ pub fn tile_of(form: u8, store: &[u8], n: usize) -> u32
     requires { ⌜ n < countIn (formOf form) (now store) ⌝ }
     ensures { λ r. ⌜ r ≡ formOf form .tile (now (store .entry)) n ⌝ }
 {
-    if form == Form::PLACED {
+    if form == PLACED {
         return probe_places::tile_at(store, n);
     }
     store_records::tile_at(store, n)
@@ -82,7 +73,7 @@ pub fn tile_of(form: u8, store: &[u8], n: usize) -> u32
 fn record_refusal(form: u8, store: &[u8], n: usize) -> u8
     ensures { λ r. ⌜ r ≡ formOf form .refusal (now (store .entry)) n ⌝ }
 {
-    if form == Form::PLACED {
+    if form == PLACED {
         return placed_record_at(store, n).number();
     }
     record_at(store, n).number()
@@ -99,7 +90,7 @@ fn block_of(form: u8, store: &[u8], n: usize) -> &[u8]
     requires { ⌜ formOf form .refusal (now store) n ≡ done ⌝ }
     ensures { λ r. ⌜ now r ≡ formOf form .block (now (store .entry)) n ⌝ }
 {
-    if form == Form::PLACED {
+    if form == PLACED {
         return placed_record_block(store, n);
     }
     record_block(store, n)

@@ -20,7 +20,7 @@ use store_records::record_count;
 use store_scratch::mode_at;
 use store_scratch::picture_in;
 use store_spec::Mark;
-use store_spec::Scratch;
+use store_spec::TwinList;
 
 pub fn same_picture(a: &[u16], b: &[u16]) -> bool
     requires { ⌜ (length (now a) ≡ valueCount) × (length (now b) ≡ valueCount) ⌝ }
@@ -136,5 +136,5 @@ pub fn scratch_refusal(store: &[u8], room: usize, space: usize) -> u8
     if refusal != Answer::DONE {
         return refusal;
     }
-    list_refusal(store, space / Scratch::ENTRY)
+    list_refusal(store, space / TwinList::ENTRY)
 }

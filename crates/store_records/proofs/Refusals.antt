@@ -1,16 +1,16 @@
 -- Which check gives the record call its answer, and what a record that is not refused says of its store. Assumes nothing.
-use mathlib.Core.Path.{_≡_, refl}
-use mathlib.Core.Bool.{Bool, true, false}
+use mathlib.Core.Path.{_≡_}
+use mathlib.Core.Bool.{true, false}
 use mathlib.Core.List.{List}
-use Prim.Native.Nat.{ℕ, _+_, _*_, _/_, _%_, _≤_, _<_}
+use Prim.Native.Nat.{ℕ, _%_, _≤_, _<_}
 use native.Mathlib.Omega.{arith}
-use lib.Dec.{eqb, ltb}
-use lib.ListN.{length, getD, length-take, length-drop}
+use lib.Dec.{eqb}
+use lib.ListN.{length, length-take, length-drop}
 use borrow.Author.Tests.{lt-ltb, le-ltb, eq-eqb, ne-eqb, ltb-true, ltb-false, eqb-true, eqb-false, not-false}
 use Rattle.laws.proofs.Tests.{cases, both-true}
 use Rattle.laws.proofs.Checks.{none-met}
-use Rattle.bcn_spec.specs.Answers.{done, badFormat, longStore, unevenStore, spareByte, noRecord}
-use Rattle.bcn_spec.specs.Bits.{IsBlock, blockSize}
+use Rattle.bcn_spec.specs.Answers.{badFormat, longStore, unevenStore, spareByte, noRecord}
+use Rattle.bcn_spec.specs.Bits.{blockSize}
 use Rattle.store_records.specs.Store.{recordSize, storeLimit, recordsIn, byteOf, formatOf, spareZero, blockOf, recordChecks, recordRefusal, Unrefused}
 
 module _ (store : List ℕ) (n : ℕ) where

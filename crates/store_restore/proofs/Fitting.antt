@@ -10,7 +10,7 @@ use lib.Dec.{eqb, ltb}
 use lib.ListN.{length}
 use borrow.Author.Tests.{lt-ltb, le-ltb, eq-eqb, ne-eqb, ltb-true, ltb-false, eqb-true, not-true, not-false}
 use Rattle.laws.specs.Every.{below}
-use Rattle.laws.proofs.Tests.{cases, both-true, below-at}
+use Rattle.laws.proofs.Tests.{both-true, below-at}
 use Rattle.laws.proofs.Checks.{none-met}
 use Rattle.laws.proofs.Search.{holds, is-true}
 use Rattle.laws.proofs.Below.{below-all, below-fails, below-upto}
@@ -183,7 +183,3 @@ module _ (cleaned receipt : List ℕ) (room : ℕ) where
         whole = whole-receipt receipt (totalOf cleaned receipt) (not-false _ (none .1 .1 .1 .0));
         room-for = ltb-false _ _ (none .1 .1 .1 .1 .0);
       }
-
-pub restorable-when : {cleaned receipt : List ℕ} {room number : ℕ} → number ≡ restoreRefusal cleaned receipt room → number ≡ done
-    → Restorable cleaned receipt room
-restorable-when {cleaned} {receipt} {room} e z = restorable cleaned receipt room (sym e ∙ z)

@@ -3,7 +3,6 @@
 ghost use mathlib.Core.Path.{_≡_};
 ghost use Prim.Native.Nat.{_<_};
 ghost use lib.Dec.{eqb, ltb};
-ghost use lib.ListN.{length};
 ghost use Rattle.laws.specs.Pick.{both};
 ghost use Rattle.store_receipt.specs.Receipt.{entriesIn, numberAt};
 ghost use Rattle.store_restore.specs.Restore.{leastAt, entryFits, receiptFits, restoreRefusal, putInto, PutBack, RestoredInto};

@@ -18,7 +18,7 @@ use store_records::RecordReading;
 use store_records::record_at;
 use store_records::record_block;
 use store_records::record_count;
-use store_spec::Scratch;
+use store_spec::TwinList;
 
 // A number made of all but the high bits of another, to which the next values are added.
 pub fn mixed_on(mix: u64) -> u64
@@ -75,7 +75,7 @@ fn kind_at(store: &[u8], n: usize, format: u8) -> u64
     ensures { λ r. ⌜ r ≡ kindAt (now (store .entry)) n ⌝ }
 {
     if mode_at(store, n) == 0 {
-        return Scratch::NO_PICTURE;
+        return TwinList::NO_PICTURE;
     }
     format as u64
 }

@@ -1,22 +1,22 @@
 -- Laws of the scratch space: a picture that is put at its place, a fingerprint that is put at its own, and what is found of them. Assumes
 -- nothing.
-use mathlib.Core.Path.{_≡_, refl, sym, _∙_, ap, ap₂}
+use mathlib.Core.Path.{_≡_, sym, _∙_, ap, ap₂}
 use mathlib.Core.List.{List, [], _++_, append-nil, append-assoc}
-use Prim.Native.Nat.{ℕ, _+_, _-_, _*_, _/_, _%_, _≤_, _<_}
+use Prim.Native.Nat.{ℕ, _+_, _-_, _*_, _≤_, _<_}
 use native.Mathlib.Numerals.{add-one}
 use native.Mathlib.Omega.{arith}
-use lib.ListN.{length, getD, take, drop, set, length-take, length-drop, length-append, take-append-drop, drop-of-length-le, List·getD-append}
-use lib.Seq.{take-all, take-at, drop-at, drop-drop, getD-take, getD-drop, set-getD, length-take-le}
+use lib.ListN.{length, getD, take, drop, set, length-take, length-drop, take-append-drop, drop-of-length-le, List·getD-append}
+use lib.Seq.{take-all, drop-at, drop-drop, getD-take, getD-drop, set-getD, length-take-le}
 use borrow.Author.Tests.{eq-eqb, ne-eqb}
 use borrow.Rule.Slice.PartMut.{midOf, putMid}
 use Rattle.laws.specs.Pick.{pick}
 use Rattle.laws.specs.Made.{made, join}
 use Rattle.laws.proofs.Rows.{length-made, getD-made, made-more, made-next, made-each, made-same}
-use Rattle.laws.proofs.Joined.{run-more, run-length, run-step, run-end, run-at}
+use Rattle.laws.proofs.Joined.{run-more, run-step, run-end, run-at}
 use Rattle.bc6h_spec.specs.Picture.{valueCount}
 use Rattle.store_records.specs.Store.{recordsIn, formatOf, Unrefused}
 use Rattle.store_spec.specs.Shown.{pictureAt, Reserved, isRecord}
-use Rattle.store_spec.specs.Scratch.{entrySize, noPicture, kindAt, mixedOn, mixedUpto, printOf, printAt, valueAt, slotAt, picturesOf, scratchOf, pictureIn, Pictured, Kept}
+use Rattle.store_spec.specs.Scratch.{noPicture, kindAt, mixedOn, mixedUpto, printOf, printAt, valueAt, slotAt, picturesOf, scratchOf, pictureIn, Pictured, Kept}
 use Rattle.store_spec.proofs.Shown.{is-record, is-refused, picture-length}
 
 -- ---- the fingerprint

@@ -1,15 +1,14 @@
 -- The twin list's statement: which check gives its answer, what a done list says of its store, its marks and its counts, and that it
 -- admits one outcome. Assumes nothing.
 use mathlib.Core.Path.{_≡_, refl, sym, _∙_, ap}
-use mathlib.Core.Bool.{Bool, true, false}
-use mathlib.Core.List.{List, [], _∷_, _++_}
+use mathlib.Core.List.{List, _++_}
 use Prim.Native.Nat.{ℕ, zero, suc, _+_, _*_, _/_, _%_, _≤_, _<_}
 use native.Mathlib.Omega.{arith}
 use lib.Dec.{eqb, ltb}
 use lib.ListN.{length, getD, take, drop, List·getD-append}
 use lib.Seq.{take-at, drop-at}
-use borrow.Author.Tests.{lt-ltb, le-ltb, eq-eqb, ne-eqb, ltb-true, ltb-false, eqb-true, not-false}
-use Rattle.laws.specs.Made.{made, countOf}
+use borrow.Author.Tests.{lt-ltb, le-ltb, eq-eqb, ne-eqb, ltb-false, eqb-true, not-false}
+use Rattle.laws.specs.Made.{countOf}
 use Rattle.laws.proofs.Tests.{cases}
 use Rattle.laws.proofs.Checks.{none-met}
 use Rattle.laws.proofs.Rows.{length-made, getD-made}
@@ -18,7 +17,7 @@ use Rattle.bcn_spec.specs.Answers.{done, shortOutput, longStore, unevenStore}
 use Rattle.store_records.specs.Store.{recordSize, storeLimit, recordsIn, mostRecords}
 use Rattle.store_spec.specs.declared.TwinList.{TwinList}
 use Rattle.store_spec.specs.Scratch.{entrySize, scratchOf}
-use Rattle.store_spec.specs.Twins.{Marked, keptMark, twinMark, badMark, firstTwin, markAt, marksOf, Marks, listChecks, listRefusal, refusal, answerAt, marksAt, Listed, scratchRefusal, scratchAt, ListedIn}
+use Rattle.store_spec.specs.Twins.{Marked, keptMark, twinMark, badMark, firstTwin, markAt, marksOf, Marks, listChecks, listRefusal, refusal, answerAt, Listed, scratchRefusal, ListedIn}
 use Rattle.store_spec.proofs.Marking.{mark-small, mark-is, twin-marked}
 
 -- ---- the checks
@@ -48,26 +47,13 @@ module _ (size room : ℕ) where
       (λ b. cases (ltb room (size / recordSize)) (λ e. rw (a, b, e) (omega arith)) (λ e. rw (a, b, e) (omega arith)))
       (λ b. rw (a, b) (omega arith)))
 
--- ---- the statement, at each return
-
 module _ (store lent : List ℕ) where
-  pub listed-refused : (number : ℕ) {r : TwinList} → number ≡ listRefusal (length store) (length lent) → (number ≡ done → ⊥) → r ≡ refusal number
-      → Listed store lent r lent
-  listed-refused zero a z e = absurd (z refl)
-  listed-refused (suc k) a z e = let s = sym a in record { answers = rw s e; holds = rw s }
-
   marks-length : length (marksOf store) ≡ recordsIn store
   unfolding marksOf
   marks-length = length-made (markAt store) (recordsIn store)
 
   front : {after : List ℕ} → after ≡ marksOf store ++ drop (recordsIn store) lent → take (recordsIn store) after ≡ marksOf store
   front e = ap (take (recordsIn store)) e ∙ take-at (marksOf store) (drop (recordsIn store) lent) (recordsIn store) marks-length
-
-  pub listed-done : {after : List ℕ} {kept twins bad : ℕ} → listRefusal (length store) (length lent) ≡ done
-      → after ≡ marksOf store ++ drop (recordsIn store) lent → kept ≡ countOf keptMark (take (recordsIn store) after)
-      → twins ≡ countOf twinMark (take (recordsIn store) after) → bad ≡ countOf badMark (take (recordsIn store) after)
-      → Listed store lent (record { answer = done; kept = kept; twins = twins; bad = bad }) after
-  listed-done a e k t b = record { answers = rw (a, k, t, b, front e); holds = rw a e }
 
 -- ---- what it says
 

@@ -7,16 +7,14 @@ use native.Mathlib.Omega.{arith}
 use lib.Dec.{eqb, ltb}
 use lib.ListN.{length, getD}
 use borrow.Author.Tests.{eq-eqb, ne-eqb, eqb-true, eqb-false, lt-ltb, le-ltb, ltb-true, ltb-false}
-use Rattle.laws.specs.Pick.{pick, both}
 use Rattle.laws.specs.Every.{same}
 use Rattle.laws.specs.First.{firstBelow}
 use Rattle.laws.proofs.Tests.{cases, both-true}
 use Rattle.laws.proofs.Firsts.{first-end, first-at, first-passes, first-least, first-never}
 use Rattle.laws.proofs.Sameness.{true-false, not-so, same-so, same-means}
-use Rattle.bcn_spec.specs.Answers.{done}
 use Rattle.bc6h_spec.specs.Fields.{modeOf}
 use Rattle.bc6h_spec.specs.Picture.{valueCount}
-use Rattle.store_records.specs.Store.{recordsIn, formatOf, blockOf, recordRefusal, Unrefused}
+use Rattle.store_records.specs.Store.{recordsIn, formatOf, blockOf, Unrefused}
 use Rattle.store_spec.specs.Shown.{pictureAt, Reserved, isRecord, isReserved}
 use Rattle.store_spec.specs.Scratch.{pictureIn, kindAt, printOf, Pictured, Kept}
 use Rattle.store_spec.proofs.Shown.{is-record, is-refused, whole-picture}

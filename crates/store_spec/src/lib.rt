@@ -34,10 +34,16 @@ pub struct TwinList {
 }
 
 impl TwinList {
-    // The most records of a store, and the values of scratch space for them.
+    // The most records of a store.
     pub const RECORDS: usize = Record::STORE / Record::SIZE;
 
-    pub const SCRATCH: usize = TwinList::RECORDS * Scratch::ENTRY;
+    // How many values of scratch space a record takes, its fingerprint and its picture; and a whole store.
+    pub const ENTRY: usize = 1 + Picture::VALUES;
+
+    pub const SCRATCH: usize = TwinList::RECORDS * TwinList::ENTRY;
+
+    // The kind of a record that holds no picture; that of another is its format.
+    pub const NO_PICTURE: u64 = 2;
 
     pub fn refused(answer: u8) -> TwinList
         ensures { λ r. ⌜ r ≡ refusal answer ⌝ }
@@ -49,17 +55,4 @@ impl TwinList {
             bad: 0,
         }
     }
-}
-
-// Scratch space for so many records.
-pub struct Scratch {
-    pub records: usize,
-}
-
-impl Scratch {
-    // How many values a record takes: its fingerprint and its picture.
-    pub const ENTRY: usize = 1 + Picture::VALUES;
-
-    // The kind of a record that holds no picture; that of another is its format.
-    pub const NO_PICTURE: u64 = 2;
 }

@@ -1,25 +1,19 @@
 -- Laws of words that are stored one after the other. Assumes nothing.
-use mathlib.Core.Path.{_≡_, refl, sym, ap, ap₂, _∙_}
+use mathlib.Core.Path.{_≡_, refl, sym, ap, _∙_}
 use mathlib.Core.List.{List, [], _∷_, _++_}
-use Prim.Native.Nat.{ℕ, zero, suc, _+_, _/_, _%_, _≤_, _<_}
+use Prim.Native.Nat.{ℕ, _+_, _/_, _%_, _≤_, _<_}
 use native.Mathlib.Numerals.{add-one}
 use native.Mathlib.Omega.{arith}
 use lib.ListN.{length, getD, set, take, length-append}
 use lib.Seq.{sets, length-sets, sets-eq, take-all, take-suc, take-at, length-take-le}
-use mathlib.Core.Bool.{false}
-use Rattle.laws.specs.Every.{same}
-use Rattle.laws.proofs.Sameness.{not-so, same-means}
+pub use Rattle.laws.proofs.Stores.{sets-append}
 use Rattle.text.specs.Text.{hexDigit, hex, Written}
-
-pub sets-append : (xs ys l : List ℕ) (at next : ℕ) → next ≡ at + length xs → sets (sets l at xs) next ys ≡ sets l at (xs ++ ys)
-sets-append [] ys l at next e = let same : next ≡ at = omega arith in ap (λ (k : ℕ). sets l k ys) same
-sets-append (x ∷ xs) ys l at next e = sets-append xs ys (set l at x) (suc at) next (omega arith)
 
 -- one word, and a word behind it
 pub then : {l m n : List ℕ} {at r s : ℕ} {a b : List ℕ} → Written l at a r m → Written m r b s n → Written l at (a ++ b) s n
 then {l} {m} {n} {at} {r} {s} {a} {b} x y = record {
   next-is = let len = length-append a b in let p = x .next-is in let q = y .next-is in omega arith;
-  exit-is = y .exit-is ∙ ap (λ (t : List ℕ). sets t r b) (x .exit-is) ∙ sets-append a b l at r (x .next-is);
+  exit-is = y .exit-is ∙ ap (λ (t : List ℕ). sets t r b) (x .exit-is) ∙ sets-append a b l at r (sym (x .next-is));
 }
 
 -- the statement admits one outcome
@@ -34,10 +28,6 @@ pub hex-is : (v : ℕ) {a b c d : ℕ} → a ≡ hexDigit (v / 4096 % 16) → b 
     → a ∷ b ∷ c ∷ d ∷ [] ≡ hex v
 unfolding hex
 hex-is v e f g h = rw (e, f, g, h)
-
--- lists of two lengths are not the same
-pub other-length : (xs ys : List ℕ) → (length xs ≡ length ys → ⊥) → same xs ys ≡ false
-other-length xs ys d = not-so (same xs ys) (λ e. d (ap length (same-means xs ys e)))
 
 -- a store of the word's next byte
 pub one-more : (l p w : List ℕ) (at k : ℕ) → p ≡ sets l at (take k w) → k < length w → set p (at + k) (getD w k 0) ≡ sets l at (take (k + 1) w)

@@ -4,8 +4,6 @@ ghost use mathlib.Core.Path.{_≡_};
 ghost use mathlib.Core.List.{_++_};
 ghost use Prim.Native.Nat.{_+_, _≤_, _%_};
 ghost use lib.ListN.{length};
-ghost use lib.Seq.{sets};
-ghost use Rattle.laws.specs.Every.{same};
 ghost use Rattle.text.specs.Text.{decimal, hexDigit, hex, field, refusalLine, Written};
 
 pub fn put(text: &mut [u8], at: usize, word: &[u8]) -> usize

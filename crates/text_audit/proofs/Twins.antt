@@ -1,14 +1,14 @@
 -- The audit's lines and counts, as a loop over the records makes them. Assumes nothing.
-use mathlib.Core.Path.{_≡_, refl, sym, ap, _∙_}
+use mathlib.Core.Path.{_≡_, refl, sym, _∙_}
 use mathlib.Core.Bool.{Bool, true, false}
-use mathlib.Core.List.{List, [], _∷_, _++_, append-nil}
+use mathlib.Core.List.{List, _++_, append-nil}
 use Prim.Native.Nat.{ℕ, zero, suc, _+_, _≤_, _<_}
 use native.Mathlib.Numerals.{add-one}
 use native.Mathlib.Omega.{arith}
-use lib.Dec.{eqb, ltb}
+use lib.Dec.{ltb}
 use lib.ListN.{length}
 use borrow.Author.Tests.{eq-eqb, ne-eqb, lt-ltb, le-ltb}
-use Rattle.laws.specs.Pick.{pick, both}
+use Rattle.laws.specs.Pick.{pick}
 use Rattle.laws.specs.Made.{made}
 use Rattle.laws.proofs.Joined.{run-more}
 use Rattle.bcn_spec.specs.Answers.{done}
@@ -23,7 +23,7 @@ use Rattle.store_spec.proofs.Listing as listed
 use Rattle.text.specs.Text.{field, refusalLine, Written}
 use Rattle.text.proofs.Texts.{then, said}
 use Rattle.text_audit.specs.declared.Finding.{Finding}
-use Rattle.text_audit.specs.Audit.{staysFor, findingOf, columnsLine, pairOf, twinLine, isTwin, auditLine, auditLines, twinsWith, isCopy, isAlike, isCovered, isBefore, tallyLine, tallyOf, auditAt, auditOf, Tallied}
+use Rattle.text_audit.specs.Audit.{staysFor, findingOf, columnsLine, pairOf, twinLine, isTwin, auditLine, auditLines, twinsWith, isCopy, isAlike, isCovered, isBefore, tallyLine, tallyOf, auditOf, Tallied}
 
 -- ---- a line
 

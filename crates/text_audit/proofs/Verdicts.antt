@@ -2,9 +2,9 @@
 use mathlib.Core.Path.{_≡_, refl, sym, _∙_, ap}
 use mathlib.Core.Bool.{Bool, true, false}
 use mathlib.Core.List.{List}
-use Prim.Native.Nat.{ℕ, zero, suc, _+_, _≤_, _<_}
+use Prim.Native.Nat.{ℕ, zero, suc, _+_, _<_}
 use native.Mathlib.Omega.{arith}
-use lib.ListN.{length, getD}
+use lib.ListN.{length}
 use borrow.Author.Tests.{eq-eqb, eqb-true}
 use Rattle.laws.specs.Pick.{pick, both}
 use Rattle.laws.proofs.Tests.{cases}
@@ -15,7 +15,6 @@ use Rattle.store_records.specs.Store.{recordsIn, mostRecords}
 use Rattle.store_spec.specs.Twins.{twinMark, firstTwin, markAt, marksOf, listRefusal, answerAt, marksAt, Listed}
 use Rattle.store_spec.proofs.Marking as marking
 use Rattle.store_spec.proofs.Listing as listing
-use Rattle.store_covered.specs.CleanUp.{Copy, covered}
 use Rattle.store_covered.proofs.Theorem.{alike-copy}
 use Rattle.store_covered.proofs.Covering.{covered-shows}
 use Rattle.store_clean.specs.Clean.{firstOf, goes, going}
@@ -24,7 +23,7 @@ use Rattle.store_clean.proofs.Leaving.{going-same}
 use Rattle.store_clean.proofs.Cleaning as cleaning
 use Rattle.store_clean.proofs.Theorems.{gone-are-twins}
 use Rattle.text_audit.specs.Audit.{staysFor, findingOf, isTwin, twinsWith, isCopy}
-use Rattle.text_audit.specs.Verdicts.{Whole, toldCopy, CopiesGo, CopiesRemoved, Beside, BesideStays, AlikeUncovered}
+use Rattle.text_audit.specs.Verdicts.{Whole, toldCopy, CopiesGo, CopiesRemoved, BesideStays, AlikeUncovered}
 
 -- ---- what goes is a twin
 

@@ -16,7 +16,6 @@ use store_clean::first_of;
 use store_covered::is_by_demand_3;
 use store_covered::is_covered;
 use store_faulty::FaultCounts;
-use store_faulty::Form;
 use store_faulty::count_faults;
 use store_faulty::one_if;
 use store_records::record_count;
@@ -30,16 +29,10 @@ use text::put_count;
 use text::put_field;
 use text::put_refusal;
 
-pub struct Audit {
-    pub end: usize,
-}
+// The most bytes of a line, and the room for a line a record, the columns and the counts, which have two lines' room.
+const LINE: usize = 128;
 
-impl Audit {
-    // The most bytes of a line, and the room for a line a record, the columns and the counts, which have two lines' room.
-    const LINE: usize = 128;
-
-    pub const ROOM: usize = (TwinList::RECORDS + 3) * Audit::LINE;
-}
+pub const ROOM: usize = (TwinList::RECORDS + 3) * LINE;
 
 // What is told of a twin: the record that stays, whether the twin is its copy, and whether the copies theorem covers the two.
 pub struct Finding {
@@ -172,7 +165,7 @@ fn put_twins(text: &mut [u8], at: usize, store: &[u8], marks: &[u8]) -> usize
         covered += one_if(finding.covered);
         before += one_if(finding.by_demand_3);
     }
-    let faults = count_faults(Form::PLAIN, store);
+    let faults = count_faults(store_faulty::PLAIN, store);
     put_tally(text, end, faults, copies, alike, covered, before)
 }
 

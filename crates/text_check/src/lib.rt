@@ -1,7 +1,6 @@
 // What there is to say of the faulty records of a store, as text: a line a record and a last line with the counts, or the line of a
 // refused store.
 
-ghost use mathlib.Core.Path.{_≡_};
 ghost use Prim.Native.Nat.{_+_, _*_, _≤_, _<_};
 ghost use lib.ListN.{length};
 ghost use Rattle.text.specs.Text.{Written};
@@ -11,31 +10,25 @@ ghost use Rattle.text_check.specs.Checking.{faultLine, checkLines, count
 use bcn_spec::Answer;
 use probe_places::Place;
 use store_faulty::FaultCounts;
-use store_faulty::Form;
 use store_faulty::cause_of;
 use store_faulty::count_faults;
 use store_faulty::record_count;
 use store_faulty::store_refusal;
 use store_faulty::tile_of;
+use store_records::Record;
 use text::put;
 use text::put_count;
 use text::put_decimal;
 use text::put_field;
 use text::put_refusal;
 
-pub struct Checking {
-    pub end: usize,
-}
+// The most bytes of a line, and the room for a line a record, of either form, and one more.
+const LINE: usize = 128;
 
-impl Checking {
-    // The most bytes of a line, and the room for a line a record and one more.
-    const LINE: usize = 128;
+pub const ROOM: usize = (Record::STORE / Record::SIZE + 1) * LINE;
 
-    pub const ROOM: usize = (Form::RECORDS + 1) * Checking::LINE;
-
-    // The form's byte and one byte more than a store may have: enough to tell that one is too long.
-    pub const INPUT: usize = 1 + Place::STORE + 1;
-}
+// The form's byte and one byte more than a store may have: enough to tell that one is too long.
+pub const INPUT: usize = 1 + Place::STORE + 1;
 
 // The line of record n.
 fn put_fault(text: &mut [u8], at: usize, form: u8, store: &[u8], n: usize, cause: u8) -> usize
@@ -101,7 +94,7 @@ pub fn put_input(text: &mut [u8], input: &[u8]) -> usize
     ensures { λ r. ⌜ Written (now (text .entry)) 0 (checkingOf (now (input .entry))) r (now (text .exit)) ⌝ }
 {
     if input.len() == 0 {
-        return put_checking(text, Form::PLAIN, input);
+        return put_checking(text, store_faulty::PLAIN, input);
     }
     put_checking(text, input[0], &input[1..])
 }

@@ -1,6 +1,5 @@
 -- The lines of a clean-up, as a loop over the records makes them, the whole text, and the cleaned store behind it. Assumes nothing.
-use mathlib.Core.Path.{_≡_, refl, sym, ap, ap₂, _∙_}
-use mathlib.Core.Bool.{true, false}
+use mathlib.Core.Path.{_≡_, refl, sym, ap, _∙_}
 use mathlib.Core.List.{List, _++_, append-nil}
 use Prim.Native.Nat.{ℕ, zero, suc, _+_, _*_, _≤_, _<_}
 use native.Mathlib.Omega.{arith}
@@ -14,7 +13,7 @@ use Rattle.bcn_spec.specs.Answers.{done}
 use Rattle.store_records.specs.Store.{recordSize, storeLimit, recordsIn, tileAt, mostRecords}
 use Rattle.store_spec.specs.Twins.{listRefusal}
 use Rattle.store_clean.specs.declared.Cleaned.{Cleaned}
-use Rattle.store_clean.specs.Clean.{firstOf, goes, stayCount, goneCount, answerAt, CleanedInto}
+use Rattle.store_clean.specs.Clean.{firstOf, goes, answerAt, CleanedInto}
 use Rattle.store_clean.proofs.Cleaning as cleaning
 use Rattle.text.specs.Text.{lineFeed, decimal, field, refusalLine, Written}
 use Rattle.text.proofs.Texts.{then, said}

@@ -9,7 +9,7 @@ use lib.Seq.{length-take-le, take-all}
 use borrow.Author.Tests.{lt-ltb, ltb-true, ltb-false}
 use Rattle.laws.proofs.Tests.{cases}
 use Rattle.bcn_spec.specs.Answers.{longStore}
-use Rattle.store_records.specs.Store.{storeLimit, mostRecords}
+use Rattle.store_records.specs.Store.{storeLimit}
 use Rattle.store_spec.specs.Twins.{listRefusal}
 use Rattle.text.specs.Text.{refusalLine}
 use Rattle.text_clean.specs.CleanText.{cleaningText, cleaningOutput, ReadEnough}

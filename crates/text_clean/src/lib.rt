@@ -23,16 +23,10 @@ use text::put_decimal;
 use text::put_field;
 use text::put_refusal;
 
-pub struct Cleaning {
-    pub end: usize,
-}
+// The most bytes of a line; the room for a line a record, the counts and a store.
+const LINE: usize = 128;
 
-impl Cleaning {
-    // The most bytes of a line; the room for a line a record, the counts and a store.
-    const LINE: usize = 128;
-
-    pub const ROOM: usize = (TwinList::RECORDS + 1) * Cleaning::LINE + Record::STORE;
-}
+pub const ROOM: usize = (TwinList::RECORDS + 1) * LINE + Record::STORE;
 
 // The line of record n, which is removed, and of the record that stays for it.
 fn put_removed(text: &mut [u8], at: usize, store: &[u8], n: usize, first: usize) -> usize

@@ -28,16 +28,10 @@ use text::put_refusal;
 
 const MINUS_INFINITY: u16 = 0xFC00;
 
-pub struct Infinities {
-    pub end: usize,
-}
+// The most bytes of a line, and the room for a line a record and one more.
+const LINE: usize = 128;
 
-impl Infinities {
-    // The most bytes of a line, and the room for a line a record and one more.
-    const LINE: usize = 128;
-
-    pub const ROOM: usize = (TwinList::RECORDS + 1) * Infinities::LINE;
-}
+pub const ROOM: usize = (TwinList::RECORDS + 1) * LINE;
 
 // The first value that is minus infinity, or 48 where none is.
 fn first_infinite(values: &[u16]) -> usize

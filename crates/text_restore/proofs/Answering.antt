@@ -1,9 +1,9 @@
 -- Which inputs are refused, the answer and the store behind it, and how much of an input has to be read. Assumes nothing.
 use mathlib.Core.Path.{_≡_, refl, sym, ap, _∙_}
-use mathlib.Core.List.{List, [], _∷_, _++_}
+use mathlib.Core.List.{List, [], _∷_}
 use Prim.Native.Nat.{ℕ, zero, suc, _+_, _*_, _-_, _≤_, _<_}
 use native.Mathlib.Omega.{arith}
-use lib.ListN.{length, getD, take, drop, length-append, length-take, length-drop}
+use lib.ListN.{length, take, drop, length-append, length-take, length-drop}
 use lib.Seq.{take-all, take-at}
 use borrow.Author.Tests.{lt-ltb, le-ltb, ltb-false}
 use Rattle.laws.proofs.Checks.{none-met}
@@ -15,7 +15,7 @@ use Rattle.store_restore.proofs.Fitting.{restorable}
 use Rattle.store_restore.proofs.Restoring as restoring
 use Rattle.text.specs.Text.{Written}
 use Rattle.text.proofs.Texts.{then, said}
-use Rattle.text_restore.specs.Restoring.{lengthSize, cleanedLength, cleanedPart, receiptPart, inputChecks, inputRefusal, answeredAt, restoredOutput, outputAt, restoringOutput}
+use Rattle.text_restore.specs.Restoring.{lengthSize, cleanedLength, cleanedPart, receiptPart, inputChecks, inputRefusal, answeredAt, restoredOutput, restoringOutput}
 
 -- ---- the input's own refusals
 

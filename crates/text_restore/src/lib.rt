@@ -16,22 +16,14 @@ use store_restore::restore_store;
 use store_spec::TwinList;
 use text::put;
 
-pub struct Restoring {
-    pub end: usize,
-}
+// The bytes before the cleaned store.
+const LENGTH: usize = 4;
 
-impl Restoring {
-    // The bytes before the cleaned store.
-    const LENGTH: usize = 4;
+// The most bytes of an input that are read: where there are as many, the receipt has too many entries for any store.
+pub const INPUT: usize = LENGTH + Record::STORE + (TwinList::RECORDS + 1) * Entry::SIZE;
 
-    // The most bytes of an input that are read: where there are as many, the receipt has too many entries for any store.
-    pub const INPUT: usize = Restoring::LENGTH
-        + Record::STORE
-        + (TwinList::RECORDS + 1) * Entry::SIZE;
-
-    // The most bytes of an output.
-    pub const OUTPUT: usize = 1 + Record::STORE;
-}
+// The most bytes of an output.
+pub const OUTPUT: usize = 1 + Record::STORE;
 
 // How many bytes of the input are the cleaned store.
 fn cleaned_length(input: &[u8]) -> usize
@@ -45,14 +37,14 @@ fn cleaned_length(input: &[u8]) -> usize
 fn input_refusal(input: &[u8]) -> u8
     ensures { λ r. ⌜ r ≡ inputRefusal (now (input .entry)) ⌝ }
 {
-    if input.len() < Restoring::LENGTH {
+    if input.len() < LENGTH {
         return Answer::BAD_RECEIPT;
     }
     let size = cleaned_length(input);
     if size > Record::STORE {
         return Answer::LONG_STORE;
     }
-    if input.len() < Restoring::LENGTH + size {
+    if input.len() < LENGTH + size {
         return Answer::BAD_RECEIPT;
     }
     Answer::DONE
@@ -83,6 +75,6 @@ pub fn put_restoring(out: &mut [u8], input: &[u8]) -> usize
         let answer = [refusal];
         return put(out, 0, &answer);
     }
-    let start = Restoring::LENGTH + cleaned_length(input);
-    put_restored(out, &input[Restoring::LENGTH..start], &input[start..])
+    let start = LENGTH + cleaned_length(input);
+    put_restored(out, &input[LENGTH..start], &input[start..])
 }

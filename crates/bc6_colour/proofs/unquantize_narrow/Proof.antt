@@ -3,7 +3,7 @@ use borrow.Author.Needs.{needs}
 use mathlib.Core.Path.{_≡_, refl, sym, ap, _∙_}
 use native.Mathlib.Omega.{arith}
 use Prim.Native.Nat.{ℕ, _+_, _-_, _*_, _^_, _<_, _≤_}
-use lib.IntN.{ℤ, pos, natAbs, _+ℤ_, _-ℤ_}
+use lib.IntN.{ℤ, pos, natAbs, _+ℤ_}
 use lib.Pow.{pow-mono}
 use lib.Signed.{pos-natAbs, shrZ}
 use Rattle.laws.proofs.Num.{Num, arg, lit, add, sub, shl, shl-of, shr, ones, named, diff, need, kept, abs-below}

@@ -1,5 +1,4 @@
 -- `bc6_endpoints::end_signed` meets its contract. Assumes nothing.
-use borrow.Author.Needs.{needs}
 use mathlib.Core.Bool.{true}
 use native.Mathlib.Omega.{arith}
 use Rattle.bc6_endpoints.proofs.Channels.{extend-asks, transform-asks, inside, end-is}

@@ -1,6 +1,5 @@
 -- `bc6_mode::modes_of` meets its contract: a word for each two low bits. Assumes nothing.
 use mathlib.Core.Path.{_≡_}
-use Prim.Native.Nat.{_≤_}
 use native.Mathlib.Nat.{le-antisymm}
 use native.Mathlib.Omega.{arith}
 use Rattle.laws.proofs.Arms.{past}

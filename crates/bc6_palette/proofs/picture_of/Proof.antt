@@ -1,7 +1,6 @@
 -- `bc6_palette::picture_of` meets its contract: by the mode. Assumes nothing.
 use borrow.Author.Needs.{needs}
 use borrow.Author.Tests.{le-leb, lt-leb}
-use mathlib.Core.Path.{ap, _∙_}
 use Rattle.bc6h_spec.specs.Picture.{picture}
 use Rattle.bc6_palette.proofs.picture_of.Statement.{statement}
 use Rattle.bc6_palette.proofs.picture_of.Tie as tie

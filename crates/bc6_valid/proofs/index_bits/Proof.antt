@@ -1,5 +1,4 @@
 -- `bc6_valid::index_bits` meets its contract. Assumes nothing.
-use borrow.Author.Needs.{needs}
 use Rattle.bc6_valid.proofs.Sizes.{bits-two, bits-one}
 use Rattle.bc6_valid.proofs.index_bits.Statement.{statement}
 use Rattle.bc6_valid.proofs.index_bits.Tie as tie

@@ -1,5 +1,4 @@
 -- `bc6_valid::own_bits` meets its contract. Assumes nothing.
-use borrow.Author.Needs.{needs}
 use Rattle.bc6_valid.proofs.Sizes.{own-red, own-green, own-blue}
 use Rattle.bc6_valid.proofs.own_bits.Statement.{statement}
 use Rattle.bc6_valid.proofs.own_bits.Tie as tie

@@ -1,5 +1,4 @@
 -- `bc6_valid::partition_fits` meets its contract. Assumes nothing.
-use borrow.Author.Needs.{needs}
 use Rattle.bc6_valid.proofs.Sizes.{part-two, part-one}
 use Rattle.bc6_valid.proofs.partition_fits.Statement.{statement}
 use Rattle.bc6_valid.proofs.partition_fits.Tie as tie

@@ -1,8 +1,7 @@
 -- `bc6_writer::table_words` meets its contract: a row of the table, in two parts. Assumes nothing.
 use borrow.Author.Needs.{needs}
-use mathlib.Core.Path.{_≡_, _∙_, ap}
+use mathlib.Core.Path.{_∙_, ap}
 use Prim.Native.Nat.{_+_, _≤_}
-use native.Mathlib.Omega.{arith}
 use Rattle.bcn_util.specs.Stream.{number}
 use Rattle.bc6_writer.proofs.Scattering as laws
 use Rattle.bc6_writer.proofs.table_words.Statement.{statement}

@@ -1,6 +1,5 @@
 -- `bc6_writer::write_block` meets its contract: one law for each return. Assumes nothing.
 use borrow.Author.Needs.{needs}
-use mathlib.Core.Path.{sym, _∙_}
 use borrow.Author.Tests.{not-true, not-false}
 use Rattle.bc6_valid.proofs.Verdict.{is-known}
 use Rattle.bc6_writer.proofs.Calls as laws

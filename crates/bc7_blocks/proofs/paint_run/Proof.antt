@@ -6,7 +6,7 @@ use native.Mathlib.Omega.{arith}
 use Prim.Native.Nat.{ℕ, _≤_, _+_, _-_, _*_}
 use borrow.Rule.Slice.PartMut.{same-len-mid}
 use lib.ListN.{length, drop, length-take, length-drop}
-use Rattle.laws.proofs.Joined.{run-start, run-step, run-end, run-room}
+use Rattle.laws.proofs.Joined.{run-start, run-step, run-end}
 use Rattle.bc7_blocks.specs.Run.{shownAt, runOf}
 use Rattle.bc7_blocks.proofs.Calls.{each, painted-part}
 use Rattle.bc7_blocks.proofs.paint_run.Statement.{statement}

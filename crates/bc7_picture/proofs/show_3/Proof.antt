@@ -14,7 +14,7 @@ use Rattle.bc7_spec.specs.Fields.{partitionIn, rotationIn, pbitIn}
 use Rattle.bc7_picture.proofs.Marks.{Two, two, two-rising}
 use Rattle.bc7_picture.proofs.Parts.{Ends, Set}
 use Rattle.bc7_picture.proofs.Classes.{one-set}
-use Rattle.bc7_picture.proofs.Tiles.{Tile, painted}
+use Rattle.bc7_picture.proofs.Paintings.{Painting, painted}
 use Rattle.bc7_picture.proofs.show_3.Statement.{statement}
 use Rattle.bc7_picture.proofs.show_3.Tie as tie
 
@@ -39,12 +39,12 @@ module _ (c : tie.After-weigh-two) where
   unfolding before unpacked modes modeAt runBits runIn
   set = record { weighed = c .weigh-two .ensures; positive = lit≤ tt; rising = two-rising (map at-row); run-is = refl }
 
-  tile : Tile 3 n (c .before .ends-in .result) (at-row .row .result .«subset_indexes») 0 0 (c .weigh-two .result) (c .weigh-two .result)
+  painting : Painting 3 n (c .before .ends-in .result) (at-row .row .result .«subset_indexes») 0 0 (c .weigh-two .result) (c .weigh-two .result)
   unfolding before unpacked modes modeAt runBits runIn partitionIn rotationIn
-  tile = one-set 3 n (map at-row .marked) (at-row .before .run .ensures .is) ends set refl (sym (mod-one _))
+  painting = one-set 3 n (map at-row .marked) (at-row .before .run .ensures .is) ends set refl (sym (mod-one _))
 
 returns : tie.Need-returns
-returns c = painted (tile (c .before .before .before .before)) (c .before .before .before .before .before .before .before .before .before .before .args .out .now) _ (c .before .before .paint-regions .ensures)
+returns c = painted (painting (c .before .before .before .before)) (c .before .before .before .before .before .before .before .before .before .before .args .out .now) _ (c .before .before .paint-regions .ensures)
 
 pub show-3-spec : {M : Type 1} → statement M
 show-3-spec =

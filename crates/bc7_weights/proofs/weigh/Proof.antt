@@ -1,11 +1,11 @@
 -- `bc7_weights::weigh` meets its contract: one store a turn in each loop. Assumes nothing.
 use borrow.Author.Needs.{needs}
-use mathlib.Core.Path.{_≡_, _∙_, refl, sym, ap}
+use mathlib.Core.Path.{_≡_, _∙_, refl, ap}
 use mathlib.Core.List.{_++_}
-use Prim.Native.Nat.{ℕ, _+_, _-_, _*_, _<_, _≤_}
+use Prim.Native.Nat.{ℕ, _+_, _-_, _<_, _≤_}
 use native.Mathlib.Omega.{arith}
 use lib.Dec.{lit<, lit≤}
-use lib.ListN.{length, drop, replicate, length-set}
+use lib.ListN.{drop, replicate}
 use Rattle.laws.specs.Made.{made}
 use Rattle.laws.specs.Ranges.{AllBelow}
 use Rattle.laws.proofs.Rows.{made-none, made-store, made-upto, made-all, made-same}

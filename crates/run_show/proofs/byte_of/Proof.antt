@@ -1,7 +1,6 @@
 -- `run_show::byte_of` meets its contract. Assumes nothing.
 use borrow.Author.Needs.{needs}
 use borrow.Author.Tests.{eq-eqb, ne-eqb}
-use mathlib.Core.Path.{_∙_}
 use Rattle.run_show.specs.Picture.{byteOf}
 use Rattle.run_show.proofs.byte_of.Statement.{statement}
 use Rattle.run_show.proofs.byte_of.Tie as tie

@@ -2,7 +2,6 @@ use Rattle.store_faulty.proofs.Forms.{is-placed, is-plain, placed-below
 use borrow.Author.Needs.{needs}
 use Rattle.store_faulty.proofs.tile_of.Statement.{statement}
 use Rattle.store_faulty.proofs.tile_of.Tie as tie
-use Rattle.store_records.proofs.tile_at.Reads as tile-at-reads′
 
 tile-at-requires : tie.Need-tile-at-requires
 tile-at-requires c κs = placed-below _ (c .before .before .args .store .now) (c .if1 .taken) (c .before .before .pre)

@@ -4,7 +4,7 @@ use Prim.Native.Nat.{_≤_, _-_}
 use lib.ListN.{length, length-set}
 use Rattle.laws.proofs.Rows.{made-none, made-store, made-upto}
 use Rattle.store_records.proofs.Readings.{unrefused, format-is, refused}
-use Rattle.store_spec.specs.Scratch.{printOf, printAt}
+use Rattle.store_spec.specs.Scratch.{printOf}
 use Rattle.store_spec.proofs.Keeping.{picture-in-length, Printed, print-passed, print-put, behind-prints, at-count}
 use Rattle.store_scratch.proofs.keep_prints.Statement.{statement}
 use Rattle.store_scratch.proofs.keep_prints.Tie as tie

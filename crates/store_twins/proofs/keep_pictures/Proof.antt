@@ -1,11 +1,9 @@
 use borrow.Author.Needs.{needs}
-use mathlib.Core.Path.{_≡_, refl, _∙_}
-use Prim.Native.Nat.{ℕ, _≤_, _-_, _*_}
-use borrow.Rule.Slice.PartMut.{same-len-mid}
+use mathlib.Core.Path.{_≡_, refl}
+use Prim.Native.Nat.{_≤_, _-_}
 use lib.ListN.{length}
 use Rattle.store_records.proofs.Readings.{unrefused, format-is, refused}
 use Rattle.laws.proofs.Joined.{run-start}
-use Rattle.store_spec.specs.Scratch.{slotAt}
 use Rattle.store_spec.proofs.Keeping.{slot-length, Fore, slot-passed, slot-put, slots-done}
 use Rattle.store_twins.proofs.keep_pictures.Statement.{statement}
 use Rattle.store_twins.proofs.keep_pictures.Tie as tie

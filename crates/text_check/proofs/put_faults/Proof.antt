@@ -2,7 +2,7 @@ use mathlib.Core.Path.{_≡_}
 use Prim.Native.Nat.{_*_, _≤_, _-_}
 use lib.ListN.{length}
 use Rattle.text.specs.Text.{Written}
-use Rattle.store_faulty.specs.Faulty.{formOf, countIn}
+use Rattle.store_faulty.specs.Faulty.{formOf}
 use Rattle.text_check.specs.Checking.{checkLines}
 use Rattle.text_check.proofs.Lines as lines
 use borrow.Author.Needs.{needs}

@@ -5,7 +5,7 @@ use native.Mathlib.Nat.{add-mul, mul-assoc, div-one}
 use native.Mathlib.Omega.{arith}
 use lib.Pow.{shr-shr, split, shr-mod}
 use lib.Bits.{bitAnd, and-shr, and-mod}
-use Rattle.bc6_runs.specs.Threes.{lane, fourOf}
+use Rattle.bc6_runs.specs.Threes.{lane, fourLanes}
 
 abbrev pub below64 : ℕ
 below64 = 18446744073709551616
@@ -13,10 +13,10 @@ below64 = 18446744073709551616
 -- ---- a word is its lanes
 
 glue : (n r0 q1 r1 q2 r2 q3 r3 : ℕ) → n % 65536 ≡ r0 → q1 * 65536 + n % 65536 ≡ n → q2 * 65536 + r1 ≡ q1 → q3 * 65536 + r2 ≡ q2 → r3 ≡ q3
-    → n ≡ fourOf r0 r1 r2 r3
+    → n ≡ fourLanes r0 r1 r2 r3
 glue n r0 q1 r1 q2 r2 q3 r3 h0 a0 a1 a2 top = omega arith
 
-pub whole : (n : ℕ) → n < below64 → n ≡ fourOf (lane n 0) (lane n 1) (lane n 2) (lane n 3)
+pub whole : (n : ℕ) → n < below64 → n ≡ fourLanes (lane n 0) (lane n 1) (lane n 2) (lane n 3)
 whole n h =
     let d : n / 1 ≡ n = div-one n in
     let e2 : n / 65536 / 65536 ≡ n / 4294967296 = shr-shr n 16 16 in
@@ -36,20 +36,20 @@ fourth w x y z (suc (suc zero)) = y
 fourth w x y z (suc (suc (suc e))) = z
 
 module _ (w x y z : ℕ) (hw : w < 65536) (hx : x < 65536) (hy : y < 65536) (hz : z < 65536) where
-  lane-0 : fourOf w x y z / 1 % 65536 ≡ w
+  lane-0 : fourLanes w x y z / 1 % 65536 ≡ w
   lane-0 = omega arith
 
-  lane-1 : fourOf w x y z / 65536 % 65536 ≡ x
+  lane-1 : fourLanes w x y z / 65536 % 65536 ≡ x
   lane-1 = omega arith
 
-  lane-2 : fourOf w x y z / 4294967296 % 65536 ≡ y
+  lane-2 : fourLanes w x y z / 4294967296 % 65536 ≡ y
   lane-2 = omega arith
 
-  lane-3 : fourOf w x y z / 281474976710656 % 65536 ≡ z
+  lane-3 : fourLanes w x y z / 281474976710656 % 65536 ≡ z
   lane-3 = omega arith
 
   -- four numbers of sixteen bits are the lanes of their word ..
-  pub lane-of-four : (e : ℕ) → e < 4 → lane (fourOf w x y z) e ≡ fourth w x y z e
+  pub lane-of-four : (e : ℕ) → e < 4 → lane (fourLanes w x y z) e ≡ fourth w x y z e
   lane-of-four zero h = lane-0
   lane-of-four (suc zero) h = lane-1
   lane-of-four (suc (suc zero)) h = lane-2
@@ -57,7 +57,7 @@ module _ (w x y z : ℕ) (hw : w < 65536) (hx : x < 65536) (hy : y < 65536) (hz 
   lane-of-four (suc (suc (suc (suc e)))) h = absurd (omega arith)
 
   -- the word has 64 bits
-  pub four-fits : fourOf w x y z < below64
+  pub four-fits : fourLanes w x y z < below64
   four-fits = omega arith
 
 -- what holds of a word's four lanes, one by one
@@ -70,10 +70,10 @@ each-lane P a b c d (suc (suc (suc (suc e)))) h = absurd (omega arith)
 
 -- ---- four numbers in one word, worked on at once
 
-pub sums : (a b c d p q r s : ℕ) → fourOf a b c d + fourOf p q r s ≡ fourOf (a + p) (b + q) (c + r) (d + s)
+pub sums : (a b c d p q r s : ℕ) → fourLanes a b c d + fourLanes p q r s ≡ fourLanes (a + p) (b + q) (c + r) (d + s)
 sums a b c d p q r s = omega arith
 
-pub products : (a b c d k : ℕ) → fourOf a b c d * k ≡ fourOf (a * k) (b * k) (c * k) (d * k)
+pub products : (a b c d k : ℕ) → fourLanes a b c d * k ≡ fourLanes (a * k) (b * k) (c * k) (d * k)
 products a b c d k =
     add-mul (a + 65536 * b + 4294967296 * c) (281474976710656 * d) k
     ∙ ap₂ (λ (x y : ℕ). x + y)

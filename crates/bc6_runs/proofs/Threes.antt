@@ -16,8 +16,8 @@ use borrow.Author.Tests.{lt-leb, ne-eqb}
 use Rattle.laws.specs.Pick.{either}
 use Rattle.bcn_util.specs.Runs.{Run, sum}
 use Rattle.bc6_runs.specs.declared.Channels.{Channels}
-use Rattle.bc6_runs.specs.Ends.{fourOf as numbersOf, placesOf, isExtra, modeBy, twoOf, ChannelsRead}
-use Rattle.bc6_runs.specs.Threes.{lane, fourOf, threeOf, ten, turnedBit, extraBits}
+use Rattle.bc6_runs.specs.Ends.{fourOf, placesOf, isExtra, modeBy, twoOf, ChannelsRead}
+use Rattle.bc6_runs.specs.Threes.{lane, fourLanes, threeOf, ten, turnedBit, extraBits}
 use Rattle.bc6_runs.proofs.Gathering.{runs, run-law}
 use Rattle.bc6_runs.proofs.Stored.{channels-read}
 
@@ -30,13 +30,13 @@ each-three P x y z (suc (suc zero)) h = z
 each-three P x y z (suc (suc (suc c))) h = absurd (omega arith)
 
 three-same : (f g : ℕ → ℕ) → ((c : ℕ) → c < 3 → f c ≡ g c) → threeOf f ≡ threeOf g
-three-same f g e = λ i. fourOf (e 0 (lit< tt) i) (e 1 (lit< tt) i) (e 2 (lit< tt) i) 0
+three-same f g e = λ i. fourLanes (e 0 (lit< tt) i) (e 1 (lit< tt) i) (e 2 (lit< tt) i) 0
 
 pub three-sum : (f g : ℕ → ℕ) → threeOf f + threeOf g ≡ threeOf (λ c. f c + g c)
 three-sum f g = sums (f 0) (f 1) (f 2) 0 (g 0) (g 1) (g 2) 0
 
 three-times : (f : ℕ → ℕ) (k : ℕ) → threeOf f * k ≡ threeOf (λ c. f c * k)
-three-times f k = products (f 0) (f 1) (f 2) 0 k ∙ ap (fourOf (f 0 * k) (f 1 * k) (f 2 * k)) (zero-mul k)
+three-times f k = products (f 0) (f 1) (f 2) 0 k ∙ ap (fourLanes (f 0 * k) (f 1 * k) (f 2 * k)) (zero-mul k)
 
 module _ (f : ℕ → ℕ) (small : (c : ℕ) → c < 3 → f c < 65536) where
   lanes : (e : ℕ) → e < 4 → lane (threeOf f) e ≡ fourth (f 0) (f 1) (f 2) 0 e
@@ -60,14 +60,14 @@ and-three x m h =
     λ c k. and-lane x mask c ∙ ap (bitAnd (lane x c)) (three-lane (λ c. m) (λ c k. h) c k) in
     let top : lane y 3 ≡ 0 = and-lane x mask 3 ∙ ap (bitAnd (lane x 3)) (three-top (λ c. m) (λ c k. h)) ∙ and-zero-r (lane x 3) in
     whole y (lt-of-le-of-lt (and-le-r x mask) (three-fits (λ c. m) (λ c k. h)))
-    ∙ (λ i. fourOf (at 0 (lit< tt) i) (at 1 (lit< tt) i) (at 2 (lit< tt) i) (top i))
+    ∙ (λ i. fourLanes (at 0 (lit< tt) i) (at 1 (lit< tt) i) (at 2 (lit< tt) i) (top i))
 
 -- ---- fields of ten bits
 
 pub ten-lt : (x c : ℕ) → ten x c < 1024
 ten-lt x c = mod-lt (x / 2 ^ (10 * c)) (lit< tt)
 
-moved : (a b d : ℕ) → a < 1024 → b < 1024 → d < 1024 → a + b * 1024 * 64 % 2 ^ 64 + d * 1048576 * 4096 % 2 ^ 64 ≡ fourOf a b d 0
+moved : (a b d : ℕ) → a < 1024 → b < 1024 → d < 1024 → a + b * 1024 * 64 % 2 ^ 64 + d * 1048576 * 4096 % 2 ^ 64 ≡ fourLanes a b d 0
 moved a b d ha hb hd = omega arith
 
 pub tens-are : (x : ℕ) → bitAnd x 0x3FF + bitAnd x 0xFFC00 * 2 ^ 6 % 2 ^ 64 + bitAnd x 0x3FF00000 * 2 ^ 12 % 2 ^ 64 ≡ threeOf (ten x)
@@ -85,7 +85,7 @@ ten-low x q =
     let b : (x + 1073741824 * q) / 1024 ≡ x / 1024 + 1024 * (1024 * q) = omega arith in
     let d : (x + 1073741824 * q) / 1048576 ≡ x / 1048576 + 1024 * q = omega arith in
     λ i.
-    fourOf ((ap (λ (y : ℕ). y % 1024) a ∙ low (x / 1) (1048576 * q)) i) ((ap (λ (y : ℕ). y % 1024) b ∙ low (x / 1024) (1024 * q)) i)
+    fourLanes ((ap (λ (y : ℕ). y % 1024) a ∙ low (x / 1) (1048576 * q)) i) ((ap (λ (y : ℕ). y % 1024) b ∙ low (x / 1024) (1024 * q)) i)
     ((ap (λ (y : ℕ). y % 1024) d ∙ low (x / 1048576) q) i) 0
   where
     low : (y q : ℕ) → (y + 1024 * q) % 1024 ≡ y % 1024
@@ -167,7 +167,7 @@ module _ (p : ℕ) (low : 1 ≤ p) (high : p ≤ 1024) where
   ones-fit = let e = in-each in omega arith
 
   ones-are : 4295032833 * p % 2 ^ 64 - 4295032833 ≡ threeOf (λ c. p - 1)
-  ones-are = ap (λ (x : ℕ). x - 4295032833) in-each ∙ (let e : 4295032833 * p - 4295032833 ≡ fourOf (p - 1) (p - 1) (p - 1) 0 = omega arith in e)
+  ones-are = ap (λ (x : ℕ). x - 4295032833) in-each ∙ (let e : 4295032833 * p - 4295032833 ≡ fourLanes (p - 1) (p - 1) (p - 1) 0 = omega arith in e)
 
 module _ (f j : ℕ) (high : j ≤ 10) where
   power-10 : 2 ^ j ≤ 1024
@@ -294,7 +294,7 @@ module _ (n f extra : ℕ) (is : f ≡ threeOf (ten (n / 2 ^ 35))) (most : extra
           sym (read-valid 0 mode n (omega arith) high (lit≤ tt) .endpoint-zero (lt-leb mode 10 low) d c l h k)
           ∙ at-endpoint 0 mode n (omega arith) high (3 * d + c) (omega arith)
 
-      channel-read : (c : ℕ) → c < 3 → {r : List ℤ} → r ≡ twoOf (lane first c) (lane second c) → r ≡ numbersOf (placesOf mode n c)
+      channel-read : (c : ℕ) → c < 3 → {r : List ℤ} → r ≡ twoOf (lane first c) (lane second c) → r ≡ fourOf (placesOf mode n c)
       channel-read c h is =
           is
           ∙ (λ i.

@@ -6,12 +6,12 @@ abbrev pub lane : ℕ → ℕ → ℕ
 lane word e = word / 2 ^ (16 * e) % 2 ^ 16
 
 -- four numbers in one word
-abbrev pub fourOf : ℕ → ℕ → ℕ → ℕ → ℕ
-fourOf w x y z = w + 0x10000 * x + 0x100000000 * y + 0x1000000000000 * z
+abbrev pub fourLanes : ℕ → ℕ → ℕ → ℕ → ℕ
+fourLanes w x y z = w + 0x10000 * x + 0x100000000 * y + 0x1000000000000 * z
 
 -- three numbers, and nothing in the last lane
 abbrev pub threeOf : (ℕ → ℕ) → ℕ
-threeOf f = fourOf (f 0) (f 1) (f 2) 0
+threeOf f = fourLanes (f 0) (f 1) (f 2) 0
 
 -- field c of ten bits
 abbrev pub ten : ℕ → ℕ → ℕ

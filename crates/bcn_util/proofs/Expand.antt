@@ -27,20 +27,20 @@ module _ (n top : ℕ) (h : n < 2 ^ 63) where
   opens-fits = subst (λ (x : ℕ). x < 2 ^ 64) (sym opens) (let l : opened top n < 2 ^ 64 = omega (arith, opened-le top n) in l)
 
 -- b has t bits
-pub record InBits (t b : ℕ) : Type 0 where
+pub record FewBits (t b : ℕ) : Type 0 where
   pub below : b < 2 ^ t
 
 -- what was read has t bits, and each top bit that is put in adds one: so it stays below 2 ^ 63
-pub read-fits : (n t b : ℕ) → b ≡ n % 2 ^ t → InBits t b
+pub read-fits : (n t b : ℕ) → b ≡ n % 2 ^ t → FewBits t b
 read-fits n t b e = record { below = subst (λ (x : ℕ). x < 2 ^ t) (sym e) (mod-lt n (pow-pos t)) }
 
-pub opened-fits : {t b : ℕ} (top x : ℕ) → InBits t b → x ≡ opened top b → InBits (t + 1) x
+pub opened-fits : {t b : ℕ} (top x : ℕ) → FewBits t b → x ≡ opened top b → FewBits (t + 1) x
 opened-fits {t} {b} top x h o =
     let e : 2 ^ (t + 1) ≡ 2 ^ t * 2 = pow-add 2 t 1 in
     let l : x < 2 ^ (t + 1) = omega (arith, opened-le top b, o, h .below) in
     record { below = l }
 
-pub short : {t b : ℕ} → InBits t b → t ≤ 63 → b < 2 ^ 63
+pub short : {t b : ℕ} → FewBits t b → t ≤ 63 → b < 2 ^ 63
 short h l = lt-of-lt-of-le (h .below) (pow-mono l)
 
 -- an index fits a byte

@@ -14,7 +14,7 @@ use Rattle.laws.proofs.Sameness.{same-all, same-not}
 use Rattle.bc6h_spec.specs.Picture.{valueCount}
 use Rattle.bc6.specs.declared.Pixels.{Pixels}
 use Rattle.bc6.specs.Call.{Painted}
-use Rattle.check_replay.specs.Entries.{entrySize, formatIn, blockIn, valueIn, valuesIn, infiniteIn, agrees, countAt, agreeing}
+use Rattle.check_replay.specs.Entries.{replaySize, formatIn, blockIn, valueIn, valuesIn, infiniteIn, agrees, countAt, agreeing}
 
 module _ (values bytes : List ℕ) where
   pub not-same : (k : ℕ) → k < valueCount → (getD values k 0 ≡ valueIn bytes k → ⊥) → false ≡ same values (valuesIn bytes)
@@ -48,18 +48,18 @@ module _ (entry : List ℕ) (p : Pixels) (after : List ℕ) (d : Painted (blockI
   by-values s c a m i = s ∙ rw (← d .answers, eq-eqb _ _ a, eq-eqb _ _ m, ← c, eq-eqb _ _ i, ← d .holds)
 
 module _ (list : List ℕ) (n : ℕ) where
-  pub counts-one : {t : Bool} (size : ℕ) → t ≡ agrees (take size (drop (n * entrySize) list)) → size ≡ entrySize → t ≡ true → 1 ≡ countAt list n
+  pub counts-one : {t : Bool} (size : ℕ) → t ≡ agrees (take size (drop (n * replaySize) list)) → size ≡ replaySize → t ≡ true → 1 ≡ countAt list n
   unfolding countAt
-  counts-one size e s t = let a : agrees (take entrySize (drop (n * entrySize) list)) ≡ true = sym (rw s at e) ∙ t in rw a
+  counts-one size e s t = let a : agrees (take replaySize (drop (n * replaySize) list)) ≡ true = sym (rw s at e) ∙ t in rw a
 
-  pub counts-none : {t : Bool} (size : ℕ) → t ≡ agrees (take size (drop (n * entrySize) list)) → size ≡ entrySize → t ≡ false → 0 ≡ countAt list n
+  pub counts-none : {t : Bool} (size : ℕ) → t ≡ agrees (take size (drop (n * replaySize) list)) → size ≡ replaySize → t ≡ false → 0 ≡ countAt list n
   unfolding countAt
-  counts-none size e s t = let a : agrees (take entrySize (drop (n * entrySize) list)) ≡ false = sym (rw s at e) ∙ t in rw a
+  counts-none size e s t = let a : agrees (take replaySize (drop (n * replaySize) list)) ≡ false = sym (rw s at e) ∙ t in rw a
 
   pub counts-most : {more : ℕ} → more ≡ countAt list n → more ≤ 1
   unfolding countAt
   counts-most e =
-      rw e (picks (agrees (take entrySize (drop (n * entrySize) list))) 1 0 (λ (k : ℕ). k ≤ 1) (λ t. omega arith) (λ t. omega arith))
+      rw e (picks (agrees (take replaySize (drop (n * replaySize) list))) 1 0 (λ (k : ℕ). k ≤ 1) (λ t. omega arith) (λ t. omega arith))
 
   pub one-more : {count more : ℕ} → count ≡ agreeing list n → more ≡ countAt list n → count + more ≡ agreeing list (n + 1)
   unfolding agreeing

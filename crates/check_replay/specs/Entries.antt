@@ -14,8 +14,8 @@ use Rattle.bc6.specs.Call.{refusalOf, answerAt, valuesAt}
 
 -- an entry: a format byte, a block, and what is answered to them: a number, a mode, the count of
 -- minus infinities and 48 values of two bytes each
-abbrev pub entrySize : ℕ
-entrySize = 117
+abbrev pub replaySize : ℕ
+replaySize = 117
 
 abbrev pub formatIn : List ℕ → ℕ
 formatIn entry = getD entry 0 0
@@ -51,7 +51,7 @@ agrees entry =
 
 -- 1 where entry n agrees, else 0
 unfoldable pub countAt : List ℕ → ℕ → ℕ
-countAt list n = pick (agrees (take entrySize (drop (n * entrySize) list))) 1 0
+countAt list n = pick (agrees (take replaySize (drop (n * replaySize) list))) 1 0
 
 -- how many of the first n entries agree
 unfoldable pub agreeing : List ℕ → ℕ → ℕ

@@ -9,7 +9,7 @@ ghost use Prim.Native.Nat.{_/_, _<_};
 ghost use lib.ListN.{length};
 ghost use Rattle.laws.specs.Every.{same};
 ghost use Rattle.bc6h_spec.specs.Picture.{valueCount};
-ghost use Rattle.check_replay.specs.Entries.{entrySize, valueIn, valuesIn, infiniteIn, agrees, countAt, agreeing};
+ghost use Rattle.check_replay.specs.Entries.{replaySize, valueIn, valuesIn, infiniteIn, agrees, countAt, agreeing};
 
 // An entry's bytes, and where its parts begin.
 const SIZE: usize = 117;
@@ -46,7 +46,7 @@ fn same_values(values: &[u16], bytes: &[u8]) -> bool
 
 // The count of minus infinities that an entry has, low byte first.
 fn infinite_in(entry: &[u8]) -> u16
-    requires { ⌜ length (now entry) ≡ entrySize ⌝ }
+    requires { ⌜ length (now entry) ≡ replaySize ⌝ }
     ensures { λ r. ⌜ r ≡ infiniteIn (now (entry .entry)) ⌝ }
 {
     u16_at(entry, COUNT)
@@ -54,7 +54,7 @@ fn infinite_in(entry: &[u8]) -> u16
 
 // Whether our call answers an entry's block as the entry says.
 fn agrees(entry: &[u8]) -> bool
-    requires { ⌜ length (now entry) ≡ entrySize ⌝ }
+    requires { ⌜ length (now entry) ≡ replaySize ⌝ }
     ensures { λ r. ⌜ r ≡ agrees (now (entry .entry)) ⌝ }
 {
     let mut values = [0u16; 48];
@@ -95,7 +95,7 @@ fn print_counts(agreeing: usize, entries: usize) {
 
 // 1 where entry n of the list agrees; else 0, and the entry's number is printed.
 fn replay_one(list: &[u8], n: usize) -> usize
-    requires { ⌜ n < length (now list) / entrySize ⌝ }
+    requires { ⌜ n < length (now list) / replaySize ⌝ }
     ensures { λ r. ⌜ r ≡ countAt (now (list .entry)) n ⌝ }
 {
     let start = n * SIZE;
@@ -109,7 +109,7 @@ fn replay_one(list: &[u8], n: usize) -> usize
 
 // How many entries of the list agree.
 fn replay(list: &[u8]) -> usize
-    ensures { λ r. ⌜ r ≡ agreeing (now (list .entry)) (length (now (list .entry)) / entrySize) ⌝ }
+    ensures { λ r. ⌜ r ≡ agreeing (now (list .entry)) (length (now (list .entry)) / replaySize) ⌝ }
 {
     let entries = list.len() / SIZE;
     let mut count: usize = 0;

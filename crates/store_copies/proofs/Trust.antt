@@ -27,7 +27,7 @@ use Rattle.bc6h_spec.specs.Block.{pixelsOf}
 use Rattle.bc6h_spec.proofs.Reading.{fields-mode}
 use Rattle.store_copies.specs.Words.{PixelAt, ChannelDiffers, Eligible}
 use Rattle.store_copies.specs.Wide.{regions, lastIndex, Reaches, Differs, NoLeast, Spanning, Suited, Matched}
-use Rattle.store_copies.specs.Trust.{Trusted, isBlock, isCovered, isAt, reaches, channelDiffers, differs, isLeast, leastAt, hasLeast, regionTrusted, fieldsTrusted, trusted}
+use Rattle.store_copies.specs.Trust.{Trusted, isBlock, modeCovered, isAt, reaches, channelDiffers, differs, isLeast, leastAt, hasLeast, regionTrusted, fieldsTrusted, trusted}
 use Rattle.store_copies.proofs.Wide.{copies}
 
 -- ---- clause by clause
@@ -165,8 +165,8 @@ unfolding trusted
 sound format block t =
     let t1 = both-right (leb format 1) _ t in
     let t2 = both-right (isBlock block) _ t1 in
-    let covered = both-left (isCovered (modeOf block)) _ t2 in
-    let fields = fields-sound (isSigned format) (fieldsOf format block) (both-right (isCovered (modeOf block)) _ t2) in
+    let covered = both-left (modeCovered (modeOf block)) _ t2 in
+    let fields = fields-sound (isSigned format) (fieldsOf format block) (both-right (modeCovered (modeOf block)) _ t2) in
     record {
       suited =
           record {
@@ -184,7 +184,7 @@ unfolding trusted
 complete format block r =
     both-hold (leb format 1) _ (le→leb _ _ (r .suited .known-format))
     (both-hold (isBlock block) _ (block-complete block (r .suited .bytes))
-    (both-hold (isCovered (modeOf block)) _
+    (both-hold (modeCovered (modeOf block)) _
     (both-hold (leb 1 (modeOf block)) (leb (modeOf block) 13) (le→leb _ _ (r .suited .mode-from)) (le→leb _ _ (r .suited .mode-to)))
     (fields-complete (isSigned format) (fieldsOf format block)
     (record { spans = r .suited .spanning; all-differ = λ n h. r .differs n (in-block format block n h) }))))

@@ -27,8 +27,8 @@ pub record Trusted (format : ℕ) (block : List ℕ) : Type 0 where
 abbrev pub isBlock : List ℕ → Bool
 isBlock block = both (eqb (length block) blockSize) (every (λ byte. ltb byte 256) block)
 
-abbrev pub isCovered : ℕ → Bool
-isCovered mode = both (leb 1 mode) (leb mode 13)
+abbrev pub modeCovered : ℕ → Bool
+modeCovered mode = both (leb 1 mode) (leb mode 13)
 
 -- pixel k lies in region r and has the index n
 abbrev pub isAt : Fields → ℕ → ℕ → ℕ → Bool
@@ -66,5 +66,5 @@ unfoldable pub trusted : ℕ → List ℕ → Bool
 trusted format block =
     both (leb format 1)
     (both (isBlock block)
-    (both (isCovered (modeOf block))
+    (both (modeCovered (modeOf block))
     (fieldsTrusted (isSigned format) (fieldsOf format block))))

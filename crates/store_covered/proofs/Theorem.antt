@@ -15,7 +15,7 @@ use Rattle.store_spec.specs.Shown.{pictureAt}
 use Rattle.store_spec.specs.Twins.{keptMark, twinMark, Alike, firstTwin, markAt, Listed}
 use Rattle.store_spec.proofs.Marking.{first-alike, first-stays}
 use Rattle.store_spec.proofs.Listing.{mark-here, marked-first}
-use Rattle.store_covered.specs.CleanUp.{Covered, Copy, CleanUp, NoTileLost, KeptPicture, NoPictureLost}
+use Rattle.store_covered.specs.CleanUp.{Covered, Copy, CleanUp, NoBlockLost, KeptPicture, NoPictureLost}
 
 -- ---- from the mark to the bytes
 
@@ -69,8 +69,8 @@ module _ {store lent after : List ℕ} {r : TwinList} (d : Listed store lent r a
 pub no-picture-lost : NoPictureLost
 no-picture-lost store lent after r d z n h m = twin-shown d z n h m
 
-pub no-tile-lost : NoTileLost
-no-tile-lost store lent after r d z goes c n h g =
+pub no-block-lost : NoBlockLost
+no-block-lost store lent after r d z goes c n h g =
     let m = c .marked n h g in
     let copy = clean-up store lent after r d z n h m (c .covered-twin n h g) in
     let l = copy .before in

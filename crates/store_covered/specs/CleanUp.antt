@@ -46,7 +46,7 @@ pub record Chosen (store after : List ℕ) (goes : ℕ → Bool) : Type 0 where
   pub covered-twin : (n : ℕ) → n < recordsIn store → goes n ≡ true → Covered store n (firstTwin store n)
 
 -- a record that is marked kept, and so is never chosen, of the format of record n and with its sixteen block bytes
-pub record KeptTile (store after : List ℕ) (goes : ℕ → Bool) (n : ℕ) : Type 0 where
+pub record KeptBlock (store after : List ℕ) (goes : ℕ → Bool) (n : ℕ) : Type 0 where
   pub place : ℕ
   pub before : place < n
   pub kept : getD after place 0 ≡ keptMark
@@ -56,9 +56,9 @@ pub record KeptTile (store after : List ℕ) (goes : ℕ → Bool) (n : ℕ) : T
 
 -- Whatever the twin list did, and whichever covered twins a clean-up chooses: for each record that goes there is one that stays, of the
 -- same format and with the same sixteen bytes. (What goes with a twin all the same is its tile number.)
-abbrev pub NoTileLost : Type 0
-NoTileLost = (store lent after : List ℕ) (r : TwinList) → Listed store lent r after → r .answer ≡ done → (goes : ℕ → Bool) → Chosen store after goes
-    → (n : ℕ) → n < recordsIn store → goes n ≡ true → KeptTile store after goes n
+abbrev pub NoBlockLost : Type 0
+NoBlockLost = (store lent after : List ℕ) (r : TwinList) → Listed store lent r after → r .answer ≡ done → (goes : ℕ → Bool) → Chosen store after goes
+    → (n : ℕ) → n < recordsIn store → goes n ≡ true → KeptBlock store after goes n
 
 -- S-46: a record that is marked kept, of the format of record n and with its 48 values
 pub record KeptPicture (store after : List ℕ) (n : ℕ) : Type 0 where

@@ -9,7 +9,7 @@ ghost use Rattle.laws.specs.Made.{countOf};
 ghost use Rattle.bc6h_spec.specs.Picture.{valueCount};
 ghost use Rattle.store_records.specs.Store.{recordsIn, formatOf, Unrefused};
 ghost use Rattle.store_spec.specs.Shown.{Reserved};
-ghost use Rattle.store_spec.specs.Scratch.{entrySize, Pictured, Kept};
+ghost use Rattle.store_spec.specs.Scratch.{scratchEntry, Pictured, Kept};
 ghost use Rattle.store_spec.specs.Twins.{holding, alike, marksOf, listRefusal, scratchRefusal};
 use bc6h_spec::Picture;
 use bcn_spec::Answer;
@@ -53,7 +53,7 @@ fn kept_alike(store: &[u8], scratch: &[u16], n: usize, format: u8, earlier: usiz
     requires { ⌜ format ≡ formatOf (now store) n ⌝ }
     requires { ⌜ (Reserved (now store) n → ⊥) ⌝ }
     requires { ⌜ (n < recordsIn (now store)) × (earlier < n) ⌝ }
-    requires { ⌜ recordsIn (now store) * entrySize ≤ length (now scratch) ⌝ }
+    requires { ⌜ recordsIn (now store) * scratchEntry ≤ length (now scratch) ⌝ }
     requires { ⌜ Pictured (now store) (now scratch) ⌝ }
     ensures { λ r. ⌜ r ≡ alike (now (store .entry)) n earlier ⌝ }
 {
@@ -69,7 +69,7 @@ fn kept_alike(store: &[u8], scratch: &[u16], n: usize, format: u8, earlier: usiz
 
 // One mark a record, by what scratch space keeps of each.
 pub fn mark_records(store: &[u8], scratch: &[u16], marks: &mut [u8])
-    requires { ⌜ recordsIn (now store) * entrySize ≤ length (now scratch) ⌝ }
+    requires { ⌜ recordsIn (now store) * scratchEntry ≤ length (now scratch) ⌝ }
     requires { ⌜ recordsIn (now store) ≤ length (now marks) ⌝ }
     requires { ⌜ Kept (now store) (now scratch) ⌝ }
     ensures { λ _. ⌜ now (marks .exit) ≡ marksOf (now (store .entry)) ++ drop (recordsIn (now (store .entry))) (now (marks .entry)) ⌝ }

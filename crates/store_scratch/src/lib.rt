@@ -9,7 +9,7 @@ ghost use Rattle.laws.specs.Made.{made};
 ghost use Rattle.bc6h_spec.specs.Fields.{modeOf};
 ghost use Rattle.bc6h_spec.specs.Picture.{valueCount};
 ghost use Rattle.store_records.specs.Store.{recordsIn, formatOf, blockOf, Unrefused};
-ghost use Rattle.store_spec.specs.Scratch.{entrySize, kindAt, mixedOn, mixedUpto, printOf, printAt, pictureIn, Pictured};
+ghost use Rattle.store_spec.specs.Scratch.{scratchEntry, kindAt, mixedOn, mixedUpto, printOf, printAt, pictureIn, Pictured};
 use bc6_mode::extract_mode;
 use bc6h_spec::Picture;
 use bcn_util::BitStream;
@@ -82,7 +82,7 @@ fn kind_at(store: &[u8], n: usize, format: u8) -> u64
 
 // The fingerprints of all records that are not refused, before their pictures.
 pub fn keep_prints(store: &[u8], scratch: &mut [u16])
-    requires { ⌜ recordsIn (now store) * entrySize ≤ length (now scratch) ⌝ }
+    requires { ⌜ recordsIn (now store) * scratchEntry ≤ length (now scratch) ⌝ }
     requires { ⌜ Pictured (now store) (now scratch) ⌝ }
     ensures { λ _. ⌜ now (scratch .exit) ≡ made (printAt (now (store .entry)) (now (scratch .entry))) (recordsIn (now (store .entry))) ++ drop (recordsIn (now (store .entry))) (now (scratch .entry)) ⌝ }
 {

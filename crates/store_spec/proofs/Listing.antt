@@ -16,7 +16,7 @@ use Rattle.laws.proofs.Counts.{count-three}
 use Rattle.bcn_spec.specs.Answers.{done, shortOutput, longStore, unevenStore}
 use Rattle.store_records.specs.Store.{recordSize, storeLimit, recordsIn, mostRecords}
 use Rattle.store_spec.specs.declared.TwinList.{TwinList}
-use Rattle.store_spec.specs.Scratch.{entrySize, scratchOf}
+use Rattle.store_spec.specs.Scratch.{scratchEntry, scratchOf}
 use Rattle.store_spec.specs.Twins.{Marked, keptMark, twinMark, badMark, firstTwin, markAt, marksOf, Marks, listChecks, listRefusal, refusal, answerAt, Listed, scratchRefusal, ListedIn}
 use Rattle.store_spec.proofs.Marking.{mark-small, mark-is, twin-marked}
 
@@ -143,20 +143,20 @@ module _ (size room space : ℕ) where
   met-first zero e z = absurd (z refl)
   met-first (suc k) e z = rw e
 
-  pub met-next : listRefusal size room ≡ done → scratchRefusal size room space ≡ listRefusal size (space / entrySize)
+  pub met-next : listRefusal size room ≡ done → scratchRefusal size room space ≡ listRefusal size (space / scratchEntry)
   unfolding scratchRefusal
   met-next e = rw e
 
   -- a done list's store is whole, and its marks and what is kept of it have room
   pub record Roomy : Type 0 where
     pub marks-fit : Whole size room
-    pub records-fit : Whole size (space / entrySize)
+    pub records-fit : Whole size (space / scratchEntry)
 
   roomy-by : scratchRefusal size room space ≡ done → Roomy
   roomy-by z = go (listRefusal size room) refl
     where
       go : (k : ℕ) → listRefusal size room ≡ k → Roomy
-      go zero q = record { marks-fit = whole-by size room q; records-fit = whole-by size (space / entrySize) (sym (met-next q) ∙ z) }
+      go zero q = record { marks-fit = whole-by size room q; records-fit = whole-by size (space / scratchEntry) (sym (met-next q) ∙ z) }
       go (suc k) q = absurd (omega (arith, sym (met-first (suc k) q (λ e. omega arith)) ∙ z))
 
 pub roomy-when : {size room space number : ℕ} → number ≡ scratchRefusal size room space → number ≡ done → Roomy size room space
@@ -214,7 +214,7 @@ module _ {store lent space after spaceAfter : List ℕ} {r : TwinList} (d : List
   ordinary-list z e = one-outcome (list-is z) e
 
   -- scratch space for as many records as any store has is never too small
-  pub listed-by : length space ≡ mostRecords * entrySize → Listed store lent r after
+  pub listed-by : length space ≡ mostRecords * scratchEntry → Listed store lent r after
   listed-by l =
       let e = enough (listRefusal (length store) (length lent)) refl in
       record { answers = d .answers ∙ rw e; holds = d .holds ∙ rw e }
@@ -224,7 +224,7 @@ module _ {store lent space after spaceAfter : List ℕ} {r : TwinList} (d : List
       enough zero q =
           let w = whole-by (length store) (length lent) q in
           met-next (length store) (length lent) (length space) q
-          ∙ fine (length store) (length space / entrySize) (w .fits) (w .even) (let h = w .fits in omega (arith, l))
+          ∙ fine (length store) (length space / scratchEntry) (w .fits) (w .even) (let h = w .fits in omega (arith, l))
           ∙ sym q
       enough (suc k) q = met-first (length store) (length lent) (length space) (suc k) q (λ e. omega arith) ∙ sym q
 

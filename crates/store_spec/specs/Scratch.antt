@@ -10,8 +10,8 @@ use Rattle.store_records.specs.Store.{recordsIn, formatOf, Unrefused}
 use Rattle.store_spec.specs.Shown.{pictureAt, isRecord, isReserved}
 
 -- how many values of scratch space a record takes: its fingerprint and its picture
-abbrev pub entrySize : ℕ
-entrySize = 49
+abbrev pub scratchEntry : ℕ
+scratchEntry = 49
 
 -- ---- the fingerprint
 

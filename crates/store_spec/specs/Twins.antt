@@ -13,7 +13,7 @@ use Rattle.laws.specs.First.{firstBelow}
 use Rattle.bcn_spec.specs.Answers.{done, shortOutput, longStore, unevenStore}
 use Rattle.store_records.specs.Store.{recordSize, storeLimit, recordsIn, formatOf, Unrefused}
 use Rattle.store_spec.specs.Shown.{pictureAt, Reserved, isRecord, isReserved}
-use Rattle.store_spec.specs.Scratch.{entrySize, scratchOf}
+use Rattle.store_spec.specs.Scratch.{scratchEntry, scratchOf}
 use Rattle.store_spec.specs.declared.TwinList.{TwinList}
 
 -- ---- in words
@@ -125,7 +125,7 @@ firstRefusal (suc number) next = suc number
 
 -- S-85: 5, 6, 3, where 3 is also met by scratch space for fewer records than the store has.
 unfoldable pub scratchRefusal : ℕ → ℕ → ℕ → ℕ
-scratchRefusal size room space = firstRefusal (listRefusal size room) (listRefusal size (space / entrySize))
+scratchRefusal size room space = firstRefusal (listRefusal size room) (listRefusal size (space / scratchEntry))
 
 -- S-85: a refusal changes no lent value either
 abbrev pub scratchAt : ℕ → List ℕ → List ℕ → List ℕ

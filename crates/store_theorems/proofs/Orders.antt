@@ -18,7 +18,7 @@ use Rattle.store_spec.proofs.Listing as listing
 use Rattle.store_clean.specs.Clean.{recordOf, cleanedOf}
 use Rattle.store_clean.proofs.Cleaning as cleaning
 use Rattle.store_clean.proofs.Moving.{Sized, Moved, format-moved, block-moved, refusal-moved}
-use Rattle.store_theorems.specs.Orders.{AlikeIsEquivalence, KeptPicture, SameKept, LeftTile, SameLeft}
+use Rattle.store_theorems.specs.Orders.{AlikeIsEquivalence, KeepsPicture, SameKept, LeftBlock, SameLeft}
 use Rattle.store_theorems.proofs.Carrying.{picture-moved, mode-moved, origin, stands}
 use Rattle.store_theorems.proofs.Pictures.{sized-when}
 use Rattle.store_theorems.proofs.Growing.{sized-list}
@@ -96,7 +96,7 @@ module _ {store other : List ℕ} (sized : Sized store) (also : Sized other) (al
   -- a record that is kept shows what record n shows
   module _ {space others : List ℕ} {next : TwinList} (d : Listed other space next others) (z : next .answer ≡ done) where
     picture-kept : {room marks : List ℕ} {list : TwinList} → Listed store room list marks → list .answer ≡ done → {format : ℕ} {values : List ℕ}
-        → KeptPicture store marks format values → KeptPicture other others format values
+        → KeepsPicture store marks format values → KeepsPicture other others format values
     picture-kept c y p =
         let f = all (p .place) (p .inside) in
         let m = f .moved in
@@ -131,7 +131,7 @@ same-kept store other o room marks list c y space others next d z format values 
 -- ---- the blocks that are left
 
 tile-left : {store other : List ℕ} → Sized store → Sized other → AllIn store other → {format : ℕ} {block : List ℕ}
-    → LeftTile (cleanedOf store) format block → LeftTile (cleanedOf other) format block
+    → LeftBlock (cleanedOf store) format block → LeftBlock (cleanedOf other) format block
 tile-left {store} {other} sized also all p =
     let g = origin store sized (p .place) (p .inside) .moved in
     let m = all _ (g .there) .moved in
@@ -144,9 +144,9 @@ tile-left {store} {other} sized also all p =
     }
 
 left-by : {store other bytes others : List ℕ} → Sized store → Sized other → AllIn store other → bytes ≡ cleanedOf store → others ≡ cleanedOf other
-    → {format : ℕ} {block : List ℕ} → LeftTile bytes format block → LeftTile others format block
+    → {format : ℕ} {block : List ℕ} → LeftBlock bytes format block → LeftBlock others format block
 left-by s t all e q {format} {block} p =
-    subst (λ (l : List ℕ). LeftTile l format block) (sym q) (tile-left s t all (subst (λ (l : List ℕ). LeftTile l format block) e p))
+    subst (λ (l : List ℕ). LeftBlock l format block) (sym q) (tile-left s t all (subst (λ (l : List ℕ). LeftBlock l format block) e p))
 
 pub same-left : SameLeft
 same-left store other o lent after r c y room later s d z format block =

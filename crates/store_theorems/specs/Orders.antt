@@ -33,7 +33,7 @@ AlikeIsEquivalence = (store : List ℕ) → Equivalence store
 -- ---- another order
 
 -- A record that the marks keep holds a picture of the format, with the values.
-pub record KeptPicture (store marks : List ℕ) (format : ℕ) (values : List ℕ) : Type 0 where
+pub record KeepsPicture (store marks : List ℕ) (format : ℕ) (values : List ℕ) : Type 0 where
   pub place : ℕ
   pub inside : place < recordsIn store
   pub kept : getD marks place 0 ≡ keptMark
@@ -47,10 +47,10 @@ SameKept = (store other : List ℕ) → Reordered recordSize store other
     → (room marks : List ℕ) (list : TwinList) → Listed store room list marks → list .answer ≡ done
     → (space others : List ℕ) (next : TwinList) → Listed other space next others → next .answer ≡ done
     → (format : ℕ) (values : List ℕ)
-    → (KeptPicture store marks format values → KeptPicture other others format values) × (KeptPicture other others format values → KeptPicture store marks format values)
+    → (KeepsPicture store marks format values → KeepsPicture other others format values) × (KeepsPicture other others format values → KeepsPicture store marks format values)
 
 -- A record of `bytes` has the format and the sixteen block bytes.
-pub record LeftTile (bytes : List ℕ) (format : ℕ) (block : List ℕ) : Type 0 where
+pub record LeftBlock (bytes : List ℕ) (format : ℕ) (block : List ℕ) : Type 0 where
   pub place : ℕ
   pub inside : place < recordsIn bytes
   pub of-format : formatOf bytes place ≡ format
@@ -62,5 +62,5 @@ SameLeft = (store other : List ℕ) → Reordered recordSize store other
     → (lent after : List ℕ) (r : Cleaned) → CleanedInto store lent r after → r .answer ≡ done
     → (room later : List ℕ) (s : Cleaned) → CleanedInto other room s later → s .answer ≡ done
     → (format : ℕ) (block : List ℕ)
-    → (LeftTile (cleanedBytes r after) format block → LeftTile (cleanedBytes s later) format block)
-    × (LeftTile (cleanedBytes s later) format block → LeftTile (cleanedBytes r after) format block)
+    → (LeftBlock (cleanedBytes r after) format block → LeftBlock (cleanedBytes s later) format block)
+    × (LeftBlock (cleanedBytes s later) format block → LeftBlock (cleanedBytes r after) format block)

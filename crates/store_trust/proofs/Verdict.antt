@@ -24,7 +24,7 @@ use Rattle.bc6.specs.declared.Pixels.{Pixels}
 use Rattle.bc6.specs.Call.{Painted}
 use Rattle.bc6.proofs.Calls.{done-when, written}
 use Rattle.store_copies.specs.Wide.{regions, lastIndex}
-use Rattle.store_copies.specs.Trust.{Trusted, isBlock, isCovered, reaches, channelDiffers, differs, hasLeast, regionTrusted, fieldsTrusted, trusted}
+use Rattle.store_copies.specs.Trust.{Trusted, isBlock, modeCovered, reaches, channelDiffers, differs, hasLeast, regionTrusted, fieldsTrusted, trusted}
 use Rattle.store_copies.proofs.Trust.{block-complete, sound, not-least-complete}
 use Rattle.store_trust.specs.Ramp.{rampedOne, rampedTwo, ramped, entry, entriesDiffer, regionPasses, allPass}
 use Rattle.store_trust.proofs.Ramp.{regionAt, indexAt, one-shown, two-shown}
@@ -159,7 +159,7 @@ module _ (format : ℕ) (block : List ℕ) where
       is-block : IsBlock block
       is-block = record { sixteen = sixteen; byte = byte }
 
-      covered : isCovered (modeOf block) ≡ true
+      covered : modeCovered (modeOf block) ≡ true
       covered = rw (le-leb 1 (modeOf block) (omega (arith, mode-is))) (le-leb (modeOf block) 13 (omega (arith, mode-is)))
 
       abbrev again : ℕ

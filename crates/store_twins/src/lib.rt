@@ -7,7 +7,7 @@ ghost use lib.ListN.{length, drop};
 ghost use Rattle.bc6h_spec.specs.Picture.{valueCount};
 ghost use Rattle.store_records.specs.Store.{recordsIn, formatOf, Unrefused};
 ghost use Rattle.store_spec.specs.Shown.{pictureAt};
-ghost use Rattle.store_spec.specs.Scratch.{entrySize, picturesOf, scratchOf};
+ghost use Rattle.store_spec.specs.Scratch.{scratchEntry, picturesOf, scratchOf};
 ghost use Rattle.store_spec.specs.Twins.{showing, firstTwin, Listed, ListedIn};
 use bc6::block_pixels;
 use bc6h_spec::Picture;
@@ -53,7 +53,7 @@ fn keep_pictures(store: &[u8], pictures: &mut [u16])
 
 // Decodes each record once, into scratch space.
 fn keep_records(store: &[u8], scratch: &mut [u16])
-    requires { ⌜ recordsIn (now store) * entrySize ≤ length (now scratch) ⌝ }
+    requires { ⌜ recordsIn (now store) * scratchEntry ≤ length (now scratch) ⌝ }
     ensures { λ _. ⌜ now (scratch .exit) ≡ scratchOf (now (store .entry)) (now (scratch .entry)) ⌝ }
 {
     let count = record_count(store);

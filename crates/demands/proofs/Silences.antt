@@ -2,7 +2,7 @@
 use mathlib.Core.Path.{_≡_, refl, ap, ap₂, _∙_}
 use mathlib.Core.Bool.{Bool, true, false}
 use mathlib.Core.List.{List, [], _∷_}
-use Prim.Native.Nat.{ℕ, zero, suc}
+use Prim.Native.Nat.{ℕ, zero, suc, _+_, _*_, _%_}
 use lib.ListN.{length, getD, replicate}
 use Rattle.laws.specs.Made.{made}
 use Rattle.bcn_spec.specs.Answers.{done}
@@ -37,10 +37,12 @@ use Rattle.probe_places.specs.Places.{placesIn}
 use Rattle.probe_places.specs.Readings as placed
 use Rattle.probe_moves.specs.declared.Moved.{Moved}
 use Rattle.probe_moves.specs.Moves as moves
+use Rattle.probe_put.specs.Put as put
 use Rattle.probe_places.specs.declared.Fault.{Fault}
 use Rattle.probe.specs.declared.ProbePixel.{ProbePixel}
 use Rattle.probe.specs.Probe as probe
 use Rattle.probe_faces.specs.Face as faces
+use Rattle.probe_open.specs.Open as table
 use Rattle.probe_build.specs.declared.Built.{Built}
 use Rattle.probe_build.specs.Building as building
 use Rattle.dds.specs.declared.DdsRead.{DdsRead}
@@ -48,6 +50,8 @@ use Rattle.dds.specs.declared.DdsWritten.{DdsWritten}
 use Rattle.dds.specs.Dds as dds
 use Rattle.pfm.specs.declared.PfmWritten.{PfmWritten}
 use Rattle.pfm.specs.File as pfm
+use Rattle.exr.specs.declared.ExrWritten.{ExrWritten}
+use Rattle.exr.specs.File as exr
 use Rattle.demands.specs.Silence.{Silent, Demand1}
 
 -- all numbers of a list are zero
@@ -166,12 +170,17 @@ demand1 = record {
   placed-record-block = λ s n. silent-values (λ k. placed.placedPart k s n) (λ k. refl) (placed.placedRefusal s n) refl refl;
   place-store = λ s {o} p. moved (moves.placingFault s (length o)) (records.recordsIn s) (moves.placedStore s) o p;
   unplace-store = λ s {o} p. moved (moves.unplacingFault s (length o)) (placesIn s) (moves.oldStore s) o p;
+  put-place = λ s n p {o} d. moved (put.puttingFault s n p (length o)) (placesIn s) (put.putStore s n p) o d;
   probe-pixel = λ {s} {e} {f} {x} {y} p.
       probed (probe.probeFault s e .answer) (probe.probeFault s e .faulty) (probe.questionRefusal e f x y) (probe.tripleFor s f x y) (p .answers);
   probe-check = λ s e p. record { zeros = λ no k. refl; unchanged = λ no. refl };
   probe-face = λ {s} {o} {a} {e} {f} p.
       silent-one (λ n. n) (λ r. r) (λ r. []) refl (λ n. zeros 0) (λ n. faces.faceValues n (faces.faceOf s e f) o) o (λ n. refl)
       (faces.faceFault s e f (length o) .answer) (ap (λ (r : Fault). r .answer) (p .answers)) (p .holds);
+  probe-open = λ p. record { zeros = λ no k. refl; unchanged = λ no. ap (λ (l : List ℕ). l ∷ []) (p .silent no) };
+  probe-pixel-in = λ {s} {t} {e} {f} {x} {y} p.
+      silent-none (λ n. table.tableShown n (probe.tripleAt s (table.predecessor (table.holderAt t f x y)) (4 * (y % 4) + x % 4))) (λ r. r .answer) probe.tripleIn
+      refl (λ n. zeros 3) (table.tableRefusal s t e f x y) (p .answers);
   probe-build = λ {b} {o} {a} {f} {e} {t} p.
       silent-one (λ n. building.builtAt n (building.recordCount e)) (λ r. r .answer) (λ r. r .records ∷ []) refl (λ n. zeros 1)
       (λ n. building.bytesAt n (building.builtOf b f e t) o) o (λ n. refl) (building.buildRefusal (length b) f e (length o)) (p .answers) (p .holds);
@@ -187,6 +196,9 @@ demand1 = record {
   pfm-write = λ {b} {o} {a} {f} {w} {h} p.
       silent-one (λ n. pfm.writtenAt n w h) (λ r. r .answer) (λ r. r .length ∷ []) refl (λ n. zeros 1)
       (λ n. pfm.leftAt n b f w h o) o (λ n. refl) (pfm.writeRefusal (length b) f w h (length o)) (p .answers) (p .holds);
+  exr-write = λ {b} {o} {a} {f} {w} {h} p.
+      silent-one (λ n. exr.writtenAt n w h) (λ r. r .answer) (λ r. r .bytes ∷ []) refl (λ n. zeros 1)
+      (λ n. exr.leftAt n b f w h o) o (λ n. refl) (exr.writeRefusal (length b) f w h (length o)) (p .answers) (p .holds);
   bc7-pixels = λ {b} {o} p.
       silent-one (λ n. bc7.answerAt n b) (λ r. r .answer) (λ r. r .mode ∷ []) refl (λ n. zeros 1)
       (λ n. bc7.bytesAt n b o) o (λ n. refl) (bc7.refusalOf (length b) (length o)) (p .answers) (p .holds);

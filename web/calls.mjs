@@ -25,6 +25,9 @@ export const BC7_RESERVED = 8;
 export const DDS_HEADER = 148;
 export const DDS_LIMIT = 4096;
 export const DDS_FILE = 16777364;
+export const BC7_LINEAR = 0;
+export const BC7_SRGB = 1;
+export const DDS_LEVELS = 13;
 export const PFM_LIMIT = 4096;
 export const PFM_FILE = 201326610;
 export const EXR_HEADER = 313;
@@ -129,6 +132,12 @@ export const CALLS = Object.freeze({
   knot_dds_head: { answers: "u64", takes: ["in8 file"] },
   knot_dds_read: { answers: "u64", takes: ["in8 file"] },
   knot_dds_blocks: { answers: "u64", takes: ["in8 file"] },
+  knot_bc7_dds_read: { answers: "u64", takes: ["in8 file"] },
+  knot_bc7_dds_blocks: { answers: "u64", takes: ["in8 file"] },
+  knot_dds_first_level: { answers: "u64", takes: ["in8 file"] },
+  knot_dds_first_blocks: { answers: "u64", takes: ["in8 file"] },
+  knot_bc7_dds_first_level: { answers: "u64", takes: ["in8 file"] },
+  knot_bc7_dds_first_blocks: { answers: "u64", takes: ["in8 file"] },
   knot_dds_write: { answers: "u64", takes: ["in8 blocks", "u8 format", "u32 width", "u32 height", "out8 out"] },
   knot_pfm_write: { answers: "u64", takes: ["in8 blocks", "u8 format", "u32 width", "u32 height", "out8 out"] },
   knot_pfm_length: { answers: "u64", takes: ["u32 width", "u32 height"] },

@@ -125,6 +125,12 @@ export declare class Knotpasture {
   ddsHead(head: Bytes): DdsHead;
   /** Size, format and blocks of a whole DDS file. Refusals: 13, 14, 15. */
   ddsRead(file: Bytes): Dds;
+  /** Size, format and blocks of a whole DDS file of BC7 blocks: format 0 is DXGI's 98, 1 is 99, sRGB. Refusals: 13, 14, 15. */
+  bc7DdsRead(file: Bytes): Dds;
+  /** Size, format and blocks of the largest level of a DDS file with 1 to 13 mip levels. Refusals: 13, 14, 15. */
+  ddsFirstLevel(file: Bytes): Dds;
+  /** `ddsFirstLevel` of BC7 blocks, with the formats of `bc7DdsRead`. Refusals: 13, 14, 15. */
+  bc7DdsFirstLevel(file: Bytes): Dds;
   /** A DDS file of blocks in row order. Refusals: 1, 14, 15. */
   ddsWrite(blocks: Bytes, signed: Signed, width: Whole, height: Whole): Uint8Array;
   /** The bytes of the Portable Float Map of a picture; 0 for a size that is refused. */

@@ -489,9 +489,28 @@ export class Knotpasture {
 
   /** Size, format and blocks of a whole DDS file; the blocks are a part of it. Refusals: 13, 14, 15. */
   ddsRead(file) {
-    const given = bytesOf(file, "file"), word = done(this.#call("knot_dds_read", { file: given }).word);
-    const start = Number(this.#call("knot_dds_blocks", { file: given }).word);
-    return { width: part(word, "DDS_WIDTH"), height: part(word, "DDS_HEIGHT"), format: part(word, "DDS_FORMAT"), blocks: given.subarray(start) };
+    return this.#dds("knot_dds_read", "knot_dds_blocks", file);
+  }
+
+  /** Size, format and blocks of a whole DDS file of BC7 blocks: format 0 is DXGI's 98, 1 is 99, sRGB. Refusals: 13, 14, 15. */
+  bc7DdsRead(file) {
+    return this.#dds("knot_bc7_dds_read", "knot_bc7_dds_blocks", file);
+  }
+
+  /** Size, format and blocks of the largest level of a DDS file with 1 to 13 mip levels. Refusals: 13, 14, 15. */
+  ddsFirstLevel(file) {
+    return this.#dds("knot_dds_first_level", "knot_dds_first_blocks", file);
+  }
+
+  /** `ddsFirstLevel` of BC7 blocks, with the formats of `bc7DdsRead`. Refusals: 13, 14, 15. */
+  bc7DdsFirstLevel(file) {
+    return this.#dds("knot_bc7_dds_first_level", "knot_bc7_dds_first_blocks", file);
+  }
+
+  #dds(reading, starting, file) {
+    const given = bytesOf(file, "file"), word = done(this.#call(reading, { file: given }).word), start = Number(this.#call(starting, { file: given }).word);
+    const width = part(word, "DDS_WIDTH"), height = part(word, "DDS_HEIGHT"), bytes = Math.ceil(width / 4) * Math.ceil(height / 4) * BLOCK_SIZE;
+    return { width, height, format: part(word, "DDS_FORMAT"), blocks: given.subarray(start, start + bytes) };
   }
 
   #file(name, blocks, signed, width, height, room) {

@@ -33,8 +33,8 @@ __version__ = "1.0.0"
 BLOCK_SIZE, VALUES, FIELDS, BC7_BYTES = 16, 48, 32, 64
 RECORD_SIZE, STORE_LIMIT, SCRATCH_VALUES, RECEIPT_ENTRY = 24, 48_000, 49, 8
 PLACED_SIZE, PLACED_STORE_LIMIT, FACES, NO_FACE, EDGE_LIMIT, PROBE_TABLE = 32, 64_000, 6, 255, 16, 1536
-DDS_HEADER, DDS_LIMIT, PFM_LIMIT, EXR_LIMIT = 148, 4096, 4096, 4096
-BC7_RESERVED = 8
+DDS_HEADER, DDS_LIMIT, DDS_LEVELS, PFM_LIMIT, EXR_LIMIT = 148, 4096, 13, 4096, 4096
+BC7_RESERVED, BC7_LINEAR, BC7_SRGB = 8, 0, 1
 
 # The marks of a twin list.
 KEPT, TWIN, BAD = 0, 1, 2
@@ -553,10 +553,31 @@ def dds_head(head: Bytes) -> tuple[int, int, int]:
 
 def dds_read(file: Bytes) -> Dds:
     """Size, format and blocks of a whole DDS file. Refusals: 13, 14, 15."""
+    return _dds("knot_dds_read", "knot_dds_blocks", file)
+
+
+def bc7_dds_read(file: Bytes) -> Dds:
+    """Size, format and blocks of a whole DDS file of BC7 blocks: format 0 is DXGI's 98, 1 is 99, sRGB. Refusals: 13, 14, 15."""
+    return _dds("knot_bc7_dds_read", "knot_bc7_dds_blocks", file)
+
+
+def dds_first_level(file: Bytes) -> Dds:
+    """Size, format and blocks of the largest level of a DDS file with 1 to 13 mip levels. Refusals: 13, 14, 15."""
+    return _dds("knot_dds_first_level", "knot_dds_first_blocks", file)
+
+
+def bc7_dds_first_level(file: Bytes) -> Dds:
+    """`dds_first_level` of BC7 blocks, with the formats of `bc7_dds_read`. Refusals: 13, 14, 15."""
+    return _dds("knot_bc7_dds_first_level", "knot_bc7_dds_first_blocks", file)
+
+
+def _dds(reading: str, starting: str, file: Bytes) -> Dds:
     given = _bytes(file, "file")
-    word = _done(_library.call("knot_dds_read")(given.ctypes.data, given.size))
-    start = _library.call("knot_dds_blocks")(given.ctypes.data, given.size)
-    return Dds(_part(word, 16), _part(word, 32), _part(word, 8, 8), given[start:].reshape(-1, BLOCK_SIZE))
+    word = _done(_library.call(reading)(given.ctypes.data, given.size))
+    start = _library.call(starting)(given.ctypes.data, given.size)
+    width, height = _part(word, 16), _part(word, 32)
+    count = -(-width // 4) * -(-height // 4)
+    return Dds(width, height, _part(word, 8, 8), given[start:start + BLOCK_SIZE * count].reshape(-1, BLOCK_SIZE))
 
 
 def dds_write(blocks: Bytes, signed: Signed, width: int, height: int) -> NDArray[numpy.uint8]:

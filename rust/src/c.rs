@@ -120,6 +120,12 @@ extern "C" {
     pub fn knot_dds_head(file: *const u8, file_length: usize) -> u64;
     pub fn knot_dds_read(file: *const u8, file_length: usize) -> u64;
     pub fn knot_dds_blocks(file: *const u8, file_length: usize) -> usize;
+    pub fn knot_bc7_dds_read(file: *const u8, file_length: usize) -> u64;
+    pub fn knot_bc7_dds_blocks(file: *const u8, file_length: usize) -> usize;
+    pub fn knot_dds_first_level(file: *const u8, file_length: usize) -> u64;
+    pub fn knot_dds_first_blocks(file: *const u8, file_length: usize) -> usize;
+    pub fn knot_bc7_dds_first_level(file: *const u8, file_length: usize) -> u64;
+    pub fn knot_bc7_dds_first_blocks(file: *const u8, file_length: usize) -> usize;
     pub fn knot_dds_write(blocks: *const u8, blocks_length: usize, format: u8, width: u32, height: u32, out: *mut u8, out_length: usize) -> u64;
     pub fn knot_pfm_write(blocks: *const u8, blocks_length: usize, format: u8, width: u32, height: u32, out: *mut u8, out_length: usize) -> u64;
     pub fn knot_pfm_length(width: u32, height: u32) -> usize;

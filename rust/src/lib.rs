@@ -65,6 +65,8 @@ pub const BC7_RESERVED: u8 = 8;
 pub const DDS_HEADER: usize = 148;
 /// Pixels of a side of a DDS file, at most.
 pub const DDS_LIMIT: u32 = 4096;
+/// Mip levels of a DDS file, at most, for [`dds_first_level`].
+pub const DDS_LEVELS: u32 = 13;
 /// Pixels of a side of a Portable Float Map, at most.
 pub const PFM_LIMIT: u32 = 4096;
 /// Pixels of a side of an OpenEXR file, at most.
@@ -747,10 +749,54 @@ pub fn dds_read(file: &[u8]) -> Result<Dds, Refused> {
 /// The blocks of a whole file as a part of it; empty where [`dds_read`] refuses.
 pub fn dds_blocks(file: &[u8]) -> &[u8] {
     // SAFETY: `file` is borrowed to read, with its own length.
-    match unsafe { c::knot_dds_blocks(file.as_ptr(), file.len()) } {
-        0 => &[],
-        start => &file[start..],
-    }
+    blocks(file, dds_read(file), unsafe { c::knot_dds_blocks(file.as_ptr(), file.len()) })
+}
+
+/// The blocks of the largest level, from the start that a call answers.
+fn blocks(file: &[u8], read: Result<Dds, Refused>, start: usize) -> &[u8] {
+    read.map_or(&[], |dds| &file[start..][..BLOCK_SIZE * [dds.width, dds.height].map(|side| side.div_ceil(4) as usize).iter().product::<usize>()])
+}
+
+/// Size and format of a whole file of BC7 blocks: format 0 is DXGI's 98, 1 is 99, sRGB.
+///
+/// Refusals: 13, 14, 15.
+pub fn bc7_dds_read(file: &[u8]) -> Result<Dds, Refused> {
+    // SAFETY: `file` is borrowed to read, with its own length.
+    dds(unsafe { c::knot_bc7_dds_read(file.as_ptr(), file.len()) })
+}
+
+/// The blocks of a whole file of BC7 blocks as a part of it; empty where [`bc7_dds_read`] refuses.
+pub fn bc7_dds_blocks(file: &[u8]) -> &[u8] {
+    // SAFETY: `file` is borrowed to read, with its own length.
+    blocks(file, bc7_dds_read(file), unsafe { c::knot_bc7_dds_blocks(file.as_ptr(), file.len()) })
+}
+
+/// Size and format of a whole file with mip levels, at most [`DDS_LEVELS`]: of its largest level. It takes what [`dds_read`] takes, too.
+///
+/// Refusals: 13, 14, 15.
+pub fn dds_first_level(file: &[u8]) -> Result<Dds, Refused> {
+    // SAFETY: `file` is borrowed to read, with its own length.
+    dds(unsafe { c::knot_dds_first_level(file.as_ptr(), file.len()) })
+}
+
+/// The blocks of the largest level as a part of the file; empty where [`dds_first_level`] refuses.
+pub fn dds_first_blocks(file: &[u8]) -> &[u8] {
+    // SAFETY: `file` is borrowed to read, with its own length.
+    blocks(file, dds_first_level(file), unsafe { c::knot_dds_first_blocks(file.as_ptr(), file.len()) })
+}
+
+/// [`dds_first_level`] of BC7 blocks, with the formats of [`bc7_dds_read`].
+///
+/// Refusals: 13, 14, 15.
+pub fn bc7_dds_first_level(file: &[u8]) -> Result<Dds, Refused> {
+    // SAFETY: `file` is borrowed to read, with its own length.
+    dds(unsafe { c::knot_bc7_dds_first_level(file.as_ptr(), file.len()) })
+}
+
+/// The BC7 blocks of the largest level as a part of the file; empty where [`bc7_dds_first_level`] refuses.
+pub fn bc7_dds_first_blocks(file: &[u8]) -> &[u8] {
+    // SAFETY: `file` is borrowed to read, with its own length.
+    blocks(file, bc7_dds_first_level(file), unsafe { c::knot_bc7_dds_first_blocks(file.as_ptr(), file.len()) })
 }
 
 /// Writes a DDS file to the first bytes of `out`, and answers its length: [`DDS_HEADER`] and the blocks.

@@ -510,6 +510,46 @@ def test_dds():
     refused(1, knotpasture.dds_write, B3, 2, 0, 0)
 
 
+def with_levels(width, height, levels, dxgi, size):
+    """A DDS file of `size` bytes of blocks, each byte another."""
+    head = bytearray(struct.pack("<4s7I44x2I4s20xI16x5I", b"DDS ", 124, 0x81007, height, width, 0, 0, levels, 32, 4, b"DX10", 0x1000, dxgi, 3, 0, 1, 0))
+    return bytes(head) + bytes(k * k % 251 for k in range(size))
+
+
+def test_dds_of_bc7():
+    """Holds S-94."""
+    for dxgi, number in ((98, knotpasture.BC7_LINEAR), (99, knotpasture.BC7_SRGB)):
+        file = with_levels(5, 3, 1, dxgi, 32)
+        dds = knotpasture.bc7_dds_read(file)
+        assert dds[:3] == (5, 3, number) and dds.blocks.tobytes() == file[148:]
+        assert knotpasture.decode_bc7(dds.blocks).shape == (2, 4, 4, 4)
+        refused(13, knotpasture.dds_read, file)
+        refused(15, knotpasture.bc7_dds_read, file + b"x")
+    for dxgi in (95, 96, 97, 100):
+        refused(13, knotpasture.bc7_dds_read, with_levels(5, 3, 1, dxgi, 32))
+    refused(14, knotpasture.bc7_dds_read, with_levels(4097, 3, 1, 98, 32))
+    refused(13, knotpasture.bc7_dds_read, with_levels(5, 3, 2, 98, 48))
+
+
+def test_dds_with_levels():
+    """Holds S-95."""
+    for (width, height, levels), sizes in {(5, 3, 0): (2,), (5, 3, 1): (2,), (5, 3, 3): (2, 1, 1), (16, 8, 4): (8, 2, 1, 1), (12, 1, 13): (3, 2) + 11 * (1,), (9, 5, 2): (6, 1)}.items():
+        for first, reading, single in ((95, knotpasture.dds_first_level, knotpasture.dds_read), (98, knotpasture.bc7_dds_first_level, knotpasture.bc7_dds_read)):
+            for number in (0, 1):
+                file = with_levels(width, height, levels, first + number, 16 * sum(sizes))
+                dds = reading(file)
+                assert dds[:3] == (width, height, number) and dds.blocks.tobytes() == file[148 : 148 + 16 * sizes[0]]
+                refused(15, reading, file + b"x")
+                refused(15, reading, file[:-1])
+                refused(13, reading, with_levels(width, height, levels, 193 - first - number, 16 * sum(sizes)))
+                if levels > 1:
+                    refused(13, single, file)
+                else:
+                    assert single(file).blocks.tobytes() == dds.blocks.tobytes()
+    refused(13, knotpasture.dds_first_level, with_levels(5, 3, 14, 95, 16 * 15))
+    refused(14, knotpasture.dds_first_level, with_levels(0, 3, 13, 95, 0))
+
+
 def test_pfm():
     dds = knotpasture.dds_read(sample("eight.dds"))
     file = knotpasture.pfm_write(dds.blocks, dds.format, dds.width, dds.height).tobytes()

@@ -357,7 +357,7 @@ class Vectors:
             word, outs = call("knot_dds_write", data, form, wide, high, max(0, 148 + len(data) + self.some(0, 0, 5, -1)))
             file = outs[0][:word >> 8] if not word & 255 else self.chance.randbytes(self.some(0, 10, 148, 164))
             for _ in range(3):
-                for name in ("knot_dds_head", "knot_dds_read", "knot_dds_blocks"):
+                for name in ("knot_dds_head", *(f"knot_{which}" for which in ("dds_read", "dds_blocks", "bc7_dds_read", "bc7_dds_blocks", "dds_first_level", "dds_first_blocks", "bc7_dds_first_level", "bc7_dds_first_blocks"))):
                     call(name, file)
                 if file:
                     changed = bytearray(file)

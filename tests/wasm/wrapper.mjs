@@ -80,6 +80,18 @@ for (const signed of [false, true]) {
   });
   const file = knot.ddsWrite(blocks, signed, 4 * SIDE, 4 * SIDE - 1), read = knot.ddsRead(file);
   check("dds", () => { same(read.blocks, blocks); assert.deepEqual([read.width, read.height, read.format], [4 * SIDE, 4 * SIDE - 1, Number(signed)]); });
+  check("levels", () => {
+    const four = knot.ddsWrite(blocks.subarray(0, 16), signed, 4, 4), two = Uint8Array.from([...four, ...blocks.subarray(16, 32)]);
+    for (const [first, reading, single] of [[95, (one) => knot.ddsFirstLevel(one), (one) => knot.ddsRead(one)], [98, (one) => knot.bc7DdsFirstLevel(one), (one) => knot.bc7DdsRead(one)]]) {
+      four[128] = two[128] = first + Number(signed);
+      two[28] = 2;
+      for (const { blocks: part, ...told } of [single(four), reading(four), reading(two)]) {
+        same(part, blocks.subarray(0, 16));
+        assert.deepEqual(told, { width: 4, height: 4, format: Number(signed) });
+      }
+      assert.throws(() => single(two), { number: 13 });
+    }
+  });
   check("dds head", () => assert.deepEqual(knot.ddsHead(file.subarray(0, 148)), { width: 4 * SIDE, height: 4 * SIDE - 1, format: Number(signed) }));
 }
 const sevens = knot.decodeBc7(blocks), sevenModes = knot.modesBc7(blocks);

@@ -108,9 +108,17 @@ probed zero faulty question triple e =
     silent-none (λ k. probe.probedAt 0 faulty k triple) (λ r. r .answer) probe.tripleIn refl (λ n. zeros 3) question e
 probed (suc n) faulty question triple e = record { zeros = λ no k. ap (λ (x : ProbePixel). getD (probe.tripleIn x) k 0) e ∙ zeros 3 k; unchanged = λ no. refl }
 
-dds-number : (n : ℕ) (file : List ℕ) → dds.readAt n file .answer ≡ n
-dds-number zero file = refl
-dds-number (suc n) file = refl
+-- what was read of a DDS file, of the two formats from `first` on, and a part of the file
+dds-number : (first n : ℕ) (file : List ℕ) → dds.readAs first n file .answer ≡ n
+dds-number first zero file = refl
+dds-number first (suc n) file = refl
+
+dds-told : (first : ℕ) (file : List ℕ) (n : ℕ) {r : DdsRead} → r ≡ dds.readAs first n file → Silent (r .answer) (r .width ∷ r .height ∷ r .format ∷ []) [] []
+dds-told first file = silent-none (λ n. dds.readAs first n file) (λ r. r .answer) (λ r. r .width ∷ r .height ∷ r .format ∷ []) refl (λ n. zeros 3)
+
+dds-part : (first : ℕ) (file : List ℕ) (part : ℕ → List ℕ) → ((n : ℕ) → part (suc n) ≡ []) → (n : ℕ) {r : DdsRead} {p : List ℕ} → r ≡ dds.readAs first n file
+    → p ≡ part n → Silent (r .answer) p [] []
+dds-part first file part none n d e = silent-values part none n (ap (λ (r : DdsRead). r .answer) d ∙ dds-number first n file) e
 
 moved : (fault : Fault) (count : ℕ) (store lent : List ℕ) {r : Moved} {after : List ℕ} → moves.MovedTo fault count store lent r after
     → Silent (r .answer) (r .records ∷ []) (lent ∷ []) (after ∷ [])
@@ -184,12 +192,15 @@ demand1 = record {
   probe-build = λ {b} {o} {a} {f} {e} {t} p.
       silent-one (λ n. building.builtAt n (building.recordCount e)) (λ r. r .answer) (λ r. r .records ∷ []) refl (λ n. zeros 1)
       (λ n. building.bytesAt n (building.builtOf b f e t) o) o (λ n. refl) (building.buildRefusal (length b) f e (length o)) (p .answers) (p .holds);
-  dds-head = λ {f} p.
-      silent-none (λ n. dds.readAt n f) (λ r. r .answer) (λ r. r .width ∷ r .height ∷ r .format ∷ []) refl (λ n. zeros 3) (dds.headRefusal f) (p .answers);
-  dds-read = λ {f} p.
-      silent-none (λ n. dds.readAt n f) (λ r. r .answer) (λ r. r .width ∷ r .height ∷ r .format ∷ []) refl (λ n. zeros 3) (dds.readRefusal f) (p .answers);
-  dds-blocks = λ {f} p q.
-      silent-values (λ k. dds.partAt k f) (λ k. refl) (dds.readRefusal f) (ap (λ (r : DdsRead). r .answer) (p .answers) ∙ dds-number (dds.readRefusal f) f) (q .gives);
+  dds-head = λ {f} p. dds-told dds.bc6hFirst f (dds.headRefusal f) (p .answers);
+  dds-read = λ {f} p. dds-told dds.bc6hFirst f (dds.readRefusal f) (p .answers);
+  dds-blocks = λ {f} p q. dds-part dds.bc6hFirst f (λ k. dds.partAt k f) (λ k. refl) (dds.readRefusal f) (p .answers) (q .gives);
+  bc7-dds-read = λ {f} p. dds-told dds.bc7First f (dds.readRefusalAs dds.bc7First f) (p .answers);
+  bc7-dds-blocks = λ {f} p q. dds-part dds.bc7First f (λ k. dds.partAt k f) (λ k. refl) (dds.readRefusalAs dds.bc7First f) (p .answers) (q .gives);
+  dds-first-level = λ {f} p. dds-told dds.bc6hFirst f (dds.firstRefusal dds.bc6hFirst f) (p .answers);
+  dds-first-blocks = λ {f} p q. dds-part dds.bc6hFirst f (λ k. dds.firstAt k f) (λ k. refl) (dds.firstRefusal dds.bc6hFirst f) (p .answers) (q .gives);
+  bc7-dds-first-level = λ {f} p. dds-told dds.bc7First f (dds.firstRefusal dds.bc7First f) (p .answers);
+  bc7-dds-first-blocks = λ {f} p q. dds-part dds.bc7First f (λ k. dds.firstAt k f) (λ k. refl) (dds.firstRefusal dds.bc7First f) (p .answers) (q .gives);
   dds-write = λ {b} {o} {a} {f} {w} {h} p.
       silent-one (λ n. dds.writtenAt n b) (λ r. r .answer) (λ r. r .length ∷ []) refl (λ n. zeros 1)
       (λ n. dds.leftAt n b f w h o) o (λ n. refl) (dds.writeRefusal (length b) f w h (length o)) (p .answers) (p .holds);

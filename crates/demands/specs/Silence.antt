@@ -47,7 +47,7 @@ use Rattle.probe_build.specs.declared.Built.{Built}
 use Rattle.probe_build.specs.Building.{BuiltTo}
 use Rattle.dds.specs.declared.DdsRead.{DdsRead}
 use Rattle.dds.specs.declared.DdsWritten.{DdsWritten}
-use Rattle.dds.specs.Dds.{HeadRead, FileRead, BlocksRead, FileWritten}
+use Rattle.dds.specs.Dds.{bc6hFirst, bc7First, HeadRead, FileRead, FileReadAs, FirstRead, BlocksRead, BlocksReadAs, FirstBlocks, FileWritten}
 use Rattle.pfm.specs.declared.PfmWritten.{PfmWritten}
 use Rattle.pfm.specs.File.{PictureWritten}
 use Rattle.exr.specs.declared.ExrWritten.{ExrWritten}
@@ -89,6 +89,12 @@ pub record Demand1 : Type 0 where
   pub dds-head : {f : List ℕ} {r : DdsRead} → HeadRead f r → Silent (r .answer) (r .width ∷ r .height ∷ r .format ∷ []) [] []
   pub dds-read : {f : List ℕ} {r : DdsRead} → FileRead f r → Silent (r .answer) (r .width ∷ r .height ∷ r .format ∷ []) [] []
   pub dds-blocks : {f p : List ℕ} {r : DdsRead} → FileRead f r → BlocksRead f p → Silent (r .answer) p [] []
+  pub bc7-dds-read : {f : List ℕ} {r : DdsRead} → FileReadAs bc7First f r → Silent (r .answer) (r .width ∷ r .height ∷ r .format ∷ []) [] []
+  pub bc7-dds-blocks : {f p : List ℕ} {r : DdsRead} → FileReadAs bc7First f r → BlocksReadAs bc7First f p → Silent (r .answer) p [] []
+  pub dds-first-level : {f : List ℕ} {r : DdsRead} → FirstRead bc6hFirst f r → Silent (r .answer) (r .width ∷ r .height ∷ r .format ∷ []) [] []
+  pub dds-first-blocks : {f p : List ℕ} {r : DdsRead} → FirstRead bc6hFirst f r → FirstBlocks bc6hFirst f p → Silent (r .answer) p [] []
+  pub bc7-dds-first-level : {f : List ℕ} {r : DdsRead} → FirstRead bc7First f r → Silent (r .answer) (r .width ∷ r .height ∷ r .format ∷ []) [] []
+  pub bc7-dds-first-blocks : {f p : List ℕ} {r : DdsRead} → FirstRead bc7First f r → FirstBlocks bc7First f p → Silent (r .answer) p [] []
   pub dds-write : {b o a : List ℕ} {f w h : ℕ} {r : DdsWritten} → FileWritten b f w h o r a → Silent (r .answer) (r .length ∷ []) (o ∷ []) (a ∷ [])
   pub pfm-write : {b o a : List ℕ} {f w h : ℕ} {r : PfmWritten} → PictureWritten b f w h o r a → Silent (r .answer) (r .length ∷ []) (o ∷ []) (a ∷ [])
   pub exr-write : {b o a : List ℕ} {f w h : ℕ} {r : ExrWritten} → exr.PictureWritten b f w h o r a → Silent (r .answer) (r .bytes ∷ []) (o ∷ []) (a ∷ [])

@@ -5,7 +5,7 @@ use Prim.Native.Nat.{ℕ, zero, suc}
 use Rattle.bcn_spec.specs.Answers.{done}
 use Rattle.dds.specs.declared.DdsRead.{DdsRead}
 use Rattle.dds.specs.declared.DdsWritten.{DdsWritten}
-use Rattle.dds.specs.Dds.{headerSize, HeadRead, FileRead, FileWritten}
+use Rattle.dds.specs.Dds.{headerSize, HeadRead, FileRead, SizedReadAs, sizedRefusalAs, readAs, FileWritten}
 use Rattle.dds.proofs.Reading.{read-number}
 use Rattle.pfm.specs.declared.PfmWritten.{PfmWritten}
 use Rattle.pfm.specs.File.{PictureWritten}
@@ -30,6 +30,16 @@ start-some number z = rw z
 
 pub blocks-called : {file : List ℕ} {r : DdsRead} {start : ℕ} → FileRead file r → start ≡ startAt (r .answer) → BlocksCalled file start
 blocks-called d e = record { answers = e ∙ ap startAt (read-number d) }
+
+-- ---- of BC7 and with mip levels
+
+pub word-called : {first most : ℕ} {bytesOf : List ℕ → ℕ} {file : List ℕ} {size : ℕ} {r : DdsRead} {word : ℕ} → SizedReadAs first most bytesOf file size r → word ≡ readWord r
+    → word ≡ readWord (readAs first (sizedRefusalAs first most bytesOf file size) file)
+word-called d e = e ∙ ap readWord (d .answers)
+
+pub start-called : {first most : ℕ} {bytesOf : List ℕ → ℕ} {file : List ℕ} {size : ℕ} {r : DdsRead} {start : ℕ} → SizedReadAs first most bytesOf file size r
+    → start ≡ startAt (r .answer) → start ≡ startAt (sizedRefusalAs first most bytesOf file size)
+start-called d e = e ∙ ap startAt (read-number d)
 
 pub dds-written : {blocks : List ℕ} {format width height : ℕ} {out after : List ℕ} {r : DdsWritten} {word : ℕ} → FileWritten blocks format width height out r after
     → word ≡ ddsWord r → DdsWriteCalled blocks format width height out word after

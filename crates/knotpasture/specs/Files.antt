@@ -1,4 +1,4 @@
--- S-62 to S-64, S-86, S-87, S-92: what the exports over DDS files, Portable Float Maps and OpenEXR files answer: the calls' own answers, packed into
+-- S-62 to S-64, S-86, S-87, S-92, S-94, S-95: what the exports over DDS files, Portable Float Maps and OpenEXR files answer: the calls' own answers, packed into
 -- one word. Assumes nothing.
 use mathlib.Core.Path.{_≡_}
 use mathlib.Core.List.{List}
@@ -6,7 +6,7 @@ use Prim.Native.Nat.{ℕ, zero, suc, _+_, _*_}
 use lib.ListN.{length}
 use Rattle.dds.specs.declared.DdsRead.{DdsRead}
 use Rattle.dds.specs.declared.DdsWritten.{DdsWritten}
-use Rattle.dds.specs.Dds.{headerSize, headRefusal, readRefusal, readAt}
+use Rattle.dds.specs.Dds.{headerSize, headRefusal, readRefusal, readRefusalAs, firstRefusal, readAt, readAs}
 use Rattle.dds.specs.Dds as dds
 use Rattle.pfm.specs.declared.PfmWritten.{PfmWritten}
 use Rattle.pfm.specs.File as pfm
@@ -24,7 +24,15 @@ pub record HeadCalled (file : List ℕ) (r : ℕ) : Type 0 where
 pub record ReadCalled (file : List ℕ) (r : ℕ) : Type 0 where
   pub answers : r ≡ readWord (readAt (readRefusal file) file)
 
--- S-62, S-87: where in the file the blocks start; 0 for a refusal
+-- S-94, S-87: a file of one level, of the two DXGI formats from `first` on.
+abbrev pub readWordAs : ℕ → List ℕ → ℕ
+readWordAs first file = readWord (readAs first (readRefusalAs first file) file)
+
+-- S-95, S-87: a file with mip levels.
+abbrev pub firstWordAs : ℕ → List ℕ → ℕ
+firstWordAs first file = readWord (readAs first (firstRefusal first file) file)
+
+-- S-62, S-94, S-95, S-87: where in the file the blocks start; 0 for a refusal
 abbrev pub startAt : ℕ → ℕ
 startAt zero = headerSize
 startAt (suc number) = 0

@@ -3,10 +3,10 @@ use bcn_spec::Answer;
 use dds::DdsRead;
 ghost use mathlib.Core.Path.{_≡_};
 ghost use Prim.Native.Nat.{_^_, _<_, _≤_};
-ghost use Rattle.dds.specs.Dds.{sizeLimit};
+ghost use Rattle.dds.specs.Dds.{bc6hFirst, bc7First, sizeLimit, readRefusalAs, firstRefusal};
 ghost use Rattle.pfm.specs.File.{lengthOf};
 ghost use Rattle.exr.specs.File.{lengthOf as exrLengthOf};
-ghost use Rattle.knotpasture.specs.Files.{readWord, HeadCalled, ReadCalled, startAt, BlocksCalled, lengthWord, DdsWriteCalled, PfmWriteCalled, ExrWriteCalled};
+ghost use Rattle.knotpasture.specs.Files.{readWord, HeadCalled, ReadCalled, readWordAs, firstWordAs, startAt, BlocksCalled, lengthWord, DdsWriteCalled, PfmWriteCalled, ExrWriteCalled};
 
 // The number, the format and the size of a file that was read.
 fn read_word(read: DdsRead) -> u64
@@ -48,6 +48,48 @@ pub extern "C" fn knot_dds_blocks(file: &[u8]) -> usize
     ensures { λ r. ⌜ BlocksCalled (now (file .entry)) r ⌝ }
 {
     start_of(dds::dds_read(file))
+}
+
+#[no_mangle]
+pub extern "C" fn knot_bc7_dds_read(file: &[u8]) -> u64
+    ensures { λ r. ⌜ r ≡ readWordAs bc7First (now (file .entry)) ⌝ }
+{
+    read_word(dds::bc7_dds_read(file))
+}
+
+#[no_mangle]
+pub extern "C" fn knot_bc7_dds_blocks(file: &[u8]) -> usize
+    ensures { λ r. ⌜ r ≡ startAt (readRefusalAs bc7First (now (file .entry))) ⌝ }
+{
+    start_of(dds::bc7_dds_read(file))
+}
+
+#[no_mangle]
+pub extern "C" fn knot_dds_first_level(file: &[u8]) -> u64
+    ensures { λ r. ⌜ r ≡ firstWordAs bc6hFirst (now (file .entry)) ⌝ }
+{
+    read_word(dds::dds_first_level(file))
+}
+
+#[no_mangle]
+pub extern "C" fn knot_dds_first_blocks(file: &[u8]) -> usize
+    ensures { λ r. ⌜ r ≡ startAt (firstRefusal bc6hFirst (now (file .entry))) ⌝ }
+{
+    start_of(dds::dds_first_level(file))
+}
+
+#[no_mangle]
+pub extern "C" fn knot_bc7_dds_first_level(file: &[u8]) -> u64
+    ensures { λ r. ⌜ r ≡ firstWordAs bc7First (now (file .entry)) ⌝ }
+{
+    read_word(dds::bc7_dds_first_level(file))
+}
+
+#[no_mangle]
+pub extern "C" fn knot_bc7_dds_first_blocks(file: &[u8]) -> usize
+    ensures { λ r. ⌜ r ≡ startAt (firstRefusal bc7First (now (file .entry))) ⌝ }
+{
+    start_of(dds::bc7_dds_first_level(file))
 }
 
 // The number and the length of a file that was written.

@@ -445,7 +445,7 @@ uint64_t knot_probe_open(const uint8_t *store, size_t store_length, uint32_t edg
  * Answers as knot_probe_pixel. Refusals: 19, 24, 3 (a table of fewer than KNOT_PROBE_TABLE values), 23 (no record in the table), 8 (a record
  * that the store has not), 1, in this order.
  *
- * Stack: 300 bytes.
+ * Stack: 350 bytes.
  */
 uint64_t knot_probe_pixel_in(const uint8_t *store, size_t store_length, const uint16_t *table, size_t table_length, uint32_t edge,
                              uint32_t face, uint32_t x, uint32_t y);
@@ -518,7 +518,7 @@ uint64_t knot_dds_head(const uint8_t *file, size_t file_length);
 
 /* Size and format of a whole DDS file. Answers as knot_dds_head. Refusals: 13, 14, 15.
  *
- * Stack: 50 bytes.
+ * Stack: 100 bytes.
  */
 uint64_t knot_dds_read(const uint8_t *file, size_t file_length);
 
@@ -526,42 +526,42 @@ uint64_t knot_dds_read(const uint8_t *file, size_t file_length);
 #define KNOT_DDS_WIDTH(word) ((unsigned)((word) >> 16 & 0xFFFF))
 #define KNOT_DDS_HEIGHT(word) ((unsigned)((word) >> 32 & 0xFFFF))
 
-/* Where in a DDS file the blocks start: KNOT_DDS_HEADER. 0 exactly when knot_dds_read refuses. They go on to the file's end. Stack: 50 bytes. */
+/* Where in a DDS file the blocks start: KNOT_DDS_HEADER. 0 exactly when knot_dds_read refuses. They go on to the file's end. Stack: 100 bytes. */
 size_t knot_dds_blocks(const uint8_t *file, size_t file_length);
 
 /* Size and format of a whole DDS file of BC7 blocks, under the same rules: DXGI format 98 is KNOT_BC7_LINEAR, 99 is KNOT_BC7_SRGB. 13 means
  * here any other header. Answers as knot_dds_head. Refusals: 13, 14, 15.
  *
- * Stack: 50 bytes.
+ * Stack: 100 bytes.
  */
 uint64_t knot_bc7_dds_read(const uint8_t *file, size_t file_length);
 
 enum { KNOT_BC7_LINEAR = 0, KNOT_BC7_SRGB = 1 };
 
-/* Where in a DDS file of BC7 blocks they start: KNOT_DDS_HEADER. 0 exactly when knot_bc7_dds_read refuses. They go on to the file's end. Stack: 50 bytes. */
+/* Where in a DDS file of BC7 blocks they start: KNOT_DDS_HEADER. 0 exactly when knot_bc7_dds_read refuses. They go on to the file's end. Stack: 100 bytes. */
 size_t knot_bc7_dds_blocks(const uint8_t *file, size_t file_length);
 
 /* Size and format of a whole DDS file with mip levels, 1 to KNOT_DDS_LEVELS of them, 0 taken as 1: the blocks of all levels are there and
  * nothing else, the largest level first; each side is half of the one before, rounded down, and 1 at least. Every other rule is
  * knot_dds_read's, which answers the same of a file of one level. Answers as knot_dds_head, of the largest level. Refusals: 13, 14, 15.
  *
- * Stack: 50 bytes.
+ * Stack: 100 bytes.
  */
 uint64_t knot_dds_first_level(const uint8_t *file, size_t file_length);
 
 enum { KNOT_DDS_LEVELS = 13 /* mip levels of a file, at most */ };
 
 /* Where in a DDS file with mip levels the blocks of the largest one start: KNOT_DDS_HEADER. 0 exactly when knot_dds_first_level refuses. They are
- * 16 bytes for each four by four pixels of width by height, rounded up. Stack: 50 bytes. */
+ * 16 bytes for each four by four pixels of width by height, rounded up. Stack: 100 bytes. */
 size_t knot_dds_first_blocks(const uint8_t *file, size_t file_length);
 
 /* What knot_dds_first_level answers, of BC7 blocks: the format is knot_bc7_dds_read's. Refusals: 13, 14, 15.
  *
- * Stack: 50 bytes.
+ * Stack: 100 bytes.
  */
 uint64_t knot_bc7_dds_first_level(const uint8_t *file, size_t file_length);
 
-/* Where in such a file the blocks of the largest level start: KNOT_DDS_HEADER. 0 exactly when knot_bc7_dds_first_level refuses. Stack: 50 bytes. */
+/* Where in such a file the blocks of the largest level start: KNOT_DDS_HEADER. 0 exactly when knot_bc7_dds_first_level refuses. Stack: 100 bytes. */
 size_t knot_bc7_dds_first_blocks(const uint8_t *file, size_t file_length);
 
 /* Writes a DDS file: KNOT_DDS_HEADER bytes and the blocks; the rest of out stays. knot_dds_read of exactly those bytes answers the same size
@@ -617,7 +617,7 @@ enum {
  * Answers the number in the low byte and the file's length in the bits above it (KNOT_FILE_LENGTH), 0 on a refusal. Refusals: 1, 16, 15, 3
  * (less room than the file has bytes), in this order.
  *
- * Stack: 650 bytes.
+ * Stack: 500 bytes.
  */
 uint64_t knot_exr_write(const uint8_t *blocks, size_t blocks_length, uint8_t format, uint32_t width, uint32_t height, uint8_t *out,
                         size_t out_length);

@@ -367,6 +367,17 @@ uint64_t knot_unplace_store(const uint8_t *store, size_t store_length, uint8_t *
 #define KNOT_MOVED(word) ((unsigned)((word) >> 16 & 0xFFFF))
 #define KNOT_UNMOVED_RECORD(word) ((unsigned)((word) >> 32 & 0xFFFF))
 
+/* Gives record n of a store of records with a place another place: writes to out the store with the face, column and row of record n set. Every other
+ * byte is the store's; the rest of out stays. Face KNOT_NO_FACE, column 0 and row 0 take the place away. What place the record has does not matter.
+ *
+ * Answers as knot_place_store. Refusals: 5, 6, 3 (less room than the store has bytes), 8, 1, 7 (of record n, with its number; the other records are not
+ * looked at), 17 (of the place that is given), in this order.
+ *
+ * Stack: 50 bytes.
+ */
+uint64_t knot_put_place(const uint8_t *store, size_t store_length, size_t n, uint8_t face, uint16_t column, uint16_t row, uint8_t *out,
+                        size_t out_length);
+
 /* ---- The probe ----
  *
  * A probe is a store of records with a place and an edge of n blocks, 1 to KNOT_EDGE_LIMIT, in which each of the 6 faces has each of the
@@ -376,14 +387,17 @@ uint64_t knot_unplace_store(const uint8_t *store, size_t store_length, uint8_t *
  *
  * knot_probe_check says in which order a store is checked.
  */
-enum { KNOT_EDGE_LIMIT = 16 /* blocks on an edge, at most */ };
+enum {
+    KNOT_EDGE_LIMIT = 16,   /* blocks on an edge, at most */
+    KNOT_PROBE_TABLE = 1536 /* values of the table of a probe that is opened: the places of the largest one */
+};
 
 /* The three half-float patterns of a pixel of a probe.
  *
  * Answers the number in the low byte; where that is 0, red in bits 16 to 31, green in bits 32 to 47, blue in bits 48 to 63. A
  * refusal is the number alone. *faulty becomes the first faulty record's number for 1, 7, 17, 20, 21 and 22, and 0 for every other
- * answer. Refusals: those of knot_probe_check, then 24. The store is checked at each call: paint a face by knot_probe_face and not
- * pixel by pixel, which takes some 700 times as long.
+ * answer. Refusals: those of knot_probe_check, then 24. The store is checked at each call: for many pixels call
+ * knot_probe_open once and then knot_probe_pixel_in, or paint a face by knot_probe_face.
  *
  * Stack: 3,500 bytes.
  */
@@ -413,6 +427,28 @@ uint64_t knot_probe_check(const uint8_t *store, size_t store_length, uint32_t ed
  * Stack: 5,000 bytes.
  */
 uint32_t knot_probe_face(const uint8_t *store, size_t store_length, uint32_t edge, uint32_t face, uint16_t *out, size_t out_length);
+
+/* Opens a probe: checks the store once, and fills a lent table by which knot_probe_pixel_in asks for pixels. Table value
+ * 256 face + 16 row + column becomes the number of the record at that place, plus 1, and 0 where the probe has no such place; what is
+ * behind the first KNOT_PROBE_TABLE values stays. No other table is right.
+ *
+ * Answers as knot_probe_check. Refusals: those of knot_probe_check, then 3 (fewer than KNOT_PROBE_TABLE values of room).
+ *
+ * Stack: 3,200 bytes.
+ */
+uint64_t knot_probe_open(const uint8_t *store, size_t store_length, uint32_t edge, uint16_t *table, size_t table_length);
+
+/* The three half-float patterns of a pixel of a probe that is open: what knot_probe_pixel answers of the same store and edge, where
+ * knot_probe_open of these left the table and was done. It looks at one value of the table and at one record, and is safe with any other
+ * table, which a refusal tells or does not.
+ *
+ * Answers as knot_probe_pixel. Refusals: 19, 24, 3 (a table of fewer than KNOT_PROBE_TABLE values), 23 (no record in the table), 8 (a record
+ * that the store has not), 1, in this order.
+ *
+ * Stack: 350 bytes.
+ */
+uint64_t knot_probe_pixel_in(const uint8_t *store, size_t store_length, const uint16_t *table, size_t table_length, uint32_t edge,
+                             uint32_t face, uint32_t x, uint32_t y);
 
 /* The edge by the store's length: the n of 1 to KNOT_EDGE_LIMIT with 192 n n bytes, or 0 if there is none. It reads no byte of the
  * store: knot_probe_check says whether the store is a probe of that edge. Stack: 50 bytes. */
@@ -482,7 +518,7 @@ uint64_t knot_dds_head(const uint8_t *file, size_t file_length);
 
 /* Size and format of a whole DDS file. Answers as knot_dds_head. Refusals: 13, 14, 15.
  *
- * Stack: 50 bytes.
+ * Stack: 100 bytes.
  */
 uint64_t knot_dds_read(const uint8_t *file, size_t file_length);
 
@@ -490,8 +526,43 @@ uint64_t knot_dds_read(const uint8_t *file, size_t file_length);
 #define KNOT_DDS_WIDTH(word) ((unsigned)((word) >> 16 & 0xFFFF))
 #define KNOT_DDS_HEIGHT(word) ((unsigned)((word) >> 32 & 0xFFFF))
 
-/* Where in a DDS file the blocks start: KNOT_DDS_HEADER. 0 exactly when knot_dds_read refuses. They go on to the file's end. Stack: 50 bytes. */
+/* Where in a DDS file the blocks start: KNOT_DDS_HEADER. 0 exactly when knot_dds_read refuses. They go on to the file's end. Stack: 100 bytes. */
 size_t knot_dds_blocks(const uint8_t *file, size_t file_length);
+
+/* Size and format of a whole DDS file of BC7 blocks, under the same rules: DXGI format 98 is KNOT_BC7_LINEAR, 99 is KNOT_BC7_SRGB. 13 means
+ * here any other header. Answers as knot_dds_head. Refusals: 13, 14, 15.
+ *
+ * Stack: 100 bytes.
+ */
+uint64_t knot_bc7_dds_read(const uint8_t *file, size_t file_length);
+
+enum { KNOT_BC7_LINEAR = 0, KNOT_BC7_SRGB = 1 };
+
+/* Where in a DDS file of BC7 blocks they start: KNOT_DDS_HEADER. 0 exactly when knot_bc7_dds_read refuses. They go on to the file's end. Stack: 100 bytes. */
+size_t knot_bc7_dds_blocks(const uint8_t *file, size_t file_length);
+
+/* Size and format of a whole DDS file with mip levels, 1 to KNOT_DDS_LEVELS of them, 0 taken as 1: the blocks of all levels are there and
+ * nothing else, the largest level first; each side is half of the one before, rounded down, and 1 at least. Every other rule is
+ * knot_dds_read's, which answers the same of a file of one level. Answers as knot_dds_head, of the largest level. Refusals: 13, 14, 15.
+ *
+ * Stack: 100 bytes.
+ */
+uint64_t knot_dds_first_level(const uint8_t *file, size_t file_length);
+
+enum { KNOT_DDS_LEVELS = 13 /* mip levels of a file, at most */ };
+
+/* Where in a DDS file with mip levels the blocks of the largest one start: KNOT_DDS_HEADER. 0 exactly when knot_dds_first_level refuses. They are
+ * 16 bytes for each four by four pixels of width by height, rounded up. Stack: 100 bytes. */
+size_t knot_dds_first_blocks(const uint8_t *file, size_t file_length);
+
+/* What knot_dds_first_level answers, of BC7 blocks: the format is knot_bc7_dds_read's. Refusals: 13, 14, 15.
+ *
+ * Stack: 100 bytes.
+ */
+uint64_t knot_bc7_dds_first_level(const uint8_t *file, size_t file_length);
+
+/* Where in such a file the blocks of the largest level start: KNOT_DDS_HEADER. 0 exactly when knot_bc7_dds_first_level refuses. Stack: 100 bytes. */
+size_t knot_bc7_dds_first_blocks(const uint8_t *file, size_t file_length);
 
 /* Writes a DDS file: KNOT_DDS_HEADER bytes and the blocks; the rest of out stays. knot_dds_read of exactly those bytes answers the same size
  * and format, and knot_dds_blocks says where the same blocks are.
@@ -528,6 +599,31 @@ uint64_t knot_pfm_write(const uint8_t *blocks, size_t blocks_length, uint8_t for
 
 /* The length of the Portable Float Map of a picture; 0 for a size that is refused. Stack: 50 bytes. */
 size_t knot_pfm_length(uint32_t width, uint32_t height);
+
+/* OpenEXR files: a picture of blocks in row order as half-floats, each pattern as it is. One part, scan lines from the top down, no
+ * compression, channels B, G and R; the data window and the display window are the picture. Line y begins at
+ * KNOT_EXR_HEADER + 8 height + (8 + 6 width) y, where entry y of the table behind the header says, with its number and the length of its
+ * values, 4 bytes each; then come all blue values, all green ones and all red ones, 2 bytes each, low byte first. Width and height are
+ * multiples of 4, 4 to KNOT_EXR_LIMIT.
+ */
+enum {
+    KNOT_EXR_HEADER = 313,      /* bytes before the table of lines */
+    KNOT_EXR_LIMIT = 4096,      /* pixels of a side, at most */
+    KNOT_EXR_FILE = 100729145   /* bytes of a file, at most */
+};
+
+/* Writes an OpenEXR file; the rest of out stays.
+ *
+ * Answers the number in the low byte and the file's length in the bits above it (KNOT_FILE_LENGTH), 0 on a refusal. Refusals: 1, 16, 15, 3
+ * (less room than the file has bytes), in this order.
+ *
+ * Stack: 500 bytes.
+ */
+uint64_t knot_exr_write(const uint8_t *blocks, size_t blocks_length, uint8_t format, uint32_t width, uint32_t height, uint8_t *out,
+                        size_t out_length);
+
+/* The length of the OpenEXR file of a picture; 0 for a size that is refused. Stack: 50 bytes. */
+size_t knot_exr_length(uint32_t width, uint32_t height);
 
 #ifdef __cplusplus
 }

@@ -20,13 +20,20 @@ export declare const PLACED_STORE_LIMIT: 64000;
 export declare const FACES: 6;
 export declare const NO_FACE: 255;
 export declare const EDGE_LIMIT: 16;
+export declare const PROBE_TABLE: 1536;
 export declare const BC7_BYTES: 64;
 export declare const BC7_RESERVED: 8;
 export declare const DDS_HEADER: 148;
 export declare const DDS_LIMIT: 4096;
 export declare const DDS_FILE: 16777364;
+export declare const BC7_LINEAR: 0;
+export declare const BC7_SRGB: 1;
+export declare const DDS_LEVELS: 13;
 export declare const PFM_LIMIT: 4096;
 export declare const PFM_FILE: 201326610;
+export declare const EXR_HEADER: 313;
+export declare const EXR_LIMIT: 4096;
+export declare const EXR_FILE: 100729145;
 /** What the number of a refusal means. */
 export declare const WORDS: Readonly<Record<number, string>>;
 /** The parts of an answer's word: the lowest bit, and how many bits. */

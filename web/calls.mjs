@@ -19,13 +19,20 @@ export const PLACED_STORE_LIMIT = 64000;
 export const FACES = 6;
 export const NO_FACE = 255;
 export const EDGE_LIMIT = 16;
+export const PROBE_TABLE = 1536;
 export const BC7_BYTES = 64;
 export const BC7_RESERVED = 8;
 export const DDS_HEADER = 148;
 export const DDS_LIMIT = 4096;
 export const DDS_FILE = 16777364;
+export const BC7_LINEAR = 0;
+export const BC7_SRGB = 1;
+export const DDS_LEVELS = 13;
 export const PFM_LIMIT = 4096;
 export const PFM_FILE = 201326610;
+export const EXR_HEADER = 313;
+export const EXR_LIMIT = 4096;
+export const EXR_FILE = 100729145;
 
 // What the number of a refusal means.
 export const WORDS = Object.freeze({
@@ -111,9 +118,12 @@ export const CALLS = Object.freeze({
   knot_placed_record_block: { answers: "u64", takes: ["in8 store", "u64 n"] },
   knot_place_store: { answers: "u64", takes: ["in8 old", "out8 out"] },
   knot_unplace_store: { answers: "u64", takes: ["in8 store", "out8 out"] },
+  knot_put_place: { answers: "u64", takes: ["in8 store", "u64 n", "u8 face", "u16 column", "u16 row", "out8 out"] },
   knot_probe_pixel: { answers: "u64", takes: ["in8 store", "u32 edge", "u32 face", "u32 x", "u32 y", "slot64 faulty"] },
   knot_probe_check: { answers: "u64", takes: ["in8 store", "u32 edge"] },
   knot_probe_face: { answers: "u32", takes: ["in8 store", "u32 edge", "u32 face", "out16 out"] },
+  knot_probe_open: { answers: "u64", takes: ["in8 store", "u32 edge", "out16 table"] },
+  knot_probe_pixel_in: { answers: "u64", takes: ["in8 store", "in16 table", "u32 edge", "u32 face", "u32 x", "u32 y"] },
   knot_probe_edge: { answers: "u64", takes: ["in8 store"] },
   knot_probe_build: { answers: "u32", takes: ["in8 blocks", "u8 format", "u32 edge", "u32 first_tile", "out8 out", "slot64 records"] },
   knot_is_trusted: { answers: "bool", takes: ["in8 block", "u8 format"] },
@@ -122,7 +132,15 @@ export const CALLS = Object.freeze({
   knot_dds_head: { answers: "u64", takes: ["in8 file"] },
   knot_dds_read: { answers: "u64", takes: ["in8 file"] },
   knot_dds_blocks: { answers: "u64", takes: ["in8 file"] },
+  knot_bc7_dds_read: { answers: "u64", takes: ["in8 file"] },
+  knot_bc7_dds_blocks: { answers: "u64", takes: ["in8 file"] },
+  knot_dds_first_level: { answers: "u64", takes: ["in8 file"] },
+  knot_dds_first_blocks: { answers: "u64", takes: ["in8 file"] },
+  knot_bc7_dds_first_level: { answers: "u64", takes: ["in8 file"] },
+  knot_bc7_dds_first_blocks: { answers: "u64", takes: ["in8 file"] },
   knot_dds_write: { answers: "u64", takes: ["in8 blocks", "u8 format", "u32 width", "u32 height", "out8 out"] },
   knot_pfm_write: { answers: "u64", takes: ["in8 blocks", "u8 format", "u32 width", "u32 height", "out8 out"] },
   knot_pfm_length: { answers: "u64", takes: ["u32 width", "u32 height"] },
+  knot_exr_write: { answers: "u64", takes: ["in8 blocks", "u8 format", "u32 width", "u32 height", "out8 out"] },
+  knot_exr_length: { answers: "u64", takes: ["u32 width", "u32 height"] },
 });

@@ -1,5 +1,5 @@
 /**
- * BC6H and BC7 blocks, stores of tiles, probes, DDS files and Portable Float Maps. The calls are proved up to the module that the Rattle kit hands to its
+ * BC6H and BC7 blocks, stores of tiles, probes, DDS files, Portable Float Maps and OpenEXR files. The calls are proved up to the module that the Rattle kit hands to its
  * compiler; this wrapper is not. What the library refuses throws `Refused`; input of another kind TypeError; a number out of range RangeError.
  */
 export type Bytes = Uint8Array | Uint8ClampedArray | ArrayBuffer;
@@ -105,10 +105,16 @@ export declare class Knotpasture {
   place(store: Bytes): Uint8Array;
   /** The way back, for a store in which no record is placed. Refusals: 5, 6; with the first faulty record 1, 7, 17, 18. */
   unplace(store: Bytes): Uint8Array;
+  /** The store with the place of record n set, or taken away where face is null. Refusals: 5, 6, 8; with record n 1, 7; 17, of the place that is given. */
+  putPlace(store: Bytes, n: Whole, face: Whole | null, column?: Whole, row?: Whole): Uint8Array;
   /** Returns where a store is a probe of the edge. Refusals: 19, 5, 6; with the first faulty record 1, 7, 17, 20, 21, 22; 23. */
   probeCheck(store: Bytes, edge: Whole): void;
   /** Red, green and blue of a pixel of a probe. Refusals: those of `probeCheck`, with its record, then 24. */
   probePixel(store: Bytes, edge: Whole, face: Whole, x: Whole, y: Whole): Uint16Array;
+  /** Checks a probe once: a table by which `probePixelIn` asks for its pixels. Refusals: those of `probeCheck`, with its record. */
+  probeOpen(store: Bytes, edge: Whole): Uint16Array;
+  /** What `probePixel` answers, by the table that `probeOpen` of the same store and edge gave. Refusals: 19, 24, 3, 23, 8, 1. */
+  probePixelIn(store: Bytes, table: Uint16Array, edge: Whole, face: Whole, x: Whole, y: Whole): Uint16Array;
   /** A whole face of a probe, three patterns a pixel, row 0 on top. Refusals: those of `probeCheck`, then 24. */
   probeFace(store: Bytes, edge: Whole, face: Whole): Uint16Array;
   /** The edge of a probe by its store's length; 0 where no edge has that length. */
@@ -119,12 +125,22 @@ export declare class Knotpasture {
   ddsHead(head: Bytes): DdsHead;
   /** Size, format and blocks of a whole DDS file. Refusals: 13, 14, 15. */
   ddsRead(file: Bytes): Dds;
+  /** Size, format and blocks of a whole DDS file of BC7 blocks: format 0 is DXGI's 98, 1 is 99, sRGB. Refusals: 13, 14, 15. */
+  bc7DdsRead(file: Bytes): Dds;
+  /** Size, format and blocks of the largest level of a DDS file with 1 to 13 mip levels. Refusals: 13, 14, 15. */
+  ddsFirstLevel(file: Bytes): Dds;
+  /** `ddsFirstLevel` of BC7 blocks, with the formats of `bc7DdsRead`. Refusals: 13, 14, 15. */
+  bc7DdsFirstLevel(file: Bytes): Dds;
   /** A DDS file of blocks in row order. Refusals: 1, 14, 15. */
   ddsWrite(blocks: Bytes, signed: Signed, width: Whole, height: Whole): Uint8Array;
   /** The bytes of the Portable Float Map of a picture; 0 for a size that is refused. */
   pfmLength(width: Whole, height: Whole): number;
   /** A Portable Float Map of blocks in row order. Refusals: 1, 16, 15. */
   pfmWrite(blocks: Bytes, signed: Signed, width: Whole, height: Whole): Uint8Array;
+  /** The bytes of the OpenEXR file of a picture; 0 for a size that is refused. */
+  exrLength(width: Whole, height: Whole): number;
+  /** An OpenEXR file of blocks in row order, each half-float as it is. Refusals: 1, 16, 15. */
+  exrWrite(blocks: Bytes, signed: Signed, width: Whole, height: Whole): Uint8Array;
 }
 
 /** A proved program over standard input, standard output and standard error. */

@@ -1,5 +1,5 @@
 /**
- * BC6H and BC7 blocks, stores of tiles, probes, DDS files and Portable Float Maps, by the calls of Knotpasture's WebAssembly module.
+ * BC6H and BC7 blocks, stores of tiles, probes, DDS files, Portable Float Maps and OpenEXR files, by the calls of Knotpasture's WebAssembly module.
  *
  * The calls are proved to do what include/knotpasture.h says, up to the module that the Rattle kit hands to its compiler. How WebAssembly is made of
  * that module was compared by running. This file is not proved: it copies bytes in, copies results out, and takes answers apart.
@@ -9,7 +9,8 @@
  * module is called; what the library refuses throws `Refused`.
  */
 import {
-  BAD, BC7_BYTES, BLOCK_SIZE, CALLS, DDS_HEADER, EDGE_LIMIT, FACES, FIELDS, PARTS, PLACED_SIZE, PLACED_STORE_LIMIT, RECORD_SIZE, SCRATCH_VALUES, STORE_LIMIT, VALUES, WORDS,
+  BAD, BC7_BYTES, BLOCK_SIZE, CALLS, DDS_HEADER, EDGE_LIMIT, FACES, FIELDS, NO_FACE, PARTS, PLACED_SIZE, PLACED_STORE_LIMIT, PROBE_TABLE,
+  RECORD_SIZE, SCRATCH_VALUES, STORE_LIMIT, VALUES, WORDS,
 } from "./calls.mjs";
 
 const PAGE = 65536;
@@ -24,7 +25,7 @@ const ARRAYS = { 8: Uint8Array, 16: Uint16Array, 32: Uint32Array, 64: BigUint64A
 // The bytes of a receipt for each removed record.
 const ENTRY_SIZE = 8;
 // The answers of a probe's check and of the two moves that name a record.
-const NAMES_RECORD = new Set([1, 7, 17, 18, 20, 21, 22]);
+const BAD_PLACE = 17, NAMES_RECORD = new Set([1, 7, 17, 18, 20, 21, 22]);
 
 /** The library did nothing. `number` is one of the header's, `words` what it means, `record` the record that is why, or null. */
 export class Refused extends Error {
@@ -67,6 +68,11 @@ function doneWithRecord(word, record) {
   const answer = part(word, "ANSWER");
   if (answer) throw new Refused(answer, NAMES_RECORD.has(answer) ? record : null);
   return word;
+}
+
+// Red, green and blue of a pixel's word.
+function triple(word) {
+  return Uint16Array.of(part(word, "RED"), part(word, "GREEN"), part(word, "BLUE"));
 }
 
 // Of each call: kind, bits and name of each parameter.
@@ -416,6 +422,15 @@ export class Knotpasture {
     return this.#moved("knot_unplace_store", "store", store, PLACED_STORE_LIMIT, PLACED_SIZE, RECORD_SIZE);
   }
 
+  /** The store with the place of record n set, or taken away where face is null. Refusals: 5, 6, 8; with record n 1, 7; 17, of the place that is given. */
+  putPlace(store, n, face, column = 0, row = 0) {
+    const given = bytesOf(store, "store"), room = Math.min(given.length, PLACED_STORE_LIMIT);
+    const { word, out } = this.#call("knot_put_place", { store: given, n, face: face === null ? NO_FACE : face, column, row, out: room });
+    if (part(word, "ANSWER") === BAD_PLACE) throw new Refused(BAD_PLACE);
+    done(word, "UNMOVED_RECORD");
+    return out;
+  }
+
   /** Returns where a store is a probe of the edge. Refusals: 19, 5, 6; with the first faulty record 1, 7, 17, 20, 21, 22; 23. */
   probeCheck(store, edge) {
     done(this.#call("knot_probe_check", { store: bytesOf(store, "store"), edge }).word, "FAULTY_RECORD");
@@ -425,7 +440,22 @@ export class Knotpasture {
   probePixel(store, edge, face, x, y) {
     const { word, faulty } = this.#call("knot_probe_pixel", { store: bytesOf(store, "store"), edge, face, x, y });
     doneWithRecord(word, faulty);
-    return Uint16Array.of(part(word, "RED"), part(word, "GREEN"), part(word, "BLUE"));
+    return triple(word);
+  }
+
+  /** Checks a probe once: a table by which `probePixelIn` asks for its pixels. Refusals: those of `probeCheck`, with its record. */
+  probeOpen(store, edge) {
+    const { word, table } = this.#call("knot_probe_open", { store: bytesOf(store, "store"), edge, table: PROBE_TABLE });
+    done(word, "FAULTY_RECORD");
+    return table;
+  }
+
+  /** What `probePixel` answers, by the table that `probeOpen` of the same store and edge gave. Refusals: 19, 24, 3, 23, 8, 1. */
+  probePixelIn(store, table, edge, face, x, y) {
+    if (!(table instanceof Uint16Array)) throw new TypeError("table: a Uint16Array is wanted, as probeOpen gives it");
+    const { word } = this.#call("knot_probe_pixel_in", { store: bytesOf(store, "store"), table, edge, face, x, y });
+    doneWithRecord(word, null);
+    return triple(word);
   }
 
   /** A whole face of a probe, three patterns a pixel, row 0 on top. Refusals: those of `probeCheck`, without the record, then 24. */
@@ -459,9 +489,28 @@ export class Knotpasture {
 
   /** Size, format and blocks of a whole DDS file; the blocks are a part of it. Refusals: 13, 14, 15. */
   ddsRead(file) {
-    const given = bytesOf(file, "file"), word = done(this.#call("knot_dds_read", { file: given }).word);
-    const start = Number(this.#call("knot_dds_blocks", { file: given }).word);
-    return { width: part(word, "DDS_WIDTH"), height: part(word, "DDS_HEIGHT"), format: part(word, "DDS_FORMAT"), blocks: given.subarray(start) };
+    return this.#dds("knot_dds_read", "knot_dds_blocks", file);
+  }
+
+  /** Size, format and blocks of a whole DDS file of BC7 blocks: format 0 is DXGI's 98, 1 is 99, sRGB. Refusals: 13, 14, 15. */
+  bc7DdsRead(file) {
+    return this.#dds("knot_bc7_dds_read", "knot_bc7_dds_blocks", file);
+  }
+
+  /** Size, format and blocks of the largest level of a DDS file with 1 to 13 mip levels. Refusals: 13, 14, 15. */
+  ddsFirstLevel(file) {
+    return this.#dds("knot_dds_first_level", "knot_dds_first_blocks", file);
+  }
+
+  /** `ddsFirstLevel` of BC7 blocks, with the formats of `bc7DdsRead`. Refusals: 13, 14, 15. */
+  bc7DdsFirstLevel(file) {
+    return this.#dds("knot_bc7_dds_first_level", "knot_bc7_dds_first_blocks", file);
+  }
+
+  #dds(reading, starting, file) {
+    const given = bytesOf(file, "file"), word = done(this.#call(reading, { file: given }).word), start = Number(this.#call(starting, { file: given }).word);
+    const width = part(word, "DDS_WIDTH"), height = part(word, "DDS_HEIGHT"), bytes = Math.ceil(width / 4) * Math.ceil(height / 4) * BLOCK_SIZE;
+    return { width, height, format: part(word, "DDS_FORMAT"), blocks: given.subarray(start, start + bytes) };
   }
 
   #file(name, blocks, signed, width, height, room) {
@@ -483,6 +532,16 @@ export class Knotpasture {
   /** A Portable Float Map of blocks in row order, each value exactly its half-float. Refusals: 1, 16, 15. */
   pfmWrite(blocks, signed, width, height) {
     return this.#file("knot_pfm_write", blocks, signed, width, height, this.pfmLength(width, height));
+  }
+
+  /** The bytes of the OpenEXR file of a picture; 0 for a size that is refused. */
+  exrLength(width, height) {
+    return Number(this.#call("knot_exr_length", { width, height }).word);
+  }
+
+  /** An OpenEXR file of blocks in row order, each half-float as it is. Refusals: 1, 16, 15. */
+  exrWrite(blocks, signed, width, height) {
+    return this.#file("knot_exr_write", blocks, signed, width, height, this.exrLength(width, height));
   }
 }
 

@@ -1,4 +1,4 @@
-"""BC6H and BC7 blocks, stores of tiles, probes, DDS files and Portable Float Maps, by the calls of the Knotpasture library.
+"""BC6H and BC7 blocks, stores of tiles, probes, DDS files, Portable Float Maps and OpenEXR files, by the calls of the Knotpasture library.
 
 The library is proved to do what include/knotpasture.h says; this package is not proved. It hands over buffers with their lengths, never a copy
 of them, and takes the answers apart.
@@ -32,9 +32,9 @@ __version__ = "1.0.0"
 
 BLOCK_SIZE, VALUES, FIELDS, BC7_BYTES = 16, 48, 32, 64
 RECORD_SIZE, STORE_LIMIT, SCRATCH_VALUES, RECEIPT_ENTRY = 24, 48_000, 49, 8
-PLACED_SIZE, PLACED_STORE_LIMIT, FACES, EDGE_LIMIT = 32, 64_000, 6, 16
-DDS_HEADER, DDS_LIMIT, PFM_LIMIT = 148, 4096, 4096
-BC7_RESERVED = 8
+PLACED_SIZE, PLACED_STORE_LIMIT, FACES, NO_FACE, EDGE_LIMIT, PROBE_TABLE = 32, 64_000, 6, 255, 16, 1536
+DDS_HEADER, DDS_LIMIT, DDS_LEVELS, PFM_LIMIT, EXR_LIMIT = 148, 4096, 13, 4096, 4096
+BC7_RESERVED, BC7_LINEAR, BC7_SRGB = 8, 0, 1
 
 # The marks of a twin list.
 KEPT, TWIN, BAD = 0, 1, 2
@@ -457,6 +457,19 @@ def unplace(store: Bytes) -> NDArray[numpy.uint8]:
     return _moved("knot_unplace_store", store, PLACED_SIZE, PLACED_STORE_LIMIT, RECORD_SIZE)
 
 
+def put_place(store: Bytes, n: int, face: Optional[int], column: int = 0, row: int = 0) -> NDArray[numpy.uint8]:
+    """The store with the place of record n set, or taken away where face is None; every other byte is the store's.
+
+    Refusals: 5, 6, 8; with record n 1, 7; 17, of the place that is given.
+    """
+    given = _bytes(store, "store")
+    room = numpy.empty(min(given.size, PLACED_STORE_LIMIT), numpy.uint8)
+    place = _number(NO_FACE if face is None else face, "face", 8), _number(column, "column", 16), _number(row, "row", 16)
+    word = _library.call("knot_put_place")(given.ctypes.data, given.size, _number(n, "n", 64), *place, room.ctypes.data, room.size)
+    _done(word, _part(word, 32) if word & 0xFF in (1, 7) else None)
+    return room
+
+
 def probe_check(store: Bytes, edge: int) -> None:
     """Returns where a store is a probe of the edge. Refusals: 19, 5, 6; with the first faulty record 1, 7, 17, 20, 21, 22; 23."""
     given = _bytes(store, "store")
@@ -470,7 +483,28 @@ def probe_pixel(store: Bytes, edge: int, face: int, x: int, y: int) -> NDArray[n
     numbers = [_number(value, what, 32) for what, value in (("edge", edge), ("face", face), ("x", x), ("y", y))]
     word = _library.call("knot_probe_pixel")(given.ctypes.data, given.size, *numbers, ctypes.byref(faulty))
     _done_with_record(word, faulty.value)
+    return _triple(word)
+
+
+def _triple(word: int) -> NDArray[numpy.float16]:
     return numpy.array([_part(word, low) for low in (16, 32, 48)], numpy.uint16).view(numpy.float16)
+
+
+def probe_open(store: Bytes, edge: int) -> NDArray[numpy.uint16]:
+    """Checks a probe once: a table by which `probe_pixel_in` asks for its pixels. Refusals: those of `probe_check`, with its record."""
+    given, table = _bytes(store, "store"), numpy.empty(PROBE_TABLE, numpy.uint16)
+    word = _library.call("knot_probe_open")(given.ctypes.data, given.size, _number(edge, "edge", 32), table.ctypes.data, table.size)
+    _done_with_record(word, _part(word, 16))
+    return table
+
+
+def probe_pixel_in(store: Bytes, table: NDArray[numpy.uint16], edge: int, face: int, x: int, y: int) -> NDArray[numpy.float16]:
+    """What `probe_pixel` answers, by the table that `probe_open` of the same store and edge gave. Refusals: 19, 24, 3, 23, 8, 1."""
+    given = _bytes(store, "store")
+    if not isinstance(table, numpy.ndarray) or table.dtype != numpy.uint16 or not (table.flags.c_contiguous and table.flags.aligned):
+        raise TypeError("table: an array of uint16 in one piece is wanted, as probe_open gives it")
+    numbers = [_number(value, what, 32) for what, value in (("edge", edge), ("face", face), ("x", x), ("y", y))]
+    return _triple(_done(_library.call("knot_probe_pixel_in")(given.ctypes.data, given.size, table.ctypes.data, table.size, *numbers)))
 
 
 def probe_face(store: Bytes, edge: int, face: int) -> NDArray[numpy.float16]:
@@ -519,10 +553,31 @@ def dds_head(head: Bytes) -> tuple[int, int, int]:
 
 def dds_read(file: Bytes) -> Dds:
     """Size, format and blocks of a whole DDS file. Refusals: 13, 14, 15."""
+    return _dds("knot_dds_read", "knot_dds_blocks", file)
+
+
+def bc7_dds_read(file: Bytes) -> Dds:
+    """Size, format and blocks of a whole DDS file of BC7 blocks: format 0 is DXGI's 98, 1 is 99, sRGB. Refusals: 13, 14, 15."""
+    return _dds("knot_bc7_dds_read", "knot_bc7_dds_blocks", file)
+
+
+def dds_first_level(file: Bytes) -> Dds:
+    """Size, format and blocks of the largest level of a DDS file with 1 to 13 mip levels. Refusals: 13, 14, 15."""
+    return _dds("knot_dds_first_level", "knot_dds_first_blocks", file)
+
+
+def bc7_dds_first_level(file: Bytes) -> Dds:
+    """`dds_first_level` of BC7 blocks, with the formats of `bc7_dds_read`. Refusals: 13, 14, 15."""
+    return _dds("knot_bc7_dds_first_level", "knot_bc7_dds_first_blocks", file)
+
+
+def _dds(reading: str, starting: str, file: Bytes) -> Dds:
     given = _bytes(file, "file")
-    word = _done(_library.call("knot_dds_read")(given.ctypes.data, given.size))
-    start = _library.call("knot_dds_blocks")(given.ctypes.data, given.size)
-    return Dds(_part(word, 16), _part(word, 32), _part(word, 8, 8), given[start:].reshape(-1, BLOCK_SIZE))
+    word = _done(_library.call(reading)(given.ctypes.data, given.size))
+    start = _library.call(starting)(given.ctypes.data, given.size)
+    width, height = _part(word, 16), _part(word, 32)
+    count = -(-width // 4) * -(-height // 4)
+    return Dds(width, height, _part(word, 8, 8), given[start:start + BLOCK_SIZE * count].reshape(-1, BLOCK_SIZE))
 
 
 def dds_write(blocks: Bytes, signed: Signed, width: int, height: int) -> NDArray[numpy.uint8]:
@@ -539,6 +594,16 @@ def pfm_length(width: int, height: int) -> int:
 def pfm_write(blocks: Bytes, signed: Signed, width: int, height: int) -> NDArray[numpy.uint8]:
     """A Portable Float Map of blocks in row order, each value exactly its half-float. Refusals: 1, 16, 15."""
     return _file("knot_pfm_write", _bytes(blocks, "blocks"), signed, width, height, pfm_length(width, height))
+
+
+def exr_length(width: int, height: int) -> int:
+    """The bytes of the OpenEXR file of a picture; 0 for a size that is refused."""
+    return int(_library.call("knot_exr_length")(_number(width, "width", 32), _number(height, "height", 32)))
+
+
+def exr_write(blocks: Bytes, signed: Signed, width: int, height: int) -> NDArray[numpy.uint8]:
+    """An OpenEXR file of blocks in row order: one part, no compression, channels B, G and R, each half-float as it is. Refusals: 1, 16, 15."""
+    return _file("knot_exr_write", _bytes(blocks, "blocks"), signed, width, height, exr_length(width, height))
 
 
 def _file(name: str, given: NDArray[numpy.uint8], signed: Signed, width: int, height: int, length: int) -> NDArray[numpy.uint8]:

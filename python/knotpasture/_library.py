@@ -14,7 +14,7 @@ NAME = "libknotpasture.so.1"
 LOADER = "libknotload.so"
 
 _IN, _OUT, _SLOT = ctypes.c_void_p, ctypes.c_void_p, ctypes.c_void_p
-_U8, _U32, _U64, _SIZE, _BOOL = ctypes.c_uint8, ctypes.c_uint32, ctypes.c_uint64, ctypes.c_size_t, ctypes.c_bool
+_U8, _U16, _U32, _U64, _SIZE, _BOOL = ctypes.c_uint8, ctypes.c_uint16, ctypes.c_uint32, ctypes.c_uint64, ctypes.c_size_t, ctypes.c_bool
 
 # What each call answers, and what it takes.
 CALLS: dict[str, tuple[type, list[type]]] = {
@@ -38,9 +38,12 @@ CALLS: dict[str, tuple[type, list[type]]] = {
     "knot_placed_record_block": (_SIZE, [_IN, _SIZE, _SIZE]),
     "knot_place_store": (_U64, [_IN, _SIZE, _OUT, _SIZE]),
     "knot_unplace_store": (_U64, [_IN, _SIZE, _OUT, _SIZE]),
+    "knot_put_place": (_U64, [_IN, _SIZE, _SIZE, _U8, _U16, _U16, _OUT, _SIZE]),
     "knot_probe_pixel": (_U64, [_IN, _SIZE, _U32, _U32, _U32, _U32, _SLOT]),
     "knot_probe_check": (_U64, [_IN, _SIZE, _U32]),
     "knot_probe_face": (_U32, [_IN, _SIZE, _U32, _U32, _OUT, _SIZE]),
+    "knot_probe_open": (_U64, [_IN, _SIZE, _U32, _OUT, _SIZE]),
+    "knot_probe_pixel_in": (_U64, [_IN, _SIZE, _IN, _SIZE, _U32, _U32, _U32, _U32]),
     "knot_probe_edge": (_SIZE, [_IN, _SIZE]),
     "knot_probe_build": (_U32, [_IN, _SIZE, _U8, _U32, _U32, _OUT, _SIZE, _SLOT]),
     "knot_is_trusted": (_BOOL, [_IN, _SIZE, _U8]),
@@ -49,9 +52,17 @@ CALLS: dict[str, tuple[type, list[type]]] = {
     "knot_dds_head": (_U64, [_IN, _SIZE]),
     "knot_dds_read": (_U64, [_IN, _SIZE]),
     "knot_dds_blocks": (_SIZE, [_IN, _SIZE]),
+    "knot_bc7_dds_read": (_U64, [_IN, _SIZE]),
+    "knot_bc7_dds_blocks": (_SIZE, [_IN, _SIZE]),
+    "knot_dds_first_level": (_U64, [_IN, _SIZE]),
+    "knot_dds_first_blocks": (_SIZE, [_IN, _SIZE]),
+    "knot_bc7_dds_first_level": (_U64, [_IN, _SIZE]),
+    "knot_bc7_dds_first_blocks": (_SIZE, [_IN, _SIZE]),
     "knot_dds_write": (_U64, [_IN, _SIZE, _U8, _U32, _U32, _OUT, _SIZE]),
     "knot_pfm_write": (_U64, [_IN, _SIZE, _U8, _U32, _U32, _OUT, _SIZE]),
     "knot_pfm_length": (_SIZE, [_U32, _U32]),
+    "knot_exr_write": (_U64, [_IN, _SIZE, _U8, _U32, _U32, _OUT, _SIZE]),
+    "knot_exr_length": (_SIZE, [_U32, _U32]),
     "knot_face_pixels": (_U32, [_IN, _SIZE, _SIZE, _SIZE, _U8, _OUT, _SIZE, _SIZE, _SLOT]),
     "knot_face_rgba": (_U32, [_IN, _SIZE, _SIZE, _SIZE, _U8, _OUT, _SIZE, _SIZE, _SLOT]),
     "knot_first_twin": (_SIZE, [_IN, _SIZE, _SIZE]),

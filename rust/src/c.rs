@@ -78,9 +78,30 @@ extern "C" {
     pub fn knot_placed_record_block(store: *const u8, store_length: usize, n: usize) -> usize;
     pub fn knot_place_store(old: *const u8, old_length: usize, out: *mut u8, out_length: usize) -> u64;
     pub fn knot_unplace_store(store: *const u8, store_length: usize, out: *mut u8, out_length: usize) -> u64;
+    pub fn knot_put_place(
+        store: *const u8,
+        store_length: usize,
+        n: usize,
+        face: u8,
+        column: u16,
+        row: u16,
+        out: *mut u8,
+        out_length: usize,
+    ) -> u64;
     pub fn knot_probe_pixel(store: *const u8, store_length: usize, edge: u32, face: u32, x: u32, y: u32, faulty: *mut usize) -> u64;
     pub fn knot_probe_check(store: *const u8, store_length: usize, edge: u32) -> u64;
     pub fn knot_probe_face(store: *const u8, store_length: usize, edge: u32, face: u32, out: *mut u16, out_length: usize) -> u32;
+    pub fn knot_probe_open(store: *const u8, store_length: usize, edge: u32, table: *mut u16, table_length: usize) -> u64;
+    pub fn knot_probe_pixel_in(
+        store: *const u8,
+        store_length: usize,
+        table: *const u16,
+        table_length: usize,
+        edge: u32,
+        face: u32,
+        x: u32,
+        y: u32,
+    ) -> u64;
     pub fn knot_probe_edge(store: *const u8, store_length: usize) -> usize;
     pub fn knot_probe_build(
         blocks: *const u8,
@@ -99,7 +120,15 @@ extern "C" {
     pub fn knot_dds_head(file: *const u8, file_length: usize) -> u64;
     pub fn knot_dds_read(file: *const u8, file_length: usize) -> u64;
     pub fn knot_dds_blocks(file: *const u8, file_length: usize) -> usize;
+    pub fn knot_bc7_dds_read(file: *const u8, file_length: usize) -> u64;
+    pub fn knot_bc7_dds_blocks(file: *const u8, file_length: usize) -> usize;
+    pub fn knot_dds_first_level(file: *const u8, file_length: usize) -> u64;
+    pub fn knot_dds_first_blocks(file: *const u8, file_length: usize) -> usize;
+    pub fn knot_bc7_dds_first_level(file: *const u8, file_length: usize) -> u64;
+    pub fn knot_bc7_dds_first_blocks(file: *const u8, file_length: usize) -> usize;
     pub fn knot_dds_write(blocks: *const u8, blocks_length: usize, format: u8, width: u32, height: u32, out: *mut u8, out_length: usize) -> u64;
     pub fn knot_pfm_write(blocks: *const u8, blocks_length: usize, format: u8, width: u32, height: u32, out: *mut u8, out_length: usize) -> u64;
     pub fn knot_pfm_length(width: u32, height: u32) -> usize;
+    pub fn knot_exr_write(blocks: *const u8, blocks_length: usize, format: u8, width: u32, height: u32, out: *mut u8, out_length: usize) -> u64;
+    pub fn knot_exr_length(width: u32, height: u32) -> usize;
 }

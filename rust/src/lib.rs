@@ -1,5 +1,5 @@
-//! Safe calls of the Knotpasture library: BC6H and BC7 blocks, stores of tiles, records with a place, probes, DDS files and Portable Float
-//! Maps. Each function is one call of `knotpasture.h`, which says what is proved of it; what is here is not proved: it hands on slices
+//! Safe calls of the Knotpasture library: BC6H and BC7 blocks, stores of tiles, records with a place, probes, DDS files, Portable Float
+//! Maps and OpenEXR files. Each function is one call of `knotpasture.h`, which says what is proved of it; what is here is not proved: it hands on slices
 //! with their lengths, and takes answers apart.
 //!
 //! Every call ends for every input and checks all of it. A refusal is a [`Refused`], one number with its words, and changes nothing that was
@@ -49,8 +49,12 @@ pub const PLACED_SIZE: usize = 32;
 pub const PLACED_STORE_LIMIT: usize = 64_000;
 /// Faces are 0 to 5.
 pub const FACES: u8 = 6;
+/// The face of a record that is not placed.
+const NO_FACE: u8 = 255;
 /// Blocks on an edge of a probe, at most.
 pub const EDGE_LIMIT: u32 = 16;
+/// Values of the table that [`probe_open`] fills.
+pub const PROBE_TABLE: usize = 1536;
 /// The alpha of every pixel of [`face_rgba`], 1.0.
 pub const OPAQUE: u16 = 0x3C00;
 /// Bytes that a BC7 block shows: sixteen pixels of red, green, blue and alpha.
@@ -61,8 +65,12 @@ pub const BC7_RESERVED: u8 = 8;
 pub const DDS_HEADER: usize = 148;
 /// Pixels of a side of a DDS file, at most.
 pub const DDS_LIMIT: u32 = 4096;
+/// Mip levels of a DDS file, at most, for [`dds_first_level`].
+pub const DDS_LEVELS: u32 = 13;
 /// Pixels of a side of a Portable Float Map, at most.
 pub const PFM_LIMIT: u32 = 4096;
+/// Pixels of a side of an OpenEXR file, at most.
+pub const EXR_LIMIT: u32 = 4096;
 
 /// How the endpoints of a BC6H block are read.
 #[derive(Debug, Clone, Copy, PartialEq, Eq, Hash)]
@@ -567,6 +575,29 @@ pub fn unplace_store(store: &[u8], out: &mut [u8]) -> Result<usize, Fault> {
     moved(unsafe { c::knot_unplace_store(store.as_ptr(), store.len(), out.as_mut_ptr(), out.len()) })
 }
 
+/// The store of records with a place with that of record n set, or taken away, in the first bytes of `out`; every other byte is the store's.
+/// Answers how many records there are.
+///
+/// Refusals: 5, 6, 3, 8; with record n, which is why, 1 or 7; 17, of the place that is given.
+///
+/// ```
+/// use knotpasture::{place_store, placed_record_at, put_place, Fault, Place};
+///
+/// let (mut store, mut out) = ([0; 2 * 32], [0; 2 * 32]);
+/// place_store(&[0; 2 * 24], &mut store)?;
+/// let place = Some(Place { face: 2, column: 0, row: 3 });
+/// assert_eq!(put_place(&store, 1, place, &mut out)?, 2);
+/// assert_eq!(placed_record_at(&out, 1).unwrap().place, place);
+/// # Ok::<(), Fault>(())
+/// ```
+pub fn put_place(store: &[u8], n: usize, place: Option<Place>, out: &mut [u8]) -> Result<usize, Fault> {
+    let Place { face, column, row } = place.unwrap_or(Place { face: NO_FACE, column: 0, row: 0 });
+    let (lent, room) = (out.as_mut_ptr(), out.len());
+    // SAFETY: `store` is borrowed to read, `out` to write, each with its own length.
+    let word = unsafe { c::knot_put_place(store.as_ptr(), store.len(), n, face, column, row, lent, room) };
+    moved(word).map_err(|fault| Fault { record: fault.record.filter(|_| fault.refused != Refused::BAD_PLACE), ..fault })
+}
+
 /// Why a store does not move, or is no probe.
 #[derive(Debug, Clone, Copy, PartialEq, Eq)]
 pub struct Fault {
@@ -597,18 +628,41 @@ impl std::error::Error for Fault {}
 /// Refusals: 19, 5, 6; record by record 1, 7, 17, 20, 21, 22; 23.
 pub fn probe_check(store: &[u8], edge: u32) -> Result<(), Fault> {
     // SAFETY: `store` is borrowed to read, with its own length.
-    let word = unsafe { c::knot_probe_check(store.as_ptr(), store.len(), edge) };
+    fault(unsafe { c::knot_probe_check(store.as_ptr(), store.len(), edge) })
+}
+
+fn fault(word: u64) -> Result<(), Fault> {
     done(word).map(|_| ()).map_err(|refused| Fault::told(refused, usize::from((word >> 16) as u16)))
 }
 
-/// Red, green and blue of a pixel of a probe. The store is checked at each call: for many pixels [`probe_face`] is the call.
+/// Red, green and blue of a pixel of a probe. The store is checked at each call: for many pixels [`probe_open`] and [`probe_face`] are the calls.
 ///
 /// Refusals: those of [`probe_check`], with its record, then 24.
 pub fn probe_pixel(store: &[u8], edge: u32, face: u32, x: u32, y: u32) -> Result<[u16; 3], Fault> {
     let mut faulty = 0;
     // SAFETY: `store` is borrowed to read, with its own length; `faulty` is a local.
     let word = unsafe { c::knot_probe_pixel(store.as_ptr(), store.len(), edge, face, x, y, &mut faulty) };
-    done(word).map(|word| [16, 32, 48].map(|shift| (word >> shift) as u16)).map_err(|refused| Fault::told(refused, faulty))
+    pixel(word).map_err(|refused| Fault::told(refused, faulty))
+}
+
+fn pixel(word: u64) -> Result<[u16; 3], Refused> {
+    done(word).map(|word| [16, 32, 48].map(|shift| (word >> shift) as u16))
+}
+
+/// Opens a probe: checks the store once, and fills the first [`PROBE_TABLE`] values of `table`, by which [`probe_pixel_in`] asks for pixels.
+///
+/// Refusals: those of [`probe_check`], with its record, then 3.
+pub fn probe_open(store: &[u8], edge: u32, table: &mut [u16]) -> Result<(), Fault> {
+    // SAFETY: `store` is borrowed to read, `table` to write, each with its own length.
+    fault(unsafe { c::knot_probe_open(store.as_ptr(), store.len(), edge, table.as_mut_ptr(), table.len()) })
+}
+
+/// What [`probe_pixel`] answers, by the table that [`probe_open`] of the same store and edge left: one record is looked at.
+///
+/// Refusals: 19, 24, 3, 23, 8, 1.
+pub fn probe_pixel_in(store: &[u8], table: &[u16], edge: u32, face: u32, x: u32, y: u32) -> Result<[u16; 3], Refused> {
+    // SAFETY: `store` and `table` are borrowed to read, each with its own length.
+    pixel(unsafe { c::knot_probe_pixel_in(store.as_ptr(), store.len(), table.as_ptr(), table.len(), edge, face, x, y) })
 }
 
 /// A whole face of a probe becomes the first 48 edge · edge values of `out`, row by row from the top.
@@ -695,10 +749,54 @@ pub fn dds_read(file: &[u8]) -> Result<Dds, Refused> {
 /// The blocks of a whole file as a part of it; empty where [`dds_read`] refuses.
 pub fn dds_blocks(file: &[u8]) -> &[u8] {
     // SAFETY: `file` is borrowed to read, with its own length.
-    match unsafe { c::knot_dds_blocks(file.as_ptr(), file.len()) } {
-        0 => &[],
-        start => &file[start..],
-    }
+    blocks(file, dds_read(file), unsafe { c::knot_dds_blocks(file.as_ptr(), file.len()) })
+}
+
+/// The blocks of the largest level, from the start that a call answers.
+fn blocks(file: &[u8], read: Result<Dds, Refused>, start: usize) -> &[u8] {
+    read.map_or(&[], |dds| &file[start..][..BLOCK_SIZE * [dds.width, dds.height].map(|side| side.div_ceil(4) as usize).iter().product::<usize>()])
+}
+
+/// Size and format of a whole file of BC7 blocks: format 0 is DXGI's 98, 1 is 99, sRGB.
+///
+/// Refusals: 13, 14, 15.
+pub fn bc7_dds_read(file: &[u8]) -> Result<Dds, Refused> {
+    // SAFETY: `file` is borrowed to read, with its own length.
+    dds(unsafe { c::knot_bc7_dds_read(file.as_ptr(), file.len()) })
+}
+
+/// The blocks of a whole file of BC7 blocks as a part of it; empty where [`bc7_dds_read`] refuses.
+pub fn bc7_dds_blocks(file: &[u8]) -> &[u8] {
+    // SAFETY: `file` is borrowed to read, with its own length.
+    blocks(file, bc7_dds_read(file), unsafe { c::knot_bc7_dds_blocks(file.as_ptr(), file.len()) })
+}
+
+/// Size and format of a whole file with mip levels, at most [`DDS_LEVELS`]: of its largest level. It takes what [`dds_read`] takes, too.
+///
+/// Refusals: 13, 14, 15.
+pub fn dds_first_level(file: &[u8]) -> Result<Dds, Refused> {
+    // SAFETY: `file` is borrowed to read, with its own length.
+    dds(unsafe { c::knot_dds_first_level(file.as_ptr(), file.len()) })
+}
+
+/// The blocks of the largest level as a part of the file; empty where [`dds_first_level`] refuses.
+pub fn dds_first_blocks(file: &[u8]) -> &[u8] {
+    // SAFETY: `file` is borrowed to read, with its own length.
+    blocks(file, dds_first_level(file), unsafe { c::knot_dds_first_blocks(file.as_ptr(), file.len()) })
+}
+
+/// [`dds_first_level`] of BC7 blocks, with the formats of [`bc7_dds_read`].
+///
+/// Refusals: 13, 14, 15.
+pub fn bc7_dds_first_level(file: &[u8]) -> Result<Dds, Refused> {
+    // SAFETY: `file` is borrowed to read, with its own length.
+    dds(unsafe { c::knot_bc7_dds_first_level(file.as_ptr(), file.len()) })
+}
+
+/// The BC7 blocks of the largest level as a part of the file; empty where [`bc7_dds_first_level`] refuses.
+pub fn bc7_dds_first_blocks(file: &[u8]) -> &[u8] {
+    // SAFETY: `file` is borrowed to read, with its own length.
+    blocks(file, bc7_dds_first_level(file), unsafe { c::knot_bc7_dds_first_blocks(file.as_ptr(), file.len()) })
 }
 
 /// Writes a DDS file to the first bytes of `out`, and answers its length: [`DDS_HEADER`] and the blocks.
@@ -723,4 +821,19 @@ pub fn pfm_write(blocks: &[u8], format: impl Into<u8>, width: u32, height: u32, 
 pub fn pfm_length(width: u32, height: u32) -> Option<usize> {
     // SAFETY: the call takes numbers alone, no pointer.
     Some(unsafe { c::knot_pfm_length(width, height) }).filter(|length| *length != 0)
+}
+
+/// Writes a picture of blocks as an OpenEXR file to the first bytes of `out`, and answers its length, [`exr_length`].
+///
+/// Refusals: 1, 16, 15, 3.
+pub fn exr_write(blocks: &[u8], format: impl Into<u8>, width: u32, height: u32, out: &mut [u8]) -> Result<usize, Refused> {
+    let (lent, room) = (out.as_mut_ptr(), out.len());
+    // SAFETY: `blocks` is borrowed to read, `out` to write, each with its own length.
+    done(unsafe { c::knot_exr_write(blocks.as_ptr(), blocks.len(), format.into(), width, height, lent, room) }).map(|word| (word >> 8) as usize)
+}
+
+/// The length of the OpenEXR file of a picture; None for a size that is refused.
+pub fn exr_length(width: u32, height: u32) -> Option<usize> {
+    // SAFETY: the call takes numbers alone, no pointer.
+    Some(unsafe { c::knot_exr_length(width, height) }).filter(|length| *length != 0)
 }

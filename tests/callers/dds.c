@@ -1,5 +1,5 @@
 /* Calls the functions of knotpasture.h over DDS files as a C program does, with good and bad input. Prints each check that fails.
- * Holds S-1, S-62, S-63, S-86, S-87. */
+ * Holds S-1, S-62, S-63, S-86, S-87, S-94, S-95. */
 #include "knotpasture.h"
 
 #include "check.h"
@@ -65,8 +65,45 @@ static void reading(void)
     CHECK(KNOT_ANSWER(word) == KNOT_DONE && KNOT_DDS_FORMAT(word) == KNOT_UNSIGNED);
 }
 
+/* A file of 16 by 8 pixels with `levels` mip levels of 8, 2, 1 and 1 blocks. */
+static size_t level_file(uint8_t *texture, unsigned levels, unsigned dxgi)
+{
+    static const size_t counts[] = {8, 10, 11, 12};
+    for (unsigned k = 0; k < 500; k++) texture[k] = k < 148 ? 0 : (uint8_t)k;
+    static const uint8_t marks[][2] = {{0, 'D'}, {1, 'D'}, {2, 'S'}, {3, ' '}, {4, 124}, {12, 8}, {16, 16}, {76, 32}, {80, 4}, {84, 'D'}, {85, 'X'}, {86, '1'}, {87, '0'}, {132, 3}, {140, 1}};
+    for (unsigned k = 0; k < sizeof marks / sizeof *marks; k++) texture[marks[k][0]] = marks[k][1];
+    texture[28] = (uint8_t)levels;
+    texture[128] = (uint8_t)dxgi;
+    return 148 + 16 * counts[levels ? levels - 1 : 0];
+}
+
+static void levels(void)
+{
+    static uint8_t texture[500];
+    for (unsigned count = 0; count < 5; count++)
+        for (unsigned dxgi = 94; dxgi < 101; dxgi++) {
+            size_t length = level_file(texture, count < 4 ? count : 4, dxgi);
+            uint64_t done = (uint64_t)8 << 32 | 16 << 16, bc6h = dxgi == 95 || dxgi == 96 ? done | (dxgi - 95) << 8 : KNOT_FOREIGN_HEADER;
+            uint64_t bc7 = dxgi == 98 || dxgi == 99 ? done | (dxgi - 98) << 8 : KNOT_FOREIGN_HEADER;
+            CHECK(knot_dds_first_level(texture, length) == bc6h && knot_dds_first_blocks(texture, length) == (KNOT_ANSWER(bc6h) ? 0 : 148));
+            CHECK(knot_bc7_dds_first_level(texture, length) == bc7 && knot_bc7_dds_first_blocks(texture, length) == (KNOT_ANSWER(bc7) ? 0 : 148));
+            CHECK(KNOT_ANSWER(bc6h) || (knot_dds_first_level(texture, length - 1) == KNOT_BAD_BLOCKS && knot_dds_first_blocks(texture, length + 1) == 0));
+            CHECK(KNOT_ANSWER(bc7) || (knot_bc7_dds_first_level(texture, length + 1) == KNOT_BAD_BLOCKS && knot_bc7_dds_first_blocks(texture, length - 1) == 0));
+            if (count > 1) bc6h = bc7 = KNOT_FOREIGN_HEADER;
+            CHECK(knot_dds_read(texture, length) == bc6h && knot_bc7_dds_read(texture, length) == bc7);
+            CHECK(knot_bc7_dds_blocks(texture, length) == (KNOT_ANSWER(bc7) ? 0 : 148) && knot_bc7_dds_blocks(texture, length - 1) == 0);
+            CHECK(KNOT_ANSWER(bc7) || knot_bc7_dds_read(texture, length - 1) == KNOT_BAD_BLOCKS);
+        }
+    size_t length = level_file(texture, 1, 98);
+    texture[16] = 0;
+    CHECK(knot_bc7_dds_read(texture, length) == KNOT_BAD_SIZE && knot_bc7_dds_first_level(texture, length) == KNOT_BAD_SIZE);
+    texture[28] = KNOT_DDS_LEVELS + 1;
+    CHECK(knot_bc7_dds_first_level(texture, length) == KNOT_FOREIGN_HEADER && knot_dds_first_level(NULL, 0) == KNOT_FOREIGN_HEADER);
+}
+
 int main(void)
 {
+    levels();
     for (size_t k = 0; k < BLOCKS; k++) blocks[k] = (uint8_t)(7 * k + 3);
     for (size_t k = 0; k < sizeof file; k++) file[k] = UNTOUCHED;
     refused_writing();

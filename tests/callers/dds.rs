@@ -34,7 +34,27 @@ fn reading(mut file: Vec<u8>) {
     assert_eq!(knot::dds_read(&file), Err(Refused::FOREIGN_HEADER));
 }
 
+/// The file as one of BC7 blocks, and with mip levels of 2, 1 and 1 blocks.
+fn levels(mut file: Vec<u8>) {
+    let told = Ok(Dds { width: 5, height: 3, format: 1 });
+    assert_eq!((knot::dds_first_level(&file), knot::dds_first_blocks(&file)), (told, &file[148..]));
+    assert_eq!((knot::bc7_dds_read(&file), knot::bc7_dds_first_level(&file)), (Err(Refused::FOREIGN_HEADER), Err(Refused::FOREIGN_HEADER)));
+    file[128] = 99;
+    assert_eq!((knot::bc7_dds_read(&file), knot::bc7_dds_blocks(&file)), (told, &file[148..]));
+    assert_eq!((knot::dds_read(&file), knot::dds_first_blocks(&file).len()), (Err(Refused::FOREIGN_HEADER), 0));
+    file[28] = 3;
+    assert_eq!((knot::bc7_dds_read(&file), knot::bc7_dds_first_level(&file)), (Err(Refused::FOREIGN_HEADER), Err(Refused::BAD_BLOCKS)));
+    assert!(knot::bc7_dds_first_blocks(&file).is_empty() && knot::bc7_dds_blocks(&file).is_empty());
+    file.extend([9; 32]);
+    assert_eq!((knot::bc7_dds_first_level(&file), knot::bc7_dds_first_blocks(&file)), (told, &file[148..180]));
+    file[128] = 96;
+    assert_eq!((knot::dds_first_level(&file), knot::dds_first_blocks(&file)), (told, &file[148..180]));
+    file[28] = knot::DDS_LEVELS as u8 + 1;
+    assert_eq!(knot::dds_first_level(&file), Err(Refused::FOREIGN_HEADER));
+}
+
 fn main() {
+    levels(writing());
     reading(writing());
     println!("Rust, DDS files: every check holds");
 }

@@ -1,5 +1,5 @@
 /* Calls the functions of knotpasture.h over records with a place as a C program does. Prints each check that fails.
- * Holds S-1, S-53 to S-55, S-87. */
+ * Holds S-1, S-53 to S-55, S-87, S-91. */
 #include "knotpasture.h"
 
 #include "check.h"
@@ -107,10 +107,38 @@ static void records(void)
     CHECK(record_at(64, 1) == KNOT_BAD_FORMAT && KNOT_ANSWER(record_at(64, 0)) == KNOT_DONE);
 }
 
+/* A place put into record 1 of three. */
+static void places(void)
+{
+    put_old(3);
+    CHECK(KNOT_MOVED(knot_place_store(old, 72, new, 96)) == 3);
+    fill(back, 200);
+    CHECK(knot_put_place(new, 64032, 9, 6, 0, 0, back, 0) == KNOT_LONG_STORE && knot_put_place(new, 95, 9, 6, 0, 0, back, 0) == KNOT_UNEVEN_STORE);
+    CHECK(knot_put_place(new, 96, 9, 6, 0, 0, back, 95) == KNOT_SHORT_OUTPUT && knot_put_place(new, 96, 3, 6, 0, 0, back, 96) == KNOT_NO_RECORD);
+    CHECK(knot_put_place(NULL, 0, 0, 0, 0, 0, NULL, 0) == KNOT_NO_RECORD && knot_put_place(new, 96, SIZE_MAX, 0, 0, 0, back, 96) == KNOT_NO_RECORD);
+    new[32 + 10] = 1;
+    CHECK(refused_at(knot_put_place(new, 96, 1, 6, 0, 0, back, 96), KNOT_SPARE_BYTE, 1));
+    new[32 + 4] = 2;
+    CHECK(refused_at(knot_put_place(new, 96, 1, 6, 0, 0, back, 96), KNOT_BAD_FORMAT, 1));
+    CHECK(knot_put_place(new, 96, 2, 6, 0, 0, back, 96) == KNOT_BAD_PLACE && knot_put_place(new, 96, 2, 254, 0, 0, back, 96) == KNOT_BAD_PLACE);
+    CHECK(knot_put_place(new, 96, 2, 255, 1, 0, back, 96) == KNOT_BAD_PLACE && knot_put_place(new, 96, 2, 255, 0, 1, back, 96) == KNOT_BAD_PLACE);
+    CHECK(filled(back, 0, 200));
+    new[32 + 4] = 1;
+    new[32 + 10] = 0;
+    new[32 + 5] = 9; /* a place that is none is no reason */
+    CHECK(knot_put_place(new, 96, 1, 5, 0x1234, 0xFEDC, back, 200) == (uint64_t)3 << 16 && filled(back, 96, 200));
+    for (unsigned k = 0; k < 96; k++)
+        if (k < 37 || k > 41) CHECK(back[k] == new[k]);
+    CHECK(back[37] == 5 && back[38] == 0x34 && back[39] == 0x12 && back[40] == 0xDC && back[41] == 0xFE);
+    CHECK(KNOT_FACE(knot_placed_record_at(back, 96, 1, &column, &row)) == 5 && column == 0x1234 && row == 0xFEDC);
+    CHECK(KNOT_MOVED(knot_put_place(back, 96, 1, KNOT_NO_FACE, 0, 0, new, 96)) == 3 && KNOT_FACE(record_at(96, 1)) == KNOT_NO_FACE);
+}
+
 int main(void)
 {
     moves();
     records();
+    places();
     printf("C, records with a place: %u checks, %u failed\n", checks, failures);
     return failures != 0;
 }

@@ -51,5 +51,17 @@ fn main() {
     assert_eq!(knot::placed_record_at(&new, 1), Err(Refused::BAD_PLACE));
     new[47] = 1;
     assert_eq!(knot::unplace_store(&new, &mut back), at(Refused::SPARE_BYTE, 1));
+
+    let mut put = [9; 65];
+    let there = Some(Place { face: 5, column: 0x1234, row: 1 });
+    assert_eq!(knot::put_place(&new, 1, there, &mut put), at(Refused::SPARE_BYTE, 1));
+    assert_eq!(knot::put_place(&new, 2, there, &mut put), whole(Refused::NO_RECORD));
+    assert_eq!(knot::put_place(&new, 0, there, &mut put[..63]), whole(Refused::SHORT_OUTPUT));
+    assert_eq!(knot::put_place(&new, 0, Some(Place { face: 6, column: 0, row: 0 }), &mut put), whole(Refused::BAD_PLACE));
+    assert_eq!(put, [9; 65]);
+    assert_eq!(knot::put_place(&new, 0, there, &mut put), Ok(2));
+    assert_eq!((&put[..5], &put[5..10], &put[10..64], put[64]), (&new[..5], &[5, 0x34, 0x12, 1, 0][..], &new[10..], 9));
+    assert_eq!(knot::put_place(&put[..32], 0, None, &mut new), Ok(1));
+    assert_eq!(knot::placed_record_at(&new, 0), Ok(PlacedRecord { tile: 7, format: 0, place: None }));
     println!("Rust, records with a place: every check holds");
 }

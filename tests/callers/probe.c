@@ -1,5 +1,5 @@
 /* Calls the probe's functions of knotpasture.h as a C program does, with good and bad input. Prints each check that fails.
- * Holds S-1, S-57 to S-59, S-87. */
+ * Holds S-1, S-57 to S-59, S-87, S-93. */
 #include "knotpasture.h"
 
 #include "check.h"
@@ -117,11 +117,41 @@ static void built(void)
     for (size_t n = 1; n <= KNOT_EDGE_LIMIT; n++) CHECK(knot_probe_edge(NULL, 192 * n * n) == n);
 }
 
+/* The table of a probe, and its pixels by it. */
+static void opened(void)
+{
+    static uint16_t table[KNOT_PROBE_TABLE + 1], other[KNOT_PROBE_TABLE + 1];
+    size_t length = SIZE * RECORDS;
+    fill();
+    for (unsigned k = 0; k <= KNOT_PROBE_TABLE; k++) table[k] = UNTOUCHED;
+    CHECK(knot_probe_open(store, length, 17, table, 0) == KNOT_BAD_EDGE && knot_probe_open(store, length - 1, 1, table, 0) == KNOT_UNEVEN_STORE);
+    CHECK(knot_probe_open(store, length + SIZE, 1, table, KNOT_PROBE_TABLE) == (KNOT_TAKEN_PLACE | 6 << 16));
+    CHECK(knot_probe_open(store, length - SIZE, 1, table, KNOT_PROBE_TABLE) == KNOT_EMPTY_PLACE);
+    CHECK(knot_probe_open(store, length, 1, table, KNOT_PROBE_TABLE - 1) == KNOT_SHORT_OUTPUT && knot_probe_open(store, length, 1, NULL, 0) == KNOT_SHORT_OUTPUT);
+    for (unsigned k = 0; k <= KNOT_PROBE_TABLE; k++) CHECK(table[k] == UNTOUCHED);
+    CHECK(knot_probe_open(store, length, 1, table, KNOT_PROBE_TABLE + 1) == KNOT_DONE && table[KNOT_PROBE_TABLE] == UNTOUCHED);
+    for (unsigned k = 0; k < KNOT_PROBE_TABLE; k++) CHECK(table[k] == (k % 256 ? 0 : (k / 256 + 2) % RECORDS + 1));
+    for (uint32_t k = 0; k < 6 * 16; k++)
+        CHECK(knot_probe_pixel_in(store, length, table, KNOT_PROBE_TABLE, 1, k / 16, k % 4, k / 4 % 4) == pixel(k / 16, k % 4, k / 4 % 4));
+    CHECK(knot_probe_pixel_in(NULL, 0, NULL, 0, 0, 6, 0, 0) == KNOT_BAD_EDGE && knot_probe_pixel_in(NULL, 0, NULL, 0, 17, 6, 0, 0) == KNOT_BAD_EDGE);
+    CHECK(knot_probe_pixel_in(NULL, 0, NULL, 0, 1, 6, 0, 0) == KNOT_NO_PIXEL && knot_probe_pixel_in(NULL, 0, NULL, 0, 1, 0, 4, 0) == KNOT_NO_PIXEL);
+    CHECK(knot_probe_pixel_in(NULL, 0, NULL, 0, 1, 0, 0, UINT32_MAX) == KNOT_NO_PIXEL);
+    CHECK(knot_probe_pixel_in(NULL, 0, table, KNOT_PROBE_TABLE - 1, 1, 0, 0, 0) == KNOT_SHORT_OUTPUT);
+    CHECK(knot_probe_pixel_in(NULL, 0, table, KNOT_PROBE_TABLE, 2, 0, 4, 0) == KNOT_EMPTY_PLACE);
+    CHECK(knot_probe_pixel_in(NULL, 0, table, KNOT_PROBE_TABLE, 1, 0, 0, 0) == KNOT_NO_RECORD && knot_probe_pixel_in(store, SIZE * 2, table, KNOT_PROBE_TABLE, 1, 0, 3, 3) == KNOT_NO_RECORD);
+    CHECK(KNOT_RED(knot_probe_pixel_in(store, SIZE * 3, table, KNOT_PROBE_TABLE, 1, 0, 3, 3)) == 0x7BFF);
+    for (unsigned k = 0; k < KNOT_PROBE_TABLE; k++) other[k] = 0xFFFF;
+    CHECK(knot_probe_pixel_in(store, length, other, KNOT_PROBE_TABLE, 16, 5, 63, 63) == KNOT_NO_RECORD);
+    store[SIZE * 2 + 4] = 2;
+    CHECK(knot_probe_pixel_in(store, length, table, KNOT_PROBE_TABLE, 1, 0, 3, 3) == KNOT_BAD_FORMAT);
+}
+
 int main(void)
 {
     whole();
     refused();
     built();
+    opened();
     printf("C, the probe: %u checks, %u failed\n", checks, failures);
     return failures != 0;
 }

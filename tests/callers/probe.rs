@@ -33,6 +33,24 @@ fn built() {
     assert_eq!((knot::probe_pixel(made, 2, 2, 7, 3), knot::probe_pixel(made, 2, 2, 3, 7)), (Ok([0x7BFF, 0, 0]), Ok([0, 0, 0])));
 }
 
+/// The table of a probe, and its pixels by it.
+fn opened(store: &[u8]) {
+    let mut table = [0xA55A; knot::PROBE_TABLE + 1];
+    assert_eq!(knot::probe_open(store, 1, &mut table), Err(Fault { refused: Refused::PAST_EDGE, record: Some(0) }));
+    assert_eq!(knot::probe_open(store, 2, &mut table[..1535]), Err(Fault { refused: Refused::SHORT_OUTPUT, record: None }));
+    assert!(table.iter().all(|&value| value == 0xA55A));
+    assert_eq!(knot::probe_open(store, 2, &mut table), Ok(()));
+    assert_eq!((table[0], table[2 * 256 + 1], table[5 * 256 + 17], table[1536]), (24, 15, 1, 0xA55A));
+    for (face, x, y) in (0..384).map(|k| (k / 64, k % 8, k / 8 % 8)) {
+        assert_eq!(knot::probe_pixel_in(store, &table, 2, face, x, y), knot::probe_pixel(store, 2, face, x, y).map_err(|fault| fault.refused));
+    }
+    assert_eq!(knot::probe_pixel_in(store, &[], 17, 6, 0, 0), Err(Refused::BAD_EDGE));
+    assert_eq!(knot::probe_pixel_in(store, &[], 2, 6, 0, 0), Err(Refused::NO_PIXEL));
+    assert_eq!(knot::probe_pixel_in(store, &table[..1535], 2, 0, 0, 0), Err(Refused::SHORT_OUTPUT));
+    assert_eq!(knot::probe_pixel_in(store, &table, 3, 0, 8, 0), Err(Refused::EMPTY_PLACE));
+    assert_eq!(knot::probe_pixel_in(&store[..32], &table, 2, 0, 0, 0), Err(Refused::NO_RECORD));
+}
+
 fn main() {
     let store = store();
     assert_eq!(knot::probe_check(&store, 2), Ok(()));
@@ -53,5 +71,6 @@ fn main() {
     assert_eq!(knot::probe_face(&store, 2, 2, &mut face), Ok(()));
     assert!((0..192).all(|k| face[k] == if k == 3 * (8 * 3 + 7) { 0x7BFF } else { 0 }) && face[192..].iter().all(|&value| value == 0xA55A));
     built();
+    opened(&store);
     println!("Rust, the probe: every check holds");
 }

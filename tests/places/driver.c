@@ -1,5 +1,6 @@
 /* Answers cases from standard input, for tests/places/run. A case is four numbers of four bytes, low byte first: the call, the store's
- * length, the room or the record's number, and how many bytes are lent beyond the room; then the store's bytes. */
+ * length, the room or the record's number, and how many bytes are lent beyond the room; then the store's bytes. Call 3 puts a place: four numbers
+ * more follow, the record's number, face, column and row. */
 #include "knotpasture.h"
 
 long read(int file, void *to, unsigned long size);
@@ -45,9 +46,12 @@ int main(void)
             put(position, sizeof position);
             continue;
         }
-        if (room + beyond > sizeof out) return 1;
+        uint32_t place[4] = {0};
+        if (room + beyond > sizeof out || (call == 3 && !get(place, sizeof place))) return 1;
         for (size_t k = 0; k < room + beyond; k++) out[k] = 0xA5;
-        uint64_t word = (call == 0 ? knot_place_store : knot_unplace_store)(store, length, out, room);
+        uint64_t word = call == 3   ? knot_put_place(store, length, place[0], (uint8_t)place[1], (uint16_t)place[2], (uint16_t)place[3], out, room)
+                        : call == 0 ? knot_place_store(store, length, out, room)
+                                    : knot_unplace_store(store, length, out, room);
         put(&word, sizeof word);
         put(out, room + beyond);
     }

@@ -1,4 +1,5 @@
-"""Records with a place, and the moves between them and 24-byte records, as S-53 to S-55 state them, and nothing of the code."""
+"""Records with a place, the moves between them and 24-byte records, and a place that is put, as S-53 to S-55 and S-91 state them, and nothing of
+the code."""
 import struct
 
 OLD, OLD_LIMIT = 24, 48_000
@@ -61,6 +62,26 @@ def place(store, room):
 
 def unplace(store, room):
     return moved(store, room, NEW_LIMIT, NEW, OLD, back_refusal, lambda record: record[:5] + bytes(3) + record[16:])
+
+
+def put(store, room, n, face, column, row):
+    """The number, the record that is why, 0 where none is, and the store with the place of record n set, none on a refusal."""
+    if len(store) > NEW_LIMIT:
+        return LONG, 0, b""
+    if len(store) % NEW:
+        return UNEVEN, 0, b""
+    if room < len(store):
+        return SHORT, 0, b""
+    if n >= len(store) // NEW:
+        return NO_RECORD, 0, b""
+    at = NEW * n
+    own = new_refusal(store[at:at + 5] + bytes(5) + store[at + 10:at + NEW])
+    if own:
+        return own, n, b""
+    place = struct.pack("<BHH", face, column, row)
+    if new_refusal(bytes(5) + place + bytes(22)):
+        return BAD_PLACE, 0, b""
+    return DONE, 0, store[:at + 5] + place + store[at + 10:]
 
 
 def faulty(store):

@@ -1,4 +1,4 @@
-"""The probe as S-56 to S-58 state it, and nothing of the code: what each call answers, and stores to ask about. Pictures are blocks of mode 11,
+"""The probe as S-56 to S-59 and S-93 state it, and nothing of the code: what each call answers, and stores to ask about. Pictures are blocks of mode 11,
 of which S-19 to S-23 give the few steps from ten stored bits to a half-float."""
 import random
 import struct
@@ -142,6 +142,39 @@ def face_values(answer, shown, edge, face, room):
     if room < 48 * edge * edge:
         return 3, []
     return 0, [value for y in range(4 * edge) for x in range(4 * edge) for value in shown.triple(face, x, y)]
+
+
+TABLE = 1536
+
+
+def opened(answer, store, room):
+    """The number and the faulty record, where `answer` is the check's, and the table; none on a refusal."""
+    if answer[0]:
+        return answer, []
+    if room < TABLE:
+        return (3, 0), []
+    table = [0] * TABLE
+    for n in range(len(store) // SIZE):
+        face, column, row = place(store[SIZE * n : SIZE * n + SIZE])
+        table[256 * face + 16 * row + column] = n + 1
+    return (0, 0), table
+
+
+def pixel_in(store, table, edge, face, x, y):
+    """The number and the triple, by any table: 19, 24, 3, 23, 8, 1."""
+    if not 1 <= edge <= 16:
+        return (19, 0, 0, 0)
+    if not in_range(edge, face, x, y):
+        return (24, 0, 0, 0)
+    if len(table) < TABLE:
+        return (3, 0, 0, 0)
+    holder = table[256 * face + 16 * (y // 4) + x // 4]
+    if not holder:
+        return (23, 0, 0, 0)
+    if holder > len(store) // SIZE:
+        return (8, 0, 0, 0)
+    data = store[SIZE * holder - SIZE : SIZE * holder]
+    return (1, 0, 0, 0) if data[4] > 1 else (0, *picture(data[16:], data[4] == 1)[4 * (y % 4) + x % 4])
 
 
 def edge(store):

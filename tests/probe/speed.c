@@ -1,5 +1,6 @@
 /* Times the probe's calls on the largest probe, 1,536 records: the check, a pixel, a face, and beside them one block and the blocks of a
- * face decoded by knot_blocks_pixels. Each figure is the fastest of many rounds that take turns. Prints nanoseconds.
+ * face decoded by knot_blocks_pixels; then a whole face in three ways: by knot_probe_face, opened once and pixel by pixel, and by knot_probe_pixel.
+ * Each figure is the fastest of many rounds that take turns. Prints nanoseconds. Status 1 where the three ways differ.
  *
  * cc -O2 -Iinclude tests/probe/speed.c ARCHIVE -o speed && ./speed */
 #define _POSIX_C_SOURCE 200809L
@@ -8,10 +9,10 @@
 #include <stdio.h>
 #include <time.h>
 
-enum { EDGE = 16, FACE = EDGE * EDGE, RECORDS = 6 * FACE, SIZE = 32, ROUNDS = 400, TURNS = 16 };
+enum { EDGE = 16, SIDE = 4 * EDGE, FACE = EDGE * EDGE, RECORDS = 6 * FACE, SIZE = 32, ROUNDS = 400, TURNS = 16, SLOW_ROUNDS = 10 };
 
 static uint8_t store[SIZE * RECORDS], blocks[16 * FACE];
-static uint16_t values[48 * FACE];
+static uint16_t values[48 * FACE], by_table[48 * FACE], by_pixel[48 * FACE], table[KNOT_PROBE_TABLE];
 static volatile uint64_t sink;
 static size_t faulty;
 
@@ -63,6 +64,44 @@ static void run(void)
     sink = knot_blocks_pixels(blocks, sizeof blocks, KNOT_UNSIGNED, values, 48 * FACE, &done, &infinite);
 }
 
+static void keep(uint16_t *to, unsigned x, unsigned y, uint64_t word)
+{
+    uint16_t *at = to + 3 * (SIDE * y + x);
+    at[0] = KNOT_RED(word), at[1] = KNOT_GREEN(word), at[2] = KNOT_BLUE(word);
+}
+
+static void opened(void)
+{
+    sink = knot_probe_open(store, sizeof store, EDGE, table, KNOT_PROBE_TABLE);
+    for (unsigned y = 0; y < SIDE; y++)
+        for (unsigned x = 0; x < SIDE; x++) keep(by_table, x, y, knot_probe_pixel_in(store, sizeof store, table, KNOT_PROBE_TABLE, EDGE, 3, x, y));
+}
+
+static void each(void)
+{
+    for (unsigned y = 0; y < SIDE; y++)
+        for (unsigned x = 0; x < SIDE; x++) keep(by_pixel, x, y, knot_probe_pixel(store, sizeof store, EDGE, 3, x, y, &faulty));
+}
+
+/* A face in three ways. */
+static int whole_face(void)
+{
+    static void (*const ways[])(void) = {face, opened, each};
+    static const char *const names[] = {"a face by knot_probe_face", "opened once, by knot_probe_pixel_in", "by knot_probe_pixel"};
+    double best[3] = {1e18, 1e18, 1e18};
+    for (unsigned round = 0; round < SLOW_ROUNDS; round++)
+        for (unsigned k = 0; k < 3; k++) {
+            double start = now();
+            ways[k]();
+            double spent = now() - start;
+            if (spent < best[k]) best[k] = spent;
+        }
+    for (unsigned k = 0; k < 3; k++) printf("%s %.0f, %.1f times\n", names[k], best[k], best[k] / best[0]);
+    for (unsigned k = 0; k < 48 * FACE; k++)
+        if (values[k] != by_table[k] || values[k] != by_pixel[k]) return 1;
+    return 0;
+}
+
 int main(void)
 {
     static void (*const calls[])(void) = {check, pixel, face, block, run};
@@ -77,5 +116,5 @@ int main(void)
             if (spent < best[k]) best[k] = spent;
         }
     for (unsigned k = 0; k < 5; k++) printf("%s %.0f\n", names[k], best[k]);
-    return (int)(knot_probe_check(store, sizeof store, EDGE) & 0xFF);
+    return whole_face() || knot_probe_check(store, sizeof store, EDGE) != KNOT_DONE;
 }

@@ -64,7 +64,7 @@ def declared():
     return found
 
 
-TYPES = {"uint8_t": ctypes.c_uint8, "uint32_t": ctypes.c_uint32, "uint64_t": ctypes.c_uint64, "size_t": ctypes.c_size_t, "bool": ctypes.c_bool}
+TYPES = {"uint8_t": ctypes.c_uint8, "uint16_t": ctypes.c_uint16, "uint32_t": ctypes.c_uint32, "uint64_t": ctypes.c_uint64, "size_t": ctypes.c_size_t, "bool": ctypes.c_bool}
 
 
 def test_calls_are_the_headers():
@@ -412,6 +412,53 @@ def test_places():
     assert record[:5] == (4294967295, 1, 5, 0x1234, 1) and record.block.tobytes() == B3
 
 
+def test_put_place():
+    """Holds S-91."""
+    store = knotpasture.place(sample("twins.store"))
+    put = knotpasture.put_place(store, 2, 5, 0x1234, 7)
+    assert knotpasture.placed_record(put, 2)[2:5] == (5, 0x1234, 7)
+    assert [k for k in range(store.size) if put[k] != store[k]] == [69, 70, 71, 72]
+    assert knotpasture.put_place(put, 2, None).tobytes() == store.tobytes()
+    put[64 + 5] = 9
+    assert knotpasture.put_place(put, 2, 0)[64 + 5] == 0
+    put[32 + 4], put[15] = 2, 1
+    refused(1, knotpasture.put_place, put, 1, 0, record=1)
+    refused(7, knotpasture.put_place, put, 0, 0, record=0)
+    refused(17, knotpasture.put_place, store, 0, 6)
+    refused(17, knotpasture.put_place, store, 0, None, 1)
+    refused(8, knotpasture.put_place, store, store.size // 32, 6)
+    refused(6, knotpasture.put_place, store[1:], 0, 0)
+    refused(5, knotpasture.put_place, bytes(64_032), 0, 0)
+    for place in ((256, 0, 0), (0, 65536, 0), (0, 0, -1)):
+        with pytest.raises(ValueError):
+            knotpasture.put_place(store, 0, *place)
+
+
+def test_probe_opened_once():
+    """Holds S-93."""
+    store = sample("small.probe")
+    table = knotpasture.probe_open(store, 2)
+    assert sorted(table.tolist()) == 1512 * [0] + [*range(1, 25)]
+    for face in range(6):
+        shown = knotpasture.probe_face(store, 2, face)
+        for y, x in itertools.product(range(8), range(8)):
+            assert knotpasture.probe_pixel_in(store, table, 2, face, x, y).tobytes() == shown[y, x].tobytes()
+    refused(19, knotpasture.probe_open, store, 17)
+    refused(23, knotpasture.probe_open, store, 3)
+    refused(22, knotpasture.probe_open, store + store[-32:], 2, record=24)
+    refused(19, knotpasture.probe_pixel_in, store, table[:1], 0, 6, 0, 0)
+    refused(24, knotpasture.probe_pixel_in, store, table[:1], 2, 6, 0, 0)
+    refused(3, knotpasture.probe_pixel_in, store, table[:1535], 2, 0, 0, 0)
+    refused(23, knotpasture.probe_pixel_in, store, table, 3, 0, 8, 0)
+    refused(8, knotpasture.probe_pixel_in, b"", table, 2, 0, 0, 0)
+    damaged = bytearray(store)
+    damaged[4::32] = bytes([2]) * 24
+    refused(1, knotpasture.probe_pixel_in, damaged, table, 2, 0, 0, 0)
+    for wrong in (table.astype(numpy.uint32), table.tolist(), table[::2], table.tobytes()):
+        with pytest.raises(TypeError):
+            knotpasture.probe_pixel_in(store, wrong, 2, 0, 0, 0)
+
+
 def test_probe():
     store = sample("small.probe")
     assert knotpasture.probe_check(store, 2) is None
@@ -463,6 +510,46 @@ def test_dds():
     refused(1, knotpasture.dds_write, B3, 2, 0, 0)
 
 
+def with_levels(width, height, levels, dxgi, size):
+    """A DDS file of `size` bytes of blocks, each byte another."""
+    head = bytearray(struct.pack("<4s7I44x2I4s20xI16x5I", b"DDS ", 124, 0x81007, height, width, 0, 0, levels, 32, 4, b"DX10", 0x1000, dxgi, 3, 0, 1, 0))
+    return bytes(head) + bytes(k * k % 251 for k in range(size))
+
+
+def test_dds_of_bc7():
+    """Holds S-94."""
+    for dxgi, number in ((98, knotpasture.BC7_LINEAR), (99, knotpasture.BC7_SRGB)):
+        file = with_levels(5, 3, 1, dxgi, 32)
+        dds = knotpasture.bc7_dds_read(file)
+        assert dds[:3] == (5, 3, number) and dds.blocks.tobytes() == file[148:]
+        assert knotpasture.decode_bc7(dds.blocks).shape == (2, 4, 4, 4)
+        refused(13, knotpasture.dds_read, file)
+        refused(15, knotpasture.bc7_dds_read, file + b"x")
+    for dxgi in (95, 96, 97, 100):
+        refused(13, knotpasture.bc7_dds_read, with_levels(5, 3, 1, dxgi, 32))
+    refused(14, knotpasture.bc7_dds_read, with_levels(4097, 3, 1, 98, 32))
+    refused(13, knotpasture.bc7_dds_read, with_levels(5, 3, 2, 98, 48))
+
+
+def test_dds_with_levels():
+    """Holds S-95."""
+    for (width, height, levels), sizes in {(5, 3, 0): (2,), (5, 3, 1): (2,), (5, 3, 3): (2, 1, 1), (16, 8, 4): (8, 2, 1, 1), (12, 1, 13): (3, 2) + 11 * (1,), (9, 5, 2): (6, 1)}.items():
+        for first, reading, single in ((95, knotpasture.dds_first_level, knotpasture.dds_read), (98, knotpasture.bc7_dds_first_level, knotpasture.bc7_dds_read)):
+            for number in (0, 1):
+                file = with_levels(width, height, levels, first + number, 16 * sum(sizes))
+                dds = reading(file)
+                assert dds[:3] == (width, height, number) and dds.blocks.tobytes() == file[148 : 148 + 16 * sizes[0]]
+                refused(15, reading, file + b"x")
+                refused(15, reading, file[:-1])
+                refused(13, reading, with_levels(width, height, levels, 193 - first - number, 16 * sum(sizes)))
+                if levels > 1:
+                    refused(13, single, file)
+                else:
+                    assert single(file).blocks.tobytes() == dds.blocks.tobytes()
+    refused(13, knotpasture.dds_first_level, with_levels(5, 3, 14, 95, 16 * 15))
+    refused(14, knotpasture.dds_first_level, with_levels(0, 3, 13, 95, 0))
+
+
 def test_pfm():
     dds = knotpasture.dds_read(sample("eight.dds"))
     file = knotpasture.pfm_write(dds.blocks, dds.format, dds.width, dds.height).tobytes()
@@ -473,6 +560,61 @@ def test_pfm():
     assert knotpasture.pfm_length(5, 4) == 0
     refused(16, knotpasture.pfm_write, B3, False, 5, 4)
     refused(15, knotpasture.pfm_write, B3, False, 8, 4)
+
+
+def exr_parts(file):
+    """The attributes of an OpenEXR file of one part by their names, with their types, and the bytes behind the header."""
+    assert struct.unpack_from("<II", file) == (20000630, 2)
+    found, at = {}, 8
+    while file[at]:
+        name, kind = file[at:].split(b"\0", 2)[:2]
+        at += len(name) + len(kind) + 2
+        size = struct.unpack_from("<I", file, at)[0]
+        found[name.decode()], at = (kind.decode(), file[at + 4:at + 4 + size]), at + 4 + size
+    return found, at + 1
+
+
+def exr_picture(file):
+    """Width, height and the patterns of an uncompressed OpenEXR file, (height, width, 3), as the format's own page reads them: line by line where the
+    table says, channel by channel in the order of the list."""
+    parts, at = exr_parts(file)
+    assert parts["compression"] == ("compression", b"\0") and parts["lineOrder"] == ("lineOrder", b"\0")
+    left, top, right, bottom = struct.unpack("<4i", parts["dataWindow"][1])
+    width, height = right - left + 1, bottom - top + 1
+    assert parts["displayWindow"] == parts["dataWindow"] and parts["dataWindow"][0] == "box2i" and (left, top) == (0, 0)
+    listed, names = parts["channels"][1], []
+    while listed != b"\0":
+        name, rest = listed.split(b"\0", 1)
+        assert struct.unpack_from("<IB3xII", rest) == (1, 0, 1, 1)
+        names, listed = [*names, name.decode()], rest[16:]
+    assert names == sorted(names) and set(names) == set("RGB")
+    lines = numpy.empty((height, len(names), width), "<u2")
+    for y, start in enumerate(struct.unpack_from(f"<{height}Q", file, at)):
+        assert struct.unpack_from("<II", file, start) == (y, 2 * len(names) * width)
+        lines[y] = numpy.frombuffer(file, "<u2", len(names) * width, start + 8).reshape(len(names), width)
+    assert start + 8 + 2 * len(names) * width == len(file)
+    return width, height, lines[:, [names.index(name) for name in "RGB"]].transpose(0, 2, 1)
+
+
+def test_exr():
+    """Holds S-92: the file, read by its own header and table, shows what the blocks show."""
+    pieces = b"".join(piece[1:] for piece, _ in stored("run_pixels", 17, 100))
+    for width, height, signed in ((4, 4, False), (8, 4, True), (4, 8, False), (28, 20, True), (64, 12, False), (4, 1000, True)):
+        size = width * height
+        blocks = (pieces * (size // len(pieces) + 1))[:size]
+        file = knotpasture.exr_write(blocks, signed, width, height).tobytes()
+        assert len(file) == knotpasture.exr_length(width, height) == 313 + 8 * height + (8 + 6 * width) * height
+        shown = by_rows(knotpasture.decode(blocks, signed), width // 4, height // 4)
+        wide, high, patterns = exr_picture(file)
+        assert (wide, high) == (width, height) and (patterns == shown.view(numpy.uint16)).all()
+    parts, at = exr_parts(file)
+    assert at == 313 and parts["pixelAspectRatio"] == parts["screenWindowWidth"] == ("float", struct.pack("<f", 1))
+    assert parts["screenWindowCenter"] == ("v2f", bytes(8)) and list(parts) == sorted(parts)
+    assert knotpasture.exr_length(5, 4) == knotpasture.exr_length(4, 4100) == knotpasture.exr_length(0, 4) == 0
+    assert knotpasture.exr_length(4096, 4096) == 100_729_145
+    refused(1, knotpasture.exr_write, B3, 2, 5, 4)
+    refused(16, knotpasture.exr_write, B3, False, 5, 4)
+    refused(15, knotpasture.exr_write, B3, False, 8, 4)
 
 
 # ---- faces, and the pairs of an audit: where the library that is loaded has the calls

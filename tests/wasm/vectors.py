@@ -209,7 +209,7 @@ class Vectors:
                     for given in ((none, number, 0, form, none, number), (none, 0, number, form, far, number), (far, 1, 1, form, none, 0), (self.bc6(), 1, 1, form, 100, number),
                                   (none, 1 << 32, 1 << 32, form, none, 0), ((None, 16), (1 << 32) + 1, (1 << 32) - 1, form, none, 0)):
                         call(name, *given)
-                for name in ("knot_dds_write", "knot_pfm_write"):
+                for name in ("knot_dds_write", "knot_pfm_write", "knot_exr_write"):
                     call(name, far, form, 4, 4, none)
             for name in ("knot_write_block", "knot_fields_pixels", "knot_bc7_pixels", "knot_bc7_blocks_pixels"):
                 call(name, far, none)
@@ -228,6 +228,10 @@ class Vectors:
             call("knot_probe_check", far, 2)
             call("knot_probe_pixel", far, 2, 0, 0, 0)
             call("knot_probe_face", far, 2, 0, none)
+            call("knot_put_place", far, 0, 0, 0, 0, none)
+            call("knot_put_place", bytes(96), number, 0, 0, 0, 96)
+            call("knot_probe_open", far, 2, none)
+            call("knot_probe_pixel_in", far, none, 2, 0, 0, 0)
             call("knot_probe_edge", far)
             call("knot_probe_build", far, 0, 2, 0, none)
             call("knot_probe_build", none, 0, 2, 0, far)
@@ -279,6 +283,8 @@ class Vectors:
     def over_placed(self, store):
         count = len(store) // PLACED
         self.call("knot_unplace_store", store, RECORD * count + self.some(0, 0, 4))
+        for n in range(min(count + 1, 4)):
+            self.call("knot_put_place", store, n, self.some(0, 5, 6, 255), self.some(0, 0, self.chance.getrandbits(16)), self.some(0, 0, self.chance.getrandbits(16)), max(0, len(store) + self.some(0, 0, 4, -1)))
         for n in range(min(count + 1, 8)):
             self.call("knot_placed_record_at", store, n)
             self.call("knot_placed_record_block", store, n)
@@ -330,6 +336,11 @@ class Vectors:
             for _ in range(6):
                 call("knot_probe_pixel", store, asked, self.chance.randrange(6), self.chance.randrange(4 * edge + self.now_and_then(0.1)), self.chance.randrange(4 * edge + self.now_and_then(0.1)))
             call("knot_probe_pixel", store, asked, 1 << 31, 0, 0)
+            _, (table,) = call("knot_probe_open", store, asked, 1536 + self.some(0, 0, 0, 4, -1))
+            if self.now_and_then(0.3):
+                table = struct.pack("<1536H", *(self.some(0, self.chance.randrange(len(records) + 3), 65535) for _ in range(1536)))
+            for _ in range(6):
+                call("knot_probe_pixel_in", store, table, asked, self.chance.randrange(6), self.chance.randrange(4 * edge + self.now_and_then(0.1)), self.chance.randrange(4 * edge + self.now_and_then(0.1)))
             call("knot_probe_edge", store)
             blocks = b"".join(self.bc6() for _ in range(6 * edge * edge)) + b"x" * self.now_and_then(0.1)
             room = max(0, PLACED * 6 * edge * edge + self.some(0, 0, 0, 4, -1))
@@ -346,7 +357,7 @@ class Vectors:
             word, outs = call("knot_dds_write", data, form, wide, high, max(0, 148 + len(data) + self.some(0, 0, 5, -1)))
             file = outs[0][:word >> 8] if not word & 255 else self.chance.randbytes(self.some(0, 10, 148, 164))
             for _ in range(3):
-                for name in ("knot_dds_head", "knot_dds_read", "knot_dds_blocks"):
+                for name in ("knot_dds_head", *(f"knot_{which}" for which in ("dds_read", "dds_blocks", "bc7_dds_read", "bc7_dds_blocks", "dds_first_level", "dds_first_blocks", "bc7_dds_first_level", "bc7_dds_first_blocks"))):
                     call(name, file)
                 if file:
                     changed = bytearray(file)
@@ -355,6 +366,9 @@ class Vectors:
             length, _ = call("knot_pfm_length", wide, high)
             call("knot_pfm_length", self.chance.getrandbits(32), 4)
             call("knot_pfm_write", data, form, wide, high, max(0, (length or 40) + self.some(0, 0, 5, -1)))
+            length, _ = call("knot_exr_length", wide, high)
+            call("knot_exr_length", self.chance.getrandbits(32), 4)
+            call("knot_exr_write", data, form, wide, high, max(0, (length or 40) + self.some(0, 0, 5, -1)))
         # a picture of a thousand pixels a side, whose result grows the memory
         data = b"".join(self.bc6() for _ in range(1024)) * 64
         call("knot_face_rgba", data, 256, 256, 1, 4096 * 1024, 4096)
@@ -369,7 +383,7 @@ class Vectors:
             store, probe = self.store(self.chance.randrange(20), self.some(0, 0.2)), b"".join(self.probe(self.some(1, 2)))
             inputs = {
                 "block": [self.bc6(), self.bc7()], "numbers": [struct.pack("<32H", 0, 11, *[0] * 30)], "blocks": [self.bc6() * self.chance.randrange(9)],
-                "store": [store, probe], "old": [store], "file": [(ROOT / "samples/five.dds").read_bytes()],
+                "store": [store, probe], "old": [store], "table": [struct.pack("<1536H", *range(1536))], "file": [(ROOT / "samples/five.dds").read_bytes()],
             }
             for name, described in call.calls.items():
                 given = []

@@ -72,8 +72,26 @@ for (const signed of [false, true]) {
       assert.ok(Object.is(half(values[from]), numbers[from]));
     }
   });
+  const exr = knot.exrWrite(blocks, signed, 4 * SIDE, 4 * SIDE), lines = new DataView(exr.buffer, exr.byteOffset);
+  check("exr", () => {
+    assert.equal(exr.length, knot.exrLength(4 * SIDE, 4 * SIDE));
+    for (let y = 0; y < 4 * SIDE; y++) for (let x = 0; x < 4 * SIDE; x++) for (let c = 0; c < 3; c++)
+      assert.equal(lines.getUint16(Number(lines.getBigUint64(313 + 8 * y, true)) + 8 + 2 * ((2 - c) * 4 * SIDE + x), true), face.values[3 * (4 * SIDE * y + x) + c]);
+  });
   const file = knot.ddsWrite(blocks, signed, 4 * SIDE, 4 * SIDE - 1), read = knot.ddsRead(file);
   check("dds", () => { same(read.blocks, blocks); assert.deepEqual([read.width, read.height, read.format], [4 * SIDE, 4 * SIDE - 1, Number(signed)]); });
+  check("levels", () => {
+    const four = knot.ddsWrite(blocks.subarray(0, 16), signed, 4, 4), two = Uint8Array.from([...four, ...blocks.subarray(16, 32)]);
+    for (const [first, reading, single] of [[95, (one) => knot.ddsFirstLevel(one), (one) => knot.ddsRead(one)], [98, (one) => knot.bc7DdsFirstLevel(one), (one) => knot.bc7DdsRead(one)]]) {
+      four[128] = two[128] = first + Number(signed);
+      two[28] = 2;
+      for (const { blocks: part, ...told } of [single(four), reading(four), reading(two)]) {
+        same(part, blocks.subarray(0, 16));
+        assert.deepEqual(told, { width: 4, height: 4, format: Number(signed) });
+      }
+      assert.throws(() => single(two), { number: 13 });
+    }
+  });
   check("dds head", () => assert.deepEqual(knot.ddsHead(file.subarray(0, 148)), { width: 4 * SIDE, height: 4 * SIDE - 1, format: Number(signed) }));
 }
 const sevens = knot.decodeBc7(blocks), sevenModes = knot.modesBc7(blocks);
@@ -117,9 +135,17 @@ check("moves", () => same(knot.unplace(knot.place(covered)), covered));
 check("placed", () => assert.deepEqual([0, 3].map((n) => { const { block: _, ...rest } = knot.placedRecord(placed, n); return rest; }), [{ tile: 81, format: 0, face: 0, column: 0, row: 0 }, { tile: 84, format: 0, face: null, column: 0, row: 0 }]));
 check("trusted", () => assert.equal(knot.trusted(covered.subarray(8, 24), false), true));
 check("a probe", () => knot.probeCheck(small, 2));
+const opened = knot.probeOpen(small, 2);
+check("a table", () => assert.deepEqual([opened.length, [...opened].filter((holder) => holder).sort((a, b) => a - b)], [1536, Array.from({ length: 24 }, (_, n) => n + 1)]));
+check("a place", () => {
+  const put = knot.putPlace(placed, 3, 5, 258, 3), { face, column, row } = knot.placedRecord(put, 3);
+  assert.deepEqual([face, column, row], [5, 258, 3]);
+  same(knot.putPlace(put, 3, null), placed);
+});
 for (let face = 0; face < 6; face++) {
   const values = knot.probeFace(small, 2, face);
   for (let k = 0; k < 64; k++) check("probe", () => same(knot.probePixel(small, 2, face, k % 8, k >> 3), values.subarray(3 * k, 3 * k + 3)));
+  for (let k = 0; k < 64; k++) check("an open probe", () => same(knot.probePixelIn(small, opened, 2, face, k % 8, k >> 3), values.subarray(3 * k, 3 * k + 3)));
 }
 check("edges", () => assert.deepEqual([small, small.subarray(1), new Uint8Array(0), new Uint8Array(192)].map((store) => knot.probeEdge(store)), [2, 0, 0, 1]));
 check("a built probe", () => {
@@ -152,6 +178,13 @@ refused(8, () => knot.record(covered, 2n ** 32n));
 refused(8, () => knot.record(covered, 2n ** 64n - 1n));
 refused(12, () => knot.strictTwins(sample("apart.store")), 0);
 refused(16, () => knot.pfmWrite(blocks, 0, 4 * SIDE - 2, 4 * SIDE));
+refused(16, () => knot.exrWrite(blocks, 0, 4 * SIDE - 2, 4 * SIDE));
+refused(17, () => knot.putPlace(placed, 3, 6));
+refused(8, () => knot.putPlace(placed, 2n ** 32n, 0));
+refused(23, () => knot.probeOpen(small, 3));
+refused(20, () => knot.probeOpen(sample("unplaced.places"), 1), 0);
+refused(3, () => knot.probePixelIn(small, opened.subarray(1), 2, 0, 0, 0));
+refused(8, () => knot.probePixelIn(small.subarray(0, 32), opened.map(() => 2), 2, 0, 0, 0));
 refused(19, () => knot.probeCheck(small, 17));
 refused(20, () => knot.probeCheck(sample("unplaced.places"), 1), 0);
 refused(20, () => knot.probePixel(sample("unplaced.places"), 1, 0, 0, 0), 0);
@@ -160,7 +193,7 @@ refused(15, () => knot.probeBuild(blocks.subarray(1), 0, 1));
 refused(24, () => knot.probeFace(small, 2, 6));
 for (const call of [() => knot.decode(blocks, 256), () => knot.decode(blocks, -1), () => knot.modes(blocks, 256), () => knot.record(covered, 1.5), () => knot.record(covered, 2n ** 64n), () => knot.record(covered, -1),
   () => knot.probeCheck(small, 2 ** 32), () => knot.probePixel(small, 2, 0, 2n ** 32n, 0), () => knot.ddsWrite(blocks, false, 2 ** 32 + 4, 4), () => knot.write({ ...knot.fields(block(1), false), partition: 65536 })]) throws(RangeError, call);
-for (const call of [() => knot.decode("blocks", 0), () => knot.decode([1, 2], 0), () => knot.show(new Uint16Array(8), 0), () => knot.decode(blocks, "signed"), () => knot.record(covered), () => knot.twins(null)]) throws(TypeError, call);
+for (const call of [() => knot.decode("blocks", 0), () => knot.decode([1, 2], 0), () => knot.show(new Uint16Array(8), 0), () => knot.decode(blocks, "signed"), () => knot.probePixelIn(small, [...opened], 2, 0, 0, 0), () => knot.record(covered), () => knot.twins(null)]) throws(TypeError, call);
 
 // ---- an instance that trapped, or that grew, is thrown away
 

@@ -3,7 +3,7 @@ use mathlib.Core.Path.{_≡_, refl, sym, ap, _∙_}
 use mathlib.Core.Bool.{Bool}
 use mathlib.Core.List.{List, _++_}
 use Prim.Native.Nat.{ℕ, zero, suc}
-use lib.ListN.{length, take, drop}
+use lib.ListN.{length, getD, take, drop}
 use lib.Seq.{take-at, drop-at}
 use Rattle.bcn_spec.specs.Answers.{done}
 use Rattle.bc6h_spec.specs.Picture.{isSigned, valueCount}
@@ -36,12 +36,17 @@ use Rattle.store_theorems.proofs.Orders as orders
 use Rattle.bc6_writer.proofs.Undone as fields
 use Rattle.dds.proofs.Back as dds
 use Rattle.probe_moves.proofs.Calls as moves
+use Rattle.probe_put.proofs.Putting as put
 use Rattle.pfm_floats.proofs.Exact as floats
 use Rattle.pfm.proofs.Places as pfm
+use Rattle.exr.specs.File.{patternAt}
+use Rattle.exr.proofs.Places as exr
 use Rattle.probe.proofs.Orders as probe
+use Rattle.probe_places.specs.Places.{placeIn}
+use Rattle.probe_open.proofs.Asking as opening
 use Rattle.probe_build.proofs.Shown as build
 use Rattle.demands.specs.Named.{Named, NamedBlocks}
-use Rattle.demands.specs.Demands.{Demand2, BlockByBlock, Bc7ByBlock, Demand3, WiderDemand3, CleanUp, BlockAgain, RecordAgain, FileAgain, OldAgain, NewAgain, FloatExact, PixelWritten, AnyOrder, ProbeBuilt}
+use Rattle.demands.specs.Demands.{Demand2, BlockByBlock, Bc7ByBlock, Demand3, WiderDemand3, CleanUp, BlockAgain, RecordAgain, FileAgain, OldAgain, NewAgain, FloatExact, PixelWritten, PatternWritten, PlaceAlone, OpenedOnce, AnyOrder, ProbeBuilt}
 
 -- what `block_pixels` leaves of a block where it is done
 module _ {block : List ℕ} {format : ℕ} {lent after : List ℕ} {r : Pixels} (p : Painted block format lent r after) where
@@ -134,6 +139,21 @@ float-exact = floats.float-exact
 
 pub pixel-written : PixelWritten
 pixel-written blocks format width height lent after r p z x y hx hy = pfm.pixel-written p z x y hx hy
+
+pub pattern-written : PatternWritten
+unfolding patternAt
+pattern-written blocks format width height lent after r p z x y channel hx hy hc = exr.pixel-written p z x y channel hx hy hc
+
+pub place-alone : PlaceAlone
+place-alone store n p lent after r hc hr d z =
+    let front = put.put-front store n p d z in
+    let k = put.put-known store n p d z in (
+      ap (λ (s : List ℕ). placeIn s n) front ∙ put.place-is store n p (k .inside) hc hr,
+      λ j h. ap (λ (s : List ℕ). getD s j 0) front ∙ put.others-stay store n p j h,
+    )
+
+pub opened-once : OpenedOnce
+opened-once store edge lent table opened d z face x y r q t a = opening.opened-same d z face x y t .answers ∙ sym (a .answers)
 
 pub any-order : AnyOrder
 any-order store other o edge face x y r q a b z = probe.done-ordered o a b z

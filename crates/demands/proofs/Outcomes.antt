@@ -18,4 +18,5 @@ one-outcome = record {
   probe-edge = λ store. same _;
   write-refusal = λ size format width height room. same _;
   pfm-length = λ width height. same _;
+  exr-length = λ width height. same _;
 }

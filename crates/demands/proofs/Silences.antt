@@ -2,7 +2,7 @@
 use mathlib.Core.Path.{_≡_, refl, ap, ap₂, _∙_}
 use mathlib.Core.Bool.{Bool, true, false}
 use mathlib.Core.List.{List, [], _∷_}
-use Prim.Native.Nat.{ℕ, zero, suc}
+use Prim.Native.Nat.{ℕ, zero, suc, _+_, _*_, _%_}
 use lib.ListN.{length, getD, replicate}
 use Rattle.laws.specs.Made.{made}
 use Rattle.laws.specs.Checks.{leftBy}
@@ -38,10 +38,12 @@ use Rattle.probe_places.specs.Places.{placesIn}
 use Rattle.probe_places.specs.Readings as placed
 use Rattle.probe_moves.specs.declared.Moved.{Moved}
 use Rattle.probe_moves.specs.Moves as moves
+use Rattle.probe_put.specs.Put as put
 use Rattle.probe_places.specs.declared.Fault.{Fault}
 use Rattle.probe.specs.declared.ProbePixel.{ProbePixel}
 use Rattle.probe.specs.Probe as probe
 use Rattle.probe_faces.specs.Face as faces
+use Rattle.probe_open.specs.Open as table
 use Rattle.probe_build.specs.declared.Built.{Built}
 use Rattle.probe_build.specs.Building as building
 use Rattle.dds.specs.declared.DdsRead.{DdsRead}
@@ -49,6 +51,8 @@ use Rattle.dds.specs.declared.DdsWritten.{DdsWritten}
 use Rattle.dds.specs.Dds as dds
 use Rattle.pfm.specs.declared.PfmWritten.{PfmWritten}
 use Rattle.pfm.specs.File as pfm
+use Rattle.exr.specs.declared.ExrWritten.{ExrWritten}
+use Rattle.exr.specs.File as exr
 use Rattle.demands.specs.Silence.{Silent, Demand1}
 
 -- all numbers of a list are zero
@@ -105,9 +109,17 @@ probed zero faulty question triple e =
     silent-none (λ k. probe.probedAt 0 faulty k triple) (λ r. r .answer) probe.tripleIn refl (λ n. zeros 3) question e
 probed (suc n) faulty question triple e = record { zeros = λ no k. ap (λ (x : ProbePixel). getD (probe.tripleIn x) k 0) e ∙ zeros 3 k; unchanged = λ no. refl }
 
-dds-number : (n : ℕ) (file : List ℕ) → dds.readAt n file .answer ≡ n
-dds-number zero file = refl
-dds-number (suc n) file = refl
+-- what was read of a DDS file, of the two formats from `first` on, and a part of the file
+dds-number : (first n : ℕ) (file : List ℕ) → dds.readAs first n file .answer ≡ n
+dds-number first zero file = refl
+dds-number first (suc n) file = refl
+
+dds-told : (first : ℕ) (file : List ℕ) (n : ℕ) {r : DdsRead} → r ≡ dds.readAs first n file → Silent (r .answer) (r .width ∷ r .height ∷ r .format ∷ []) [] []
+dds-told first file = silent-none (λ n. dds.readAs first n file) (λ r. r .answer) (λ r. r .width ∷ r .height ∷ r .format ∷ []) refl (λ n. zeros 3)
+
+dds-part : (first : ℕ) (file : List ℕ) (part : ℕ → List ℕ) → ((n : ℕ) → part (suc n) ≡ []) → (n : ℕ) {r : DdsRead} {p : List ℕ} → r ≡ dds.readAs first n file
+    → p ≡ part n → Silent (r .answer) p [] []
+dds-part first file part none n d e = silent-values part none n (ap (λ (r : DdsRead). r .answer) d ∙ dds-number first n file) e
 
 moved : (fault : Fault) (count : ℕ) (store lent : List ℕ) {r : Moved} {after : List ℕ} → moves.MovedTo fault count store lent r after
     → Silent (r .answer) (r .records ∷ []) (lent ∷ []) (after ∷ [])
@@ -167,27 +179,38 @@ demand1 = record {
   placed-record-block = λ s n. silent-values (λ k. placed.placedPart k s n) (λ k. refl) (placed.placedRefusal s n) refl refl;
   place-store = λ s {o} p. moved (moves.placingFault s (length o)) (records.recordsIn s) (moves.placedStore s) o p;
   unplace-store = λ s {o} p. moved (moves.unplacingFault s (length o)) (placesIn s) (moves.oldStore s) o p;
+  put-place = λ s n p {o} d. moved (put.puttingFault s n p (length o)) (placesIn s) (put.putStore s n p) o d;
   probe-pixel = λ {s} {e} {f} {x} {y} p.
       probed (probe.probeFault s e .answer) (probe.probeFault s e .faulty) (probe.questionRefusal e f x y) (probe.tripleFor s f x y) (p .answers);
   probe-check = λ s e p. record { zeros = λ no k. refl; unchanged = λ no. refl };
   probe-face = λ {s} {o} {a} {e} {f} p.
       silent-one (λ n. n) (λ r. r) (λ r. []) refl (λ n. zeros 0) (λ n. leftBy n (faces.faceOf s e f) o) o (λ n. refl)
       (faces.faceFault s e f (length o) .answer) (ap (λ (r : Fault). r .answer) (p .answers)) (p .holds);
+  probe-open = λ p. record { zeros = λ no k. refl; unchanged = λ no. ap (λ (l : List ℕ). l ∷ []) (p .silent no) };
+  probe-pixel-in = λ {s} {t} {e} {f} {x} {y} p.
+      silent-none (λ n. table.tableShown n (probe.tripleAt s (table.predecessor (table.holderAt t f x y)) (4 * (y % 4) + x % 4))) (λ r. r .answer) probe.tripleIn
+      refl (λ n. zeros 3) (table.tableRefusal s t e f x y) (p .answers);
   probe-build = λ {b} {o} {a} {f} {e} {t} p.
       silent-one (λ n. building.builtAt n (building.recordCount e)) (λ r. r .answer) (λ r. r .records ∷ []) refl (λ n. zeros 1)
       (λ n. leftBy n (building.builtOf b f e t) o) o (λ n. refl) (building.buildRefusal (length b) f e (length o)) (p .answers) (p .holds);
-  dds-head = λ {f} p.
-      silent-none (λ n. dds.readAt n f) (λ r. r .answer) (λ r. r .width ∷ r .height ∷ r .format ∷ []) refl (λ n. zeros 3) (dds.headRefusal f) (p .answers);
-  dds-read = λ {f} p.
-      silent-none (λ n. dds.readAt n f) (λ r. r .answer) (λ r. r .width ∷ r .height ∷ r .format ∷ []) refl (λ n. zeros 3) (dds.readRefusal f) (p .answers);
-  dds-blocks = λ {f} p q.
-      silent-values (λ k. dds.partAt k f) (λ k. refl) (dds.readRefusal f) (ap (λ (r : DdsRead). r .answer) (p .answers) ∙ dds-number (dds.readRefusal f) f) (q .gives);
+  dds-head = λ {f} p. dds-told dds.bc6hFirst f (dds.headRefusal f) (p .answers);
+  dds-read = λ {f} p. dds-told dds.bc6hFirst f (dds.readRefusal f) (p .answers);
+  dds-blocks = λ {f} p q. dds-part dds.bc6hFirst f (λ k. dds.partAt k f) (λ k. refl) (dds.readRefusal f) (p .answers) (q .gives);
+  bc7-dds-read = λ {f} p. dds-told dds.bc7First f (dds.readRefusalAs dds.bc7First f) (p .answers);
+  bc7-dds-blocks = λ {f} p q. dds-part dds.bc7First f (λ k. dds.partAt k f) (λ k. refl) (dds.readRefusalAs dds.bc7First f) (p .answers) (q .gives);
+  dds-first-level = λ {f} p. dds-told dds.bc6hFirst f (dds.firstRefusal dds.bc6hFirst f) (p .answers);
+  dds-first-blocks = λ {f} p q. dds-part dds.bc6hFirst f (λ k. dds.firstAt k f) (λ k. refl) (dds.firstRefusal dds.bc6hFirst f) (p .answers) (q .gives);
+  bc7-dds-first-level = λ {f} p. dds-told dds.bc7First f (dds.firstRefusal dds.bc7First f) (p .answers);
+  bc7-dds-first-blocks = λ {f} p q. dds-part dds.bc7First f (λ k. dds.firstAt k f) (λ k. refl) (dds.firstRefusal dds.bc7First f) (p .answers) (q .gives);
   dds-write = λ {b} {o} {a} {f} {w} {h} p.
       silent-one (λ n. dds.writtenAt n b) (λ r. r .answer) (λ r. r .length ∷ []) refl (λ n. zeros 1)
       (λ n. dds.leftAt n b f w h o) o (λ n. refl) (dds.writeRefusal (length b) f w h (length o)) (p .answers) (p .holds);
   pfm-write = λ {b} {o} {a} {f} {w} {h} p.
       silent-one (λ n. pfm.writtenAt n w h) (λ r. r .answer) (λ r. r .length ∷ []) refl (λ n. zeros 1)
       (λ n. pfm.leftAt n b f w h o) o (λ n. refl) (pfm.writeRefusal (length b) f w h (length o)) (p .answers) (p .holds);
+  exr-write = λ {b} {o} {a} {f} {w} {h} p.
+      silent-one (λ n. exr.writtenAt n w h) (λ r. r .answer) (λ r. r .bytes ∷ []) refl (λ n. zeros 1)
+      (λ n. exr.leftAt n b f w h o) o (λ n. refl) (exr.writeRefusal (length b) f w h (length o)) (p .answers) (p .holds);
   bc7-pixels = λ {b} {o} p.
       silent-one (λ n. bc7.answerAt n b) (λ r. r .answer) (λ r. r .mode ∷ []) refl (λ n. zeros 1)
       (λ n. bc7.bytesAt n b o) o (λ n. refl) (bc7.refusalOf (length b) (length o)) (p .answers) (p .holds);

@@ -4,7 +4,7 @@ use mathlib.Core.Logic.{_⊎_}
 use mathlib.Core.Bool.{false}
 use mathlib.Core.List.{List}
 use Prim.Native.Nat.{ℕ, _+_, _-_, _*_, _/_, _%_, _≤_, _<_}
-use lib.ListN.{length, take, drop}
+use lib.ListN.{length, getD, take, drop}
 use Rattle.laws.specs.Order.{Reordered}
 use Rattle.bc6h_spec.specs.declared.Fields.{Fields}
 use Rattle.bcn_spec.specs.Answers.{done}
@@ -32,11 +32,15 @@ use Rattle.store_restore.specs.Theorems.{Undone, Taken, NoTileLost}
 use Rattle.store_theorems.specs.Pictures.{EveryPictureShown, FaultyStay}
 use Rattle.store_theorems.specs.Growing.{Appended, Nightly}
 use Rattle.store_theorems.specs.Orders.{AlikeIsEquivalence, SameKept}
-use Rattle.probe_places.specs.Places.{placeSize, placesIn}
+use Rattle.probe_places.specs.declared.Fault.{Fault}
+use Rattle.probe_places.specs.declared.Place.{Place}
+use Rattle.probe_places.specs.Places.{placeSize, placesIn, placeIn}
 use Rattle.probe_moves.specs.declared.Moved.{Moved}
 use Rattle.probe_moves.specs.Moves.{PlacedStore, UnplacedStore}
+use Rattle.probe_put.specs.Put.{PlacePut}
 use Rattle.probe.specs.declared.ProbePixel.{ProbePixel}
 use Rattle.probe.specs.Probe.{tripleIn, Asked}
+use Rattle.probe_open.specs.Open.{Opened, TablePixel}
 use Rattle.probe_build.specs.Pictures.{BuildShows}
 use Rattle.dds.specs.declared.DdsRead.{DdsRead}
 use Rattle.dds.specs.declared.DdsWritten.{DdsWritten}
@@ -45,6 +49,9 @@ use Rattle.pfm_floats.specs.Half.{isNegative, exponentOf, halfValue, Is24ths, f
 use Rattle.pfm_header.specs.Header.{headerLength}
 use Rattle.pfm.specs.declared.PfmWritten.{PfmWritten}
 use Rattle.pfm.specs.File.{pixelBytes, PictureWritten}
+use Rattle.exr_header.specs.Header.{lowFirst, lineStart}
+use Rattle.exr.specs.declared.ExrWritten.{ExrWritten}
+use Rattle.exr.specs.File as exr
 
 -- ---- demand 2
 
@@ -137,6 +144,25 @@ PixelWritten = (blocks : List ℕ) (format width height : ℕ) (lent after : Lis
     → (x y : ℕ) → x < width → y < height
     → take 12 (drop (headerLength width height + 12 * ((height - 1 - y) * width + x)) (take (r .length) after))
     ≡ pixelBytes (pixelsOf (isSigned format) (blockAt blocks (y / 4 * (width / 4) + x / 4))) (4 * (y % 4) + x % 4)
+
+-- S-92: channel c, 0 red to 2 blue, of pixel (x, y) of the OpenEXR file is its block's pattern.
+abbrev pub PatternWritten : Type 0
+PatternWritten = (blocks : List ℕ) (format width height : ℕ) (lent after : List ℕ) (r : ExrWritten) → exr.PictureWritten blocks format width height lent r after → r .answer ≡ done
+    → (x y channel : ℕ) → x < width → y < height → channel < 3
+    → take 2 (drop (lineStart width height y + (8 + 2 * ((2 - channel) * width + x))) (take (r .bytes) after))
+    ≡ lowFirst 2 (getD (pixelsOf (isSigned format) (blockAt blocks (y / 4 * (width / 4) + x / 4))) (3 * (4 * (y % 4) + x % 4) + channel) 0)
+
+-- S-91: the record has the place that was put, and every byte but the five of its place stays.
+abbrev pub PlaceAlone : Type 0
+PlaceAlone = (store : List ℕ) (n : ℕ) (p : Place) (lent after : List ℕ) (r : Moved) → p .column < 65536 → p .row < 65536
+    → PlacePut store n p lent r after → r .answer ≡ done
+    → (placeIn (take (length store) after) n ≡ p)
+    × ((j : ℕ) → (j < n * placeSize + 5) ⊎ (n * placeSize + 10 ≤ j) → getD (take (length store) after) j 0 ≡ getD store j 0)
+
+-- S-93: by the table that opening a probe left, `probe_pixel_in` answers what `probe_pixel` does.
+abbrev pub OpenedOnce : Type 0
+OpenedOnce = (store : List ℕ) (edge : ℕ) (lent table : List ℕ) (opened : Fault) → Opened store edge lent opened table → opened .answer ≡ done
+    → (face x y : ℕ) (r q : ProbePixel) → TablePixel store table edge face x y r → Asked store edge face x y q → r ≡ q
 
 -- S-57: a probe answers every question the same in every order of its records.
 abbrev pub AnyOrder : Type 0

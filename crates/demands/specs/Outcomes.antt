@@ -14,6 +14,7 @@ use Rattle.probe.specs.Probe.{probeFault}
 use Rattle.probe_build.specs.Edges.{edgeOf}
 use Rattle.dds.specs.Dds.{writeRefusal}
 use Rattle.pfm.specs.File.{lengthOf}
+use Rattle.exr.specs.File as exr
 
 -- Two answers that both are the definition's value are one.
 abbrev pub OneAnswer : {A : Type 0} → A → Type 0
@@ -32,3 +33,4 @@ pub record OneOutcome : Type 0 where
   pub probe-edge : (store : List ℕ) → OneAnswer (edgeOf (length store))
   pub write-refusal : (size format width height room : ℕ) → OneAnswer (writeRefusal size format width height room)
   pub pfm-length : (width height : ℕ) → OneAnswer (lengthOf width height)
+  pub exr-length : (width height : ℕ) → OneAnswer (exr.lengthOf width height)

@@ -33,20 +33,25 @@ use Rattle.store_receipt.specs.Receipt.{ReceiptInto}
 use Rattle.store_restore.specs.declared.Restored.{Restored}
 use Rattle.store_restore.specs.Restore.{RestoredInto}
 use Rattle.probe_places.specs.declared.Fault.{Fault}
+use Rattle.probe_places.specs.declared.Place.{Place}
 use Rattle.probe_places.specs.declared.PlacedReading.{PlacedReading}
 use Rattle.probe_places.specs.Readings as placed
 use Rattle.probe_moves.specs.declared.Moved.{Moved}
 use Rattle.probe_moves.specs.Moves.{PlacedStore, UnplacedStore}
+use Rattle.probe_put.specs.Put.{PlacePut}
 use Rattle.probe.specs.declared.ProbePixel.{ProbePixel}
 use Rattle.probe.specs.Probe.{Asked, probeFault, tripleIn}
 use Rattle.probe_faces.specs.Face as faces
+use Rattle.probe_open.specs.Open.{Opened, TablePixel}
 use Rattle.probe_build.specs.declared.Built.{Built}
 use Rattle.probe_build.specs.Building.{BuiltTo}
 use Rattle.dds.specs.declared.DdsRead.{DdsRead}
 use Rattle.dds.specs.declared.DdsWritten.{DdsWritten}
-use Rattle.dds.specs.Dds.{HeadRead, FileRead, BlocksRead, FileWritten}
+use Rattle.dds.specs.Dds.{bc6hFirst, bc7First, HeadRead, FileRead, FileReadAs, FirstRead, BlocksRead, BlocksReadAs, FirstBlocks, FileWritten}
 use Rattle.pfm.specs.declared.PfmWritten.{PfmWritten}
 use Rattle.pfm.specs.File.{PictureWritten}
+use Rattle.exr.specs.declared.ExrWritten.{ExrWritten}
+use Rattle.exr.specs.File as exr
 
 -- S-1: unless the call is done, each of its counts is zero and each lent place is as it was.
 pub record Silent (number : ℕ) (counts : List ℕ) (lent after : List (List ℕ)) : Type 0 where
@@ -74,14 +79,24 @@ pub record Demand1 : Type 0 where
   pub placed-record-block : (s : List ℕ) (n : ℕ) → Silent (placed.placedRefusal s n) (placed.placedPart (placed.placedRefusal s n) s n) [] []
   pub place-store : (s : List ℕ) {o a : List ℕ} {r : Moved} → PlacedStore s o r a → Silent (r .answer) (r .records ∷ []) (o ∷ []) (a ∷ [])
   pub unplace-store : (s : List ℕ) {o a : List ℕ} {r : Moved} → UnplacedStore s o r a → Silent (r .answer) (r .records ∷ []) (o ∷ []) (a ∷ [])
+  pub put-place : (s : List ℕ) (n : ℕ) (p : Place) {o a : List ℕ} {r : Moved} → PlacePut s n p o r a → Silent (r .answer) (r .records ∷ []) (o ∷ []) (a ∷ [])
   pub probe-pixel : {s : List ℕ} {e f x y : ℕ} {r : ProbePixel} → Asked s e f x y r → Silent (r .answer) (tripleIn r) [] []
   pub probe-check : (s : List ℕ) (e : ℕ) {r : Fault} → r ≡ probeFault s e → Silent (r .answer) [] [] []
   pub probe-face : {s o a : List ℕ} {e f : ℕ} {r : Fault} → faces.FacePainted s e f o r a → Silent (r .answer) [] (o ∷ []) (a ∷ [])
+  pub probe-open : {s o a : List ℕ} {e : ℕ} {r : Fault} → Opened s e o r a → Silent (r .answer) [] (o ∷ []) (a ∷ [])
+  pub probe-pixel-in : {s t : List ℕ} {e f x y : ℕ} {r : ProbePixel} → TablePixel s t e f x y r → Silent (r .answer) (tripleIn r) [] []
   pub probe-build : {b o a : List ℕ} {f e t : ℕ} {r : Built} → BuiltTo b f e t o r a → Silent (r .answer) (r .records ∷ []) (o ∷ []) (a ∷ [])
   pub dds-head : {f : List ℕ} {r : DdsRead} → HeadRead f r → Silent (r .answer) (r .width ∷ r .height ∷ r .format ∷ []) [] []
   pub dds-read : {f : List ℕ} {r : DdsRead} → FileRead f r → Silent (r .answer) (r .width ∷ r .height ∷ r .format ∷ []) [] []
   pub dds-blocks : {f p : List ℕ} {r : DdsRead} → FileRead f r → BlocksRead f p → Silent (r .answer) p [] []
+  pub bc7-dds-read : {f : List ℕ} {r : DdsRead} → FileReadAs bc7First f r → Silent (r .answer) (r .width ∷ r .height ∷ r .format ∷ []) [] []
+  pub bc7-dds-blocks : {f p : List ℕ} {r : DdsRead} → FileReadAs bc7First f r → BlocksReadAs bc7First f p → Silent (r .answer) p [] []
+  pub dds-first-level : {f : List ℕ} {r : DdsRead} → FirstRead bc6hFirst f r → Silent (r .answer) (r .width ∷ r .height ∷ r .format ∷ []) [] []
+  pub dds-first-blocks : {f p : List ℕ} {r : DdsRead} → FirstRead bc6hFirst f r → FirstBlocks bc6hFirst f p → Silent (r .answer) p [] []
+  pub bc7-dds-first-level : {f : List ℕ} {r : DdsRead} → FirstRead bc7First f r → Silent (r .answer) (r .width ∷ r .height ∷ r .format ∷ []) [] []
+  pub bc7-dds-first-blocks : {f p : List ℕ} {r : DdsRead} → FirstRead bc7First f r → FirstBlocks bc7First f p → Silent (r .answer) p [] []
   pub dds-write : {b o a : List ℕ} {f w h : ℕ} {r : DdsWritten} → FileWritten b f w h o r a → Silent (r .answer) (r .length ∷ []) (o ∷ []) (a ∷ [])
   pub pfm-write : {b o a : List ℕ} {f w h : ℕ} {r : PfmWritten} → PictureWritten b f w h o r a → Silent (r .answer) (r .length ∷ []) (o ∷ []) (a ∷ [])
+  pub exr-write : {b o a : List ℕ} {f w h : ℕ} {r : ExrWritten} → exr.PictureWritten b f w h o r a → Silent (r .answer) (r .bytes ∷ []) (o ∷ []) (a ∷ [])
   pub bc7-pixels : {b o a : List ℕ} {r : Bc7Pixels} → bc7.Painted b o r a → Silent (r .answer) (r .mode ∷ []) (o ∷ []) (a ∷ [])
   pub bc7-blocks-pixels : {b o a : List ℕ} {r : Bc7BlocksPixels} → bc7-run.RunPainted b o r a → Silent (r .answer) (r .blocks ∷ []) (o ∷ []) (a ∷ [])

@@ -8,6 +8,7 @@ use lib.ListN.{length}
 use borrow.Author.Tests.{eqb-true, eqb-false}
 use Rattle.laws.proofs.Tests.{cases}
 use Rattle.bcn_spec.specs.Answers.{done}
+use Rattle.store_records.specs.Store.{mostRecords}
 use Rattle.store_clean.specs.declared.Cleaned.{Cleaned}
 use Rattle.store_clean.specs.Clean.{refusal, CleanedInto}
 use Rattle.store_clean.proofs.Cleaning as cleaning
@@ -25,10 +26,10 @@ module _ {store lent after : List ℕ} {r : Cleaned} (d : CleanedInto store lent
   pub clean-called : {word : ℕ} → word ≡ cleanWord r → CleanCalled store lent word after
   clean-called e = record { answers = e ∙ ap cleanWord (d .answers); holds = d .holds }
 
-  clean-done-few : r .answer ≡ done → r .kept + r .removed ≤ 2000
+  clean-done-few : r .answer ≡ done → r .kept + r .removed ≤ mostRecords
   clean-done-few z = let w = cleaning.whole d z in let c = cleaning.counts-add-up d z in omega arith
 
-  pub clean-few : r .kept + r .removed ≤ 2000
+  pub clean-few : r .kept + r .removed ≤ mostRecords
   clean-few =
       cases (eqb (r .answer) done) (λ z. clean-done-few (eqb-true _ _ z))
       (λ f. rw (cleaning.refused-alone d (eqb-false _ _ f)) (omega arith))
@@ -49,10 +50,10 @@ module _ {store lent paper after written : List ℕ} {r : Cleaned} (d : ReceiptI
   receipt-alone : (k : ℕ) → receiptRefusal (length store) (length lent) (length paper) ≡ suc k → r ≡ refusal (suc k)
   receipt-alone k q = rw q at (d .answers)
 
-  pub receipt-few : r .kept + r .removed ≤ 2000
+  pub receipt-few : r .kept + r .removed ≤ mostRecords
   receipt-few = go (receiptRefusal (length store) (length lent) (length paper)) refl
     where
-      go : (k : ℕ) → receiptRefusal (length store) (length lent) (length paper) ≡ k → r .kept + r .removed ≤ 2000
+      go : (k : ℕ) → receiptRefusal (length store) (length lent) (length paper) ≡ k → r .kept + r .removed ≤ mostRecords
       go zero q = let z : r .answer ≡ done = telling.answer-number d ∙ q in clean-done-few (telling.as-cleaned d z) z
       go (suc k) q = rw (receipt-alone k q) (omega arith)
 
@@ -69,10 +70,10 @@ module _ {cleaned receipt lent after : List ℕ} {r : Restored} (d : RestoredInt
   restore-alone : (k : ℕ) → restoreRefusal cleaned receipt (length lent) ≡ suc k → r ≡ record { answer = suc k; records = 0 }
   restore-alone k q = rw q at (d .answers)
 
-  pub restored-few : r .records ≤ 2000
+  pub restored-few : r .records ≤ mostRecords
   restored-few = go (restoreRefusal cleaned receipt (length lent)) refl
     where
-      go : (k : ℕ) → restoreRefusal cleaned receipt (length lent) ≡ k → r .records ≤ 2000
+      go : (k : ℕ) → restoreRefusal cleaned receipt (length lent) ≡ k → r .records ≤ mostRecords
       go zero q = rw (restoring.all-restored d q) (restorable cleaned receipt (length lent) q .few)
       go (suc k) q = rw (restore-alone k q) (omega arith)
 

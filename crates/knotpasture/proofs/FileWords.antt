@@ -1,15 +1,17 @@
--- The exports over DDS files and Portable Float Maps: each says of its word what the call says of its answer; one outcome for each. Assumes nothing.
+-- The exports over DDS files, Portable Float Maps and OpenEXR files: each says of its word what the call says of its answer; one outcome for each. Assumes nothing.
 use mathlib.Core.Path.{_≡_, refl, sym, ap, _∙_}
 use mathlib.Core.List.{List}
 use Prim.Native.Nat.{ℕ, zero, suc}
 use Rattle.bcn_spec.specs.Answers.{done}
 use Rattle.dds.specs.declared.DdsRead.{DdsRead}
 use Rattle.dds.specs.declared.DdsWritten.{DdsWritten}
-use Rattle.dds.specs.Dds.{headerSize, readRefusal, HeadRead, FileRead, FileWritten}
+use Rattle.dds.specs.Dds.{headerSize, HeadRead, FileRead, SizedReadAs, sizedRefusalAs, readAs, FileWritten}
 use Rattle.dds.proofs.Reading.{read-number}
 use Rattle.pfm.specs.declared.PfmWritten.{PfmWritten}
 use Rattle.pfm.specs.File.{PictureWritten}
-use Rattle.knotpasture.specs.Files.{readWord, HeadCalled, ReadCalled, startAt, BlocksCalled, ddsWord, DdsWriteCalled, pfmWord, PfmWriteCalled}
+use Rattle.exr.specs.declared.ExrWritten.{ExrWritten}
+use Rattle.exr.specs.File as exr
+use Rattle.knotpasture.specs.Files.{readWord, HeadCalled, ReadCalled, startAt, BlocksCalled, ddsWord, DdsWriteCalled, pfmWord, PfmWriteCalled, exrWord, ExrWriteCalled}
 
 -- ---- DDS files
 
@@ -19,15 +21,25 @@ head-called d e = record { answers = e ∙ ap readWord (d .answers) }
 pub read-called : {file : List ℕ} {r : DdsRead} {word : ℕ} → FileRead file r → word ≡ readWord r → ReadCalled file word
 read-called d e = record { answers = e ∙ ap readWord (d .answers) }
 
-pub blocks-refused : {file : List ℕ} {r : DdsRead} → FileRead file r → (r .answer ≡ done → ⊥) → BlocksCalled file 0
-blocks-refused {file} {r} d n = record { answers = go (readRefusal file) (read-number d) }
-  where
-    go : (k : ℕ) → r .answer ≡ k → 0 ≡ startAt k
-    go zero q = absurd (n q)
-    go (suc k) q = refl
+pub start-none : (number : ℕ) → (number ≡ done → ⊥) → 0 ≡ startAt number
+start-none zero n = absurd (n refl)
+start-none (suc number) n = refl
 
-pub blocks-start : {file : List ℕ} {r : DdsRead} → FileRead file r → r .answer ≡ done → BlocksCalled file headerSize
-blocks-start d z = record { answers = sym (ap startAt (sym (read-number d) ∙ z)) }
+pub start-some : (number : ℕ) → number ≡ done → headerSize ≡ startAt number
+start-some number z = rw z
+
+pub blocks-called : {file : List ℕ} {r : DdsRead} {start : ℕ} → FileRead file r → start ≡ startAt (r .answer) → BlocksCalled file start
+blocks-called d e = record { answers = e ∙ ap startAt (read-number d) }
+
+-- ---- of BC7 and with mip levels
+
+pub word-called : {first most : ℕ} {bytesOf : List ℕ → ℕ} {file : List ℕ} {size : ℕ} {r : DdsRead} {word : ℕ} → SizedReadAs first most bytesOf file size r → word ≡ readWord r
+    → word ≡ readWord (readAs first (sizedRefusalAs first most bytesOf file size) file)
+word-called d e = e ∙ ap readWord (d .answers)
+
+pub start-called : {first most : ℕ} {bytesOf : List ℕ → ℕ} {file : List ℕ} {size : ℕ} {r : DdsRead} {start : ℕ} → SizedReadAs first most bytesOf file size r
+    → start ≡ startAt (r .answer) → start ≡ startAt (sizedRefusalAs first most bytesOf file size)
+start-called d e = e ∙ ap startAt (read-number d)
 
 pub dds-written : {blocks : List ℕ} {format width height : ℕ} {out after : List ℕ} {r : DdsWritten} {word : ℕ} → FileWritten blocks format width height out r after
     → word ≡ ddsWord r → DdsWriteCalled blocks format width height out word after
@@ -55,3 +67,13 @@ pfm-written d e = record { answers = e ∙ ap pfmWord (d .answers); holds = d .h
 pub one-pfm : {blocks : List ℕ} {format width height : ℕ} {out a b : List ℕ} {r s : ℕ} → PfmWriteCalled blocks format width height out r a
     → PfmWriteCalled blocks format width height out s b → (r ≡ s) × (a ≡ b)
 one-pfm d e = (d .answers ∙ sym (e .answers), d .holds ∙ sym (e .holds))
+
+-- ---- OpenEXR files
+
+pub exr-written : {blocks : List ℕ} {format width height : ℕ} {out after : List ℕ} {r : ExrWritten} {word : ℕ} → exr.PictureWritten blocks format width height out r after
+    → word ≡ exrWord r → ExrWriteCalled blocks format width height out word after
+exr-written d e = record { answers = e ∙ ap exrWord (d .answers); holds = d .holds }
+
+pub one-exr : {blocks : List ℕ} {format width height : ℕ} {out a b : List ℕ} {r s : ℕ} → ExrWriteCalled blocks format width height out r a
+    → ExrWriteCalled blocks format width height out s b → (r ≡ s) × (a ≡ b)
+one-exr d e = (d .answers ∙ sym (e .answers), d .holds ∙ sym (e .holds))

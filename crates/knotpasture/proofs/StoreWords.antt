@@ -12,7 +12,7 @@ use Rattle.bcn_spec.specs.Bits.{blockSize}
 use Rattle.store_records.specs.declared.Record.{Record}
 use Rattle.store_records.specs.declared.RecordReading.{RecordReading}
 use Rattle.store_records.specs.declared.RecordReading.the-variants as reading
-use Rattle.store_records.specs.Store.{recordSize, headSize, storeLimit, tileOf, formatOf, blockOf, recordRefusal, Unrefused, Read, partAt}
+use Rattle.store_records.specs.Store.{recordSize, headSize, storeLimit, mostRecords, tileOf, formatOf, blockOf, recordRefusal, Unrefused, Read, partAt}
 use Rattle.store_records.proofs.Refusals.{known}
 use Rattle.store_records.proofs.Readings.{unrefused, refused}
 use Rattle.store_spec.specs.declared.TwinList.{TwinList}
@@ -70,7 +70,7 @@ offset-none store n {offset} e z u = let o : offset ≡ n * recordSize + headSiz
 
 -- ---- the twin lists
 
-pub no-counts : {number : ℕ} {list : TwinList} → list ≡ refusal number → list .kept + list .twins + list .bad ≤ 2000
+pub no-counts : {number : ℕ} {list : TwinList} → list ≡ refusal number → list .kept + list .twins + list .bad ≤ mostRecords
 no-counts e = rw e (omega arith)
 
 module _ {store lent after : List ℕ} {r : TwinList} (d : Listed store lent r after) where
@@ -78,10 +78,10 @@ module _ {store lent after : List ℕ} {r : TwinList} (d : Listed store lent r a
   twins-called e = record { answers = e ∙ ap twinsWord (d .answers); holds = d .holds }
 
   -- no count is above the number of records, 2,000
-  few-done : r .answer ≡ done → r .kept + r .twins + r .bad ≤ 2000
+  few-done : r .answer ≡ done → r .kept + r .twins + r .bad ≤ mostRecords
   few-done z = let w = whole d z in let c = counts-add-up d z in omega arith
 
-  pub few : r .kept + r .twins + r .bad ≤ 2000
+  pub few : r .kept + r .twins + r .bad ≤ mostRecords
   few =
       cases (eqb (r .answer) done) (λ z. few-done (eqb-true _ _ z)) (λ f. no-counts (refused-alone d (eqb-false _ _ f)))
 
@@ -89,7 +89,7 @@ module _ {store lent after : List ℕ} {r : TwinList} (d : StrictlyListed store 
   pub strict-called : {word : ℕ} → word ≡ twinsWord r → StrictCalled store lent word after
   strict-called e = record { answers = e ∙ ap twinsWord (d .answers); holds = d .holds }
 
-  pub strict-few : r .kept + r .twins + r .bad ≤ 2000
+  pub strict-few : r .kept + r .twins + r .bad ≤ mostRecords
   strict-few =
       cases (eqb (r .answer) done) (λ z. few (strict.list-is d (eqb-true _ _ z)))
       (λ f. no-counts (strict.refused-alone d (eqb-false _ _ f)))
@@ -111,7 +111,7 @@ module _ {store lent space after spaceAfter : List ℕ} {r : TwinList} (d : List
   pub twins-in-called : {word : ℕ} → word ≡ twinsWord r → TwinsInCalled store lent space word after spaceAfter
   twins-in-called e = record { answers = e ∙ ap twinsWord (d .answers); holds = d .holds; leaves = d .leaves }
 
-  pub few-in : r .kept + r .twins + r .bad ≤ 2000
+  pub few-in : r .kept + r .twins + r .bad ≤ mostRecords
   few-in =
       cases (eqb (r .answer) done) (λ z. few (list-is d (eqb-true _ _ z))) (λ f. no-counts (silent-in d (eqb-false _ _ f) .alone))
 

@@ -4,12 +4,13 @@ use store_receipt::clean_with_receipt;
 use store_restore::Restored;
 ghost use mathlib.Core.Path.{_≡_};
 ghost use Prim.Native.Nat.{_+_, _≤_};
+ghost use Rattle.store_records.specs.Store.{mostRecords};
 ghost use Rattle.store_clean.specs.Clean.{firstOf};
 ghost use Rattle.knotpasture.specs.Clean.{cleanWord, CleanCalled, ReceiptCalled, restoredWord, RestoreCalled};
 
 // The number and the counts of a clean-up.
 fn clean_word(cleaned: Cleaned) -> u64
-    requires { ⌜ cleaned .kept + cleaned .removed ≤ 2000 ⌝ }
+    requires { ⌜ cleaned .kept + cleaned .removed ≤ mostRecords ⌝ }
     ensures { λ r. ⌜ r ≡ cleanWord cleaned ⌝ }
 {
     (cleaned.answer as u64)
@@ -40,7 +41,7 @@ pub extern "C" fn knot_clean_with_receipt(store: &[u8], out: &mut [u8], receipt:
 
 // The number and the count of a way back.
 fn restored_word(restored: Restored) -> u64
-    requires { ⌜ restored .records ≤ 2000 ⌝ }
+    requires { ⌜ restored .records ≤ mostRecords ⌝ }
     ensures { λ r. ⌜ r ≡ restoredWord restored ⌝ }
 {
     (restored.answer as u64) + (restored.records as u64) * 0x10000

@@ -6,7 +6,7 @@ ghost use mathlib.Core.Path.{_≡_};
 ghost use Prim.Native.Nat.{_+_, _≤_};
 ghost use Rattle.store_copies.specs.Trust.{trusted};
 ghost use Rattle.store_covered.specs.CleanUp.{covered};
-ghost use Rattle.store_records.specs.Store.{recordRefusal, tileAt};
+ghost use Rattle.store_records.specs.Store.{mostRecords, recordRefusal, tileAt};
 ghost use Rattle.store_spec.specs.Twins.{firstTwin};
 ghost use Rattle.store_strict.specs.Strict.{firstDamaged};
 ghost use Rattle.knotpasture.specs.Store.{readingWord, offsetAt, twinsWord, TwinsCalled, StrictCalled, TwinsInCalled};
@@ -42,7 +42,7 @@ pub extern "C" fn knot_tile_at(store: &[u8], n: usize) -> u32
 
 // The number and the counts of a twin list.
 fn list_word(list: TwinList) -> u64
-    requires { ⌜ list .kept + list .twins + list .bad ≤ 2000 ⌝ }
+    requires { ⌜ list .kept + list .twins + list .bad ≤ mostRecords ⌝ }
     ensures { λ r. ⌜ r ≡ twinsWord list ⌝ }
 {
     (list.answer as u64)

@@ -52,6 +52,10 @@ abbrev pub predecessor : ℕ → ℕ
 predecessor zero = zero
 predecessor (suc n) = n
 
+abbrev pub tableAnswer : List ℕ → List ℕ → ℕ → ℕ → ℕ → ℕ → ProbePixel
+tableAnswer store table edge face x y =
+    tableShown (tableRefusal store table edge face x y) (tripleAt store (predecessor (holderAt table face x y)) (4 * (y % 4) + x % 4))
+
 -- The statement of `probe_pixel_in`.
 pub record TablePixel (store table : List ℕ) (edge face x y : ℕ) (r : ProbePixel) : Type 0 where
-  pub answers : r ≡ tableShown (tableRefusal store table edge face x y) (tripleAt store (predecessor (holderAt table face x y)) (4 * (y % 4) + x % 4))
+  pub answers : r ≡ tableAnswer store table edge face x y

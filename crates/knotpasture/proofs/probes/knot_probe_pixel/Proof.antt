@@ -4,21 +4,7 @@ use Rattle.knotpasture.proofs.probes.knot_probe_pixel.Statement.{statem
 use Rattle.knotpasture.proofs.probes.knot_probe_pixel.Tie as tie
 
 returns : tie.Need-returns
-returns c = pixel-called (c .before .before .before .before .probe-pixel .ensures)
+returns c = pixel-called (c .before .probe-pixel .ensures) (c .pixel-word .ensures)
 
 pub knot-probe-pixel-spec : {M : Type 1} → statement M
-knot-probe-pixel-spec =
-    tie.close
-    (tie.spec
-    (λ c κs. search needs)
-    (λ c. search needs)
-    (λ c. search needs)
-    (λ c. search needs)
-    (λ c. search needs)
-    (λ c. search needs)
-    (λ c. search needs)
-    (λ c. search needs)
-    (λ c. search needs)
-    (λ c. search needs)
-    (λ c. search needs)
-    returns)
+knot-probe-pixel-spec = tie.close (tie.spec (λ c κs. search needs) (λ c κs. search needs) returns)

@@ -8,9 +8,16 @@ use lib.ListN.{length}
 use Rattle.laws.specs.Made.{made}
 use Rattle.laws.proofs.Joined.{run-more}
 use Rattle.bcn_spec.specs.Answers.{done}
+use Rattle.bcn_spec.specs.Bits.{blockSize}
+use Rattle.bc6h_spec.specs.Fields.{modeOf}
 use Rattle.store_records.specs.Store.{mostRecords}
 use Rattle.probe_places.specs.declared.Place.{Place}
-use Rattle.probe_places.specs.Places.{placesIn, placeIn}
+use Rattle.probe_places.specs.declared.PlacedRecord.{PlacedRecord}
+use Rattle.probe_places.specs.declared.PlacedReading.{PlacedReading}
+use Rattle.probe_places.specs.declared.PlacedReading.the-variants as reading
+use Rattle.probe_places.specs.Places.{placesIn, formatIn, placeIn, blockIn}
+use Rattle.probe_places.specs.Readings.{placedRefusal, Readable, PlacedRead, placedPart}
+use Rattle.probe_places.proofs.Readings.{known, record-is, part-of, block-length}
 use Rattle.store_faulty.specs.declared.FaultCounts.{FaultCounts}
 use Rattle.store_faulty.specs.Faulty.{placedForm, formOf, storeRefusal, howMany, countsOf}
 use Rattle.store_faulty.proofs.Forms.{fits, more}
@@ -21,12 +28,28 @@ use Rattle.text_places_audit.specs.Copies.{firstIn, isCopy}
 use Rattle.text_places_audit.specs.Audit.{columnsLine, whereOf, copyLine, lineOf, copyLines, tallyLine, tallyOf, auditOf}
 use Rattle.text_places_audit.proofs.Copies.{copy-when, no-copy-when}
 
+-- ---- a record that is not refused
+
+module _ (store : List ℕ) (n : ℕ) {part : List ℕ} (u : Readable store n) (p : part ≡ placedPart (placedRefusal store n) store n) where
+  pub part-is : part ≡ blockIn store n
+  part-is = p ∙ sym (part-of store n refl u)
+
+  pub part-length : length part ≡ blockSize
+  part-length = ap length part-is ∙ block-length (known store n u)
+
+pub format-is : {store : List ℕ} {n : ℕ} {x : PlacedReading} {r : PlacedRecord} → PlacedRead store n x → x ≡ reading.Record r → r .format ≡ formatIn store n
+format-is d e = ap (λ (r : PlacedRecord). r .format) (record-is d e)
+
+pub mode-is : (store : List ℕ) (n : ℕ) {mode : ℕ} → mode ≡ modeOf (formOf 32 .block store n) → mode ≡ modeOf (blockIn store n)
+unfolding formOf
+mode-is store n e = e
+
 -- ---- a line
 
-pub where-is : {store l m₁ m₂ : List ℕ} {n at e₁ e₂ : ℕ} {place : Place} → place ≡ placeIn store n → Written l at (recordWords store n) e₁ m₁
+pub where-is : (store : List ℕ) (n : ℕ) {l m₁ m₂ : List ℕ} {at e₁ e₂ : ℕ} {place : Place} → place ≡ placeIn store n → Written l at (recordWords store n) e₁ m₁
     → Written m₁ e₁ (placeWords place) e₂ m₂ → Written l at (whereOf store n) e₂ m₂
 unfolding whereOf
-where-is p x y = said (then x y) (rw p)
+where-is store n p x y = said (then x y) (rw p)
 
 -- ---- the loop over the records
 

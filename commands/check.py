@@ -6,11 +6,11 @@ mode. The last line has the form and the counts. The form is the one in which fe
 have as many; --form decides it. If the file looks like something else, standard error says what. A store of a length that its form does not have is the line 'store refused' and the number.
 """
 from . import house, kinds
-from .line import JSON, Line, Option
+from .line import FORM, JSON, Line
 
 LINE = Line(
     "[STORE]",
-    options=[Option("--form", "read records of 24 bytes, or of 32 with a place", "24|32"), JSON],
+    options=[FORM, JSON],
     example="knot check samples/refused.store",
     statuses="status: 0 no record is faulty; 1 one is, or the store is refused; 2 the words do not fit; 3 input, output or an unexpected error",
 )
@@ -28,10 +28,8 @@ def told(fault):
 
 
 def run(asked):
-    if asked.form not in (None, "24", "32"):
-        raise house.Usage(f"--form is 24 or 32, and not '{house.shown(asked.form, 40)}'")
-    data = house.read(asked.store, kinds.MOST)
-    reading = kinds.Reading(data, int(asked.form)) if asked.form else kinds.likelier_reading(data)
+    form, data = kinds.form_asked(asked), house.read(asked.store, kinds.MOST)
+    reading = kinds.Reading(data, form) if form else kinds.likelier_reading(data)
     if reading.bad_length:
         raise house.Refused(reading.bad_length, f"store refused {reading.bad_length}\n")
     faults = [fault(*found) for found in reading.faults]

@@ -74,6 +74,12 @@ def signature_of(data):
     return None
 
 
+def better_than(own, data):
+    """The other reading of a file, where it fits better."""
+    other = Reading(data, PLACED if own.form == PLAIN else PLAIN)
+    return other if other.fits_better(own) else None
+
+
 def looks_like(data, form):
     """What a file that is given as a store of `form` looks like instead, in words; None where it may well be that store."""
     own = Reading(data, form)
@@ -81,8 +87,7 @@ def looks_like(data, form):
         return None
     if signed := signature_of(data):
         return signed
-    other = Reading(data, PLACED if form == PLAIN else PLAIN)
-    if other.fits_better(own):
+    if other := better_than(own, data):
         return store_in_words(other.form, other.records)
     return f"no store at all: {own.refused:,} of its {own.records:,} records are refused" if own.mostly_refused() else None
 
@@ -92,6 +97,23 @@ def likelier_reading(data):
     plain = Reading(data, PLAIN)
     placed = Reading(data, PLACED) if plain.has_refused() else plain
     return placed if placed.has_places_apart() and placed.share() < plain.share() else plain
+
+
+def form_asked(asked):
+    """The form that a command line asks for; None where it leaves that to the file."""
+    if asked.form not in (None, "24", "32"):
+        raise house.Usage(f"--form is 24 or 32, and not '{house.shown(asked.form, 40)}'")
+    if getattr(asked, "as_store", False):
+        if asked.form == "32":
+            raise house.Usage("--as-store reads records of 24 bytes, and --form 32 those with a place")
+        return PLAIN
+    return int(asked.form) if asked.form else None
+
+
+def form_to_show(data):
+    """The form in which a file is shown: that of records with a place where `looks_like` finds such a store, else that of 24-byte records."""
+    plain = Reading(data, PLAIN)
+    return PLACED if plain.has_refused() and not signature_of(data) and better_than(plain, data) else PLAIN
 
 
 def to_change(path, form, as_store):
@@ -115,11 +137,22 @@ def placed_to_change(path, as_store=False):
 def store_to_show(path, as_store=False):
     """The bytes of a store of 24-byte records for a command that only shows: with a remark where it looks like something else."""
     data = house.read(path, MOST)
-    remark_on(data, as_store)
+    if not as_store:
+        remark_on(data)
     return data
 
 
-def remark_on(data, as_store):
-    looks = None if as_store else looks_like(data, PLAIN)
+def store_to_audit(asked):
+    """The bytes of a store of either form, and the form: with a remark where it looks like something else and no form is asked for."""
+    form, data = form_asked(asked), house.read(asked.store, MOST)
+    if form is None:
+        form = form_to_show(data)
+        if form == PLAIN:
+            remark_on(data)
+    return data, form
+
+
+def remark_on(data):
+    looks = looks_like(data, PLAIN)
     if looks:
         house.remark(f"it looks like {looks}; --as-store silences this")

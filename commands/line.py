@@ -24,6 +24,7 @@ class Option:
         return f"{self.name} {self.value}" if self.value else self.name
 
 
+FORM = Option("--form", "read records of 24 bytes, or of 32 with a place", "24|32")
 AS_STORE = Option("--as-store", "take the file as it is given, whatever it looks like")
 JSON = Option("--json", "print JSON, for other programs; a refusal is JSON too")
 

@@ -61,6 +61,7 @@ def commands(folder):
     (folder / "one").write_bytes(four.read_bytes()[:24])
     return {
         "list": [four], "list --json": ["--json", four], "check": [SAMPLES / "covered.store"], "audit": [SAMPLES / "covered.store"], "infinities": [four],
+        "list of places": ["--form", "32", probe], "audit of places": ["--form", "32", probe],
         "clean": [SAMPLES / "covered.store", out], "report": [SAMPLES / "covered.store", out],
         "fields": [lamp, "unsigned"], "fields --picture": [lamp, "unsigned", "--picture"], "fields of a store": [four, "0"],
         "block": [text, out], "block --into": [text, "--into", four, "0", out], "block --picture": [text, "--picture"],

@@ -69,7 +69,8 @@ def columns(folder):
         changing.remove(words)
         skipped.append(f"wrong files, {words[0]}: it does not go by commands/kinds.py yet")
     return {
-        "list, audit, infinities": [["list", None], ["audit", None], ["infinities", None]],
+        "list, audit": [["list", None], ["audit", None]],
+        "infinities": [["infinities", None]],
         "check": [["check", None]],
         "clean, report, record": [*changing, ["record", "append", None, one, out]],
         "place": [["place", None, out]],
@@ -123,17 +124,27 @@ def wrong_files(folder):
     overridden(folder)
 
 
+def placed_shown(path):
+    """A probe is listed and audited as records with a place, without a warning."""
+    for command, last in (("list", b"placed 24 unplaced 0 bad 0"), ("audit", b"damaged 0 refused 0 copies 0")):
+        ran = run([ROOT / "knot", command, path])
+        count()
+        if (ran.returncode, ran.stdout.splitlines()[-1], ran.stderr) != (0, last, b""):
+            is_wrong(f"wrong file, {command} of a probe", f"{ran.returncode} {ran.stdout[-60:]!r} {ran.stderr!r}")
+
+
 def overridden(folder):
     """--as-store takes a file as it is given, and silences the warning; the line says what the file looks like, and of the flag."""
     path, out, one = folder / "FILE", folder / "OUT", folder / "one"
     path.write_bytes(probe(2))
     looks = f"{path}: it looks like a store of 24 records with a place, such as a probe; --as-store silences this"
+    ran = run([ROOT / "knot", "infinities", path])
+    count()
+    if (ran.returncode, ran.stderr.decode()) != (0, f"knot infinities: {looks}\n"):
+        is_wrong("wrong file, infinities warns", f"{ran.returncode} {ran.stderr!r}")
     for command in ("list", "audit", "infinities"):
-        ran = run([ROOT / "knot", command, path])
-        count()
-        if (ran.returncode, ran.stderr.decode()) != (0, f"knot {command}: {looks}\n"):
-            is_wrong(f"wrong file, {command} warns", f"{ran.returncode} {ran.stderr!r}")
         check(f"wrong file, {command} --as-store", [command, "--as-store", path], 0)
+    placed_shown(path)
     out.unlink(missing_ok=True)
     check("wrong file, why", ["place", path, out], 1, b"store refused 28\n", f"{path}: refused, 28: it looks like a store of 24 records with a place, such as a probe; --as-store overrides")
     check("wrong file, place --as-store", ["place", SAMPLES / "small.probe", out, "--as-store"], 1, b"store refused 7\n", "refused, 7")
@@ -143,7 +154,7 @@ def overridden(folder):
     check("wrong file, block --into", ["block", text, "--into", path, "3", out], 1, b"store refused 28\n", "refused, 28")
     check("wrong file, block --into --as-store", ["block", text, "--as-store", "--into", path, "3", out], 0, b"")
     path.write_bytes(probe(16))
-    check("wrong file, list of a probe of edge 16", ["list", path], 1, b"store refused 5\n", "more than 2,000 records; it looks like a store of 1,536 records with a place")
+    check("wrong file, list --as-store of a probe of edge 16", ["list", "--as-store", path], 1, b"store refused 5\n", "more than 2,000 records")
     path.write_bytes((SAMPLES / "covered.store").read_bytes())
     check("wrong file, unplace", ["unplace", path, out], 1, b"store refused 28\n", "it looks like a store of 12 records of 24 bytes")
     check("wrong file, probe --as-store", ["probe", path, "1", "--as-store"], 1, None, "refused, 7")

@@ -93,6 +93,10 @@ module _ (byte : ℕ) (store : List ℕ) (n : ℕ) (u : formOf byte .refusal sto
   pub part-length : {part : List ℕ} → part ≡ formOf byte .block store n → length part ≡ blockSize
   part-length p = ap length p ∙ block-length
 
+pub mode-is : {block part : List ℕ} {number mode : ℕ} → part ≡ block → number ≡ numberOf part → mode ≡ modeIn number → mode ≡ modeOf block
+unfolding modeOf
+mode-is p q m = rw (m, q, p)
+
 -- ---- why it is faulty
 
 module _ (form : RecordForm) (store : List ℕ) (n : ℕ) where
@@ -104,10 +108,9 @@ module _ (form : RecordForm) (store : List ℕ) (n : ℕ) where
   unfolding isDamaged
   refused-undamaged e z = rw (ne-eqb (form .refusal store n) done (λ q. z (e ∙ q)))
 
-  pub damaged-by-mode : {part : List ℕ} {number mode : ℕ} → form .refusal store n ≡ done → part ≡ form .block store n → number ≡ numberOf part
-      → mode ≡ modeIn number → eqb mode 0 ≡ isDamaged form store n
-  unfolding isDamaged modeOf
-  damaged-by-mode u p q m = rw (eq-eqb _ _ u, m, q, p)
+  pub damaged-by-mode : {mode : ℕ} → form .refusal store n ≡ done → mode ≡ modeOf (form .block store n) → eqb mode 0 ≡ isDamaged form store n
+  unfolding isDamaged
+  damaged-by-mode u m = rw (eq-eqb _ _ u, m)
 
   pub cause-damaged : isDamaged form store n ≡ true → reservedBlock ≡ causeOf form store n
   unfolding causeOf
@@ -119,14 +122,14 @@ module _ (form : RecordForm) (store : List ℕ) (n : ℕ) where
 
 -- ---- how many are
 
+pub more : (test : ℕ → Bool) (n : ℕ) → howMany test (n + 1) ≡ howMany test n + pick (test n) 1 0
+unfolding howMany
+more test n = rw (add-one n)
+
 module _ (form : RecordForm) (store : List ℕ) where
   pub none-counted : Counted form store 0 0 0
   unfolding howMany
   none-counted = record { refused-is = refl; damaged-is = refl; few = (omega arith, omega arith) }
-
-  more : (test : ℕ → Bool) (n : ℕ) → howMany test (n + 1) ≡ howMany test n + pick (test n) 1 0
-  unfolding howMany
-  more test n = rw (add-one n)
 
   pub one-counted : {n refused damaged a b : ℕ} {x y : Bool} → Counted form store n refused damaged → x ≡ isRefused form store n
       → (a ≤ 1) × (a ≡ pick x 1 0) → y ≡ isDamaged form store n → (b ≤ 1) × (b ≡ pick y 1 0) → Counted form store (n + 1) (refused + a) (damaged + b)

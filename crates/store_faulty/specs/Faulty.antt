@@ -9,24 +9,26 @@ use Rattle.laws.specs.Pick.{pick, both}
 use Rattle.laws.specs.Checks.{firstMet}
 use Rattle.bcn_spec.specs.Answers.{done, longStore, unevenStore, reservedBlock}
 use Rattle.bc6h_spec.specs.Fields.{modeOf}
-use Rattle.store_records.specs.Store.{recordSize, storeLimit, recordRefusal, tileAt, blockOf}
-use Rattle.probe_places.specs.Places.{placeSize, placeLimit, tileIn, blockIn}
+use Rattle.store_records.specs.Store.{recordSize, storeLimit, recordRefusal, tileAt, formatOf, blockOf}
+use Rattle.probe_places.specs.Places.{placeSize, placeLimit, tileIn, formatIn, blockIn}
 use Rattle.probe_places.specs.Readings.{placedRefusal}
 use Rattle.store_faulty.specs.declared.FaultCounts.{FaultCounts}
 
--- What a form says: the bytes of a record, the most bytes of a store, and of record n why the record call refuses it, its tile and its block.
+-- What a form says: the bytes of a record, the most bytes of a store, and of record n why the record call refuses it, its tile,
+-- its format and its block.
 pub record RecordForm : Type 0 where
   pub size : ℕ
   pub limit : ℕ
   pub refusal : List ℕ → ℕ → ℕ
   pub tile : List ℕ → ℕ → ℕ
+  pub format : List ℕ → ℕ → ℕ
   pub block : List ℕ → ℕ → List ℕ
 
 abbrev pub plainForm : RecordForm
-plainForm = record { size = recordSize; limit = storeLimit; refusal = recordRefusal; tile = tileAt; block = blockOf }
+plainForm = record { size = recordSize; limit = storeLimit; refusal = recordRefusal; tile = tileAt; format = formatOf; block = blockOf }
 
 abbrev pub placedForm : RecordForm
-placedForm = record { size = placeSize; limit = placeLimit; refusal = placedRefusal; tile = tileIn; block = blockIn }
+placedForm = record { size = placeSize; limit = placeLimit; refusal = placedRefusal; tile = tileIn; format = formatIn; block = blockIn }
 
 -- the byte 32 stands for records with a place, any other for 24-byte records
 unfoldable pub formOf : ℕ → RecordForm

@@ -5,6 +5,7 @@ ghost use Prim.Native.Nat.{_≤_, _<_};
 ghost use lib.ListN.{length};
 ghost use Rattle.laws.specs.Pick.{pick};
 ghost use Rattle.bcn_spec.specs.Answers.{done};
+ghost use Rattle.bc6h_spec.specs.Fields.{modeOf};
 ghost use Rattle.store_faulty.specs.Faulty.{formOf, countIn, storeRefusal, isRefused, isDamaged, causeOf, countsOf};
 use bc6_mode::extract_mode;
 use bcn_spec::Answer;
@@ -96,14 +97,22 @@ fn block_of(form: u8, store: &[u8], n: usize) -> &[u8]
     record_block(store, n)
 }
 
+// The mode of record n, which is not refused.
+pub fn mode_of(form: u8, store: &[u8], n: usize) -> usize
+    requires { ⌜ formOf form .refusal (now store) n ≡ done ⌝ }
+    ensures { λ r. ⌜ r ≡ modeOf (formOf form .block (now (store .entry)) n) ⌝ }
+{
+    extract_mode(BitStream::new(block_of(form, store, n)))
+}
+
 // Record n is not refused and has a reserved mode.
-fn is_damaged(form: u8, store: &[u8], n: usize) -> bool
+pub fn is_damaged(form: u8, store: &[u8], n: usize) -> bool
     ensures { λ r. ⌜ r ≡ isDamaged (formOf form) (now (store .entry)) n ⌝ }
 {
     if record_refusal(form, store, n) != Answer::DONE {
         return false;
     }
-    extract_mode(BitStream::new(block_of(form, store, n))) == 0
+    mode_of(form, store, n) == 0
 }
 
 // Why record n is faulty; 0 where it is sound.

@@ -110,7 +110,7 @@ fn put_twin(text: &mut [u8], at: usize, store: &[u8], n: usize, finding: Finding
 }
 
 // How many records are damaged, and how many refused.
-fn put_faults(text: &mut [u8], at: usize, faults: FaultCounts) -> usize
+pub fn put_faults(text: &mut [u8], at: usize, faults: FaultCounts) -> usize
     requires { ⌜ at + 64 ≤ length (now text) ⌝ }
     ensures { λ r. ⌜ r ≤ at + 64 ⌝ }
     ensures { λ r. ⌜ Written (now (text .entry)) at (faultWords faults) r (now (text .exit)) ⌝ }

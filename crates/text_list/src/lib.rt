@@ -34,7 +34,7 @@ fn picture_of(store: &[u8], n: usize, format: u8) -> [u16; Picture::VALUES]
 }
 
 // The three values of a pixel, and the end of the line.
-fn put_triple(text: &mut [u8], at: usize, red: u16, green: u16, blue: u16) -> usize
+pub fn put_triple(text: &mut [u8], at: usize, red: u16, green: u16, blue: u16) -> usize
     requires { ⌜ at + 15 ≤ length (now text) ⌝ }
     ensures { λ r. ⌜ r ≡ at + 15 ⌝ }
     ensures { λ r. ⌜ Written (now (text .entry)) at (tripleOf red green blue) r (now (text .exit)) ⌝ }

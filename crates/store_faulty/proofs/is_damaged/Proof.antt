@@ -1,5 +1,5 @@
 use mathlib.Core.Path.{sym, _∙_}
-use Rattle.store_faulty.proofs.Forms.{part-length, refused-undamaged, damaged-by-mode}
+use Rattle.store_faulty.proofs.Forms.{refused-undamaged, damaged-by-mode}
 use borrow.Author.Needs.{needs}
 use Rattle.store_faulty.proofs.is_damaged.Statement.{statement}
 use Rattle.store_faulty.proofs.is_damaged.Tie as tie
@@ -7,19 +7,8 @@ use Rattle.store_faulty.proofs.is_damaged.Tie as tie
 returns : tie.Need-returns
 returns c = refused-undamaged _ _ _ (c .before .record-refusal .ensures) (c .if1 .taken)
 
-new-requires : tie.Need-new-requires
-new-requires c κs = part-length _ _ _ (sym (c .before .before .record-refusal .ensures) ∙ c .before .if1 .left) (c .block-of .ensures)
-
 returns-2 : tie.Need-returns-2
-returns-2 c = damaged-by-mode _ _ _ (sym (c .before .before .before .before .record-refusal .ensures) ∙ c .before .before .before .if1 .left) (c .before .before .block-of .ensures) (c .before .new .ensures) (c .extract-mode .ensures)
+returns-2 c = damaged-by-mode _ _ _ (sym (c .before .before .record-refusal .ensures) ∙ c .before .if1 .left) (c .mode-of .ensures)
 
 pub is-damaged-spec : {M : Type 1} → statement M
-is-damaged-spec =
-    tie.close
-    (tie.spec
-    (λ c κs. search needs)
-    returns
-    (λ c κs. search needs)
-    new-requires
-    (λ c κs. search needs)
-    returns-2)
+is-damaged-spec = tie.close (tie.spec (λ c κs. search needs) returns (λ c κs. search needs) returns-2)

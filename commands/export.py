@@ -1,7 +1,7 @@
 """Writes a picture of any size as a file that other programs open: PFM, EXR, PNG or PAM.
 
 FILE is a DDS file of at most 4,096 by 4,096 pixels, BC6H or BC7. With N it is record N of a STORE of either form, 4 by 4 pixels. --face writes face
-F of a PROBE, 0 to 5; --all writes all six, to OUT.0.exr and on to OUT.5.exr for an OUT of OUT.exr. The end of OUT's name says what is written:
+F of a PROBE, 0 to 5 or +X, -X, +Y, -Y, +Z, -Z; --all writes all six, to OUT.0.exr and on to OUT.5.exr for an OUT of OUT.exr. The end of OUT's name says what is written:
 
 .pfm  a Portable Float Map, and .exr an OpenEXR file, of BC6H: each value is exactly its half-float pattern
 .png  a picture to look at: BC6H as the page of 'knot open' draws it, at an exposure that is printed; BC7 with its alpha
@@ -15,7 +15,7 @@ import os
 import re
 import struct
 
-from . import dds, house, kinds, pictures, probe, screen
+from . import dds, faces, house, kinds, pictures, probe, screen
 from .line import AS_STORE, Line, Option
 
 LINE = Line(
@@ -33,11 +33,14 @@ LINE = Line(
     ],
     example="knot export samples/five.dds five.exr\nknot export samples/five.dds five.png --exposure -2\nknot export samples/four.store 1 tile.pfm\n"
     "knot export samples/small.probe --all face.exr",
+    dashed=faces.DASHED,
 )
 KINDS = ["pfm", "exr", "png", "pam"]
 FACES = 6
 MOST_STOPS = 100
 HEADER = dds.HEADER
+# The number by which run_probe is asked for a face.
+FACE_KINDS = {"pfm": probe.FACE, "exr": probe.FACE_EXR}
 
 
 # ---- what is asked for
@@ -77,10 +80,10 @@ def hold_options(asked):
 
 def texture(asked):
     """The picture of a DDS file, whose header and length the proved program has taken."""
-    file = house.opened(asked.file, dds.HEADER + dds.MOST_BLOCKS)
+    file = house.opened(asked.file, HEADER + dds.MOST_CHAIN)
     told = house.ask("run_dds", file, lambda answer: len(answer) == 6 and answer[1] <= pictures.BC7_SRGB, ["--first-level"] if asked.first_level else [])
     if told[0] != 0:
-        raise dds.refused(told[0], os.pread(file, HEADER, 0))
+        raise dds.refused(told[0], os.pread(file, HEADER, 0), first_level=asked.first_level)
     width, height = struct.unpack("<HH", told[2:])
     return pictures.Picture(width, height, told[1], lambda at, size: house.part(file, HEADER + at, size))
 
@@ -119,13 +122,18 @@ def write(out, picture, kind, stops):
 
 def hold_kind(picture, kind):
     """Half-floats go to the kinds that have them, bytes to those that have bytes."""
-    if picture.is_bc7() and kind in pictures.FLOATS:
+    if pictures.is_bc7(picture) and kind in pictures.FLOATS:
         raise house.Usage(f"{house.read_last} is BC7, which has bytes and no half-floats: .png and .pam take it")
-    if not picture.is_bc7() and kind == "pam":
-        raise house.Usage(f"{house.read_last} is BC6H, which has half-floats: .exr and .pfm take them as they are, .png as the screen shows them")
+    if not pictures.is_bc7(picture):
+        hold_half_floats(kind, house.read_last)
 
 
-def told_exposure(asked, stops):
+def hold_half_floats(kind, name):
+    if kind == "pam":
+        raise house.Usage(f"{name} is BC6H, which has half-floats: .exr and .pfm take them as they are, .png as the screen shows them")
+
+
+def tell_exposure(asked, stops):
     """Says which exposure was chosen, where none was asked for."""
     house.say(f"exposure {stops}\n", asked.out)
 
@@ -133,52 +141,55 @@ def told_exposure(asked, stops):
 def export_one(asked, picture, kind, stops, own):
     """Writes one picture; `own` is its exposure where none is asked for."""
     hold_kind(picture, kind)
-    chosen = kind == "png" and stops is None and not picture.is_bc7()
+    chosen = kind == "png" and stops is None and not pictures.is_bc7(picture)
     stops = own(picture) if chosen else stops or 0
     write(asked.out, picture, kind, stops)
     if chosen:
-        told_exposure(asked, stops)
+        tell_exposure(asked, stops)
 
 
 def tile_exposure(picture):
-    return screen.own_exposure(memoryview(pictures.shown(picture.asked(0, 1))).cast("H")[2:])
+    return screen.own_exposure(memoryview(pictures.shown(picture.form, picture.bands(0, 1))).cast("H")[2:])
 
 
 # ---- probes
 
 
-def faces_of(store, edge):
-    """The six faces of a probe, by the places of its records."""
-    faces = [[b""] * (edge * edge) for _ in range(FACES)]
-    for at in range(0, len(store), kinds.PLACED):
-        face, column, row = struct.unpack_from("<BHH", store, at + 5)
-        faces[face][edge * row + column] = store[at + 4:at + 5] + store[at + kinds.PLACED - house.BLOCK:at + kinds.PLACED]
-    return [pictures.Face(edge, records) for records in faces]
+def face_file(store, edge, face, kind):
+    """A face as the proved program writes it."""
+    _, head, rest = pictures.FLOATS[kind]
+    start = head(4 * edge, 4 * edge)
+    size = len(start) + rest(4 * edge, 4 * edge)
+    return probe.answer_of(store, FACE_KINDS[kind], edge, face, lambda answer, _: answer.startswith(start) and len(answer) == size)
 
 
 def export_probe(asked, kind, stops):
-    if kind == "pam":
-        raise house.Usage("a probe is BC6H, which has half-floats: .exr and .pfm take them as they are, .png as the screen shows them")
-    wanted = range(FACES) if asked.all else [house.number(asked.f, "F")]
+    """One face, or all six: what is refused is refused before the first file is written."""
+    hold_half_floats(kind, "a probe")
+    wanted = list(range(FACES)) if asked.all else [faces.number(asked.f, "F")]
     outs = [face_name(asked.out, face) for face in wanted] if asked.all else [asked.out]
     for out in outs:
         house.keep_apart(out, asked.probe)
     store = kinds.placed_to_change(asked.probe, asked.as_store)
-    edge = probe.edge_of(store)
-    chosen = kind == "png" and stops is None
+    edge = int(probe.answer_of(store, probe.FIT, 0, 0, probe.is_told(None)).split()[2])
+    files = {face: face_file(store, edge, face, "exr" if kind == "png" else kind) for face in wanted}
     if kind == "png":
-        probe.hold_face(store, edge, wanted[0])
-        faces = faces_of(store, edge)
-        stops = pictures.exposure_of(faces) if chosen else stops
-    else:
-        files = [probe.face_of(store, edge, face, kind) for face in wanted]
-    for k, (out, face) in enumerate(zip(outs, wanted)):
-        if kind == "png":
-            pictures.write_png(out, faces[face], stops)
-        else:
-            house.write_whole(out, files[k])
+        write_faces(asked, store, edge, files, outs, stops)
+        return
+    for out, file in zip(outs, files.values()):
+        house.write_whole(out, file)
+
+
+def write_faces(asked, store, edge, files, outs, stops):
+    """Faces as PNGs, all at one exposure: without --exposure at the one of the whole probe."""
+    chosen = stops is None
     if chosen:
-        told_exposure(asked, stops)
+        whole = [files.get(face) or face_file(store, edge, face, "exr") for face in range(FACES)]
+        stops = pictures.exposure_of([pictures.Face(4 * edge, file) for file in whole])
+    for out, file in zip(outs, files.values()):
+        pictures.write_png(out, pictures.Face(4 * edge, file), stops)
+    if chosen:
+        tell_exposure(asked, stops)
 
 
 def face_name(out, face):

@@ -26,9 +26,6 @@ class Picture:
         self.width, self.height, self.form, self.read = width, height, form, read
         self.across, self.down = -(-width // 4), -(-height // 4)
 
-    def is_bc7(self):
-        return self.form >= BC7
-
     def bands(self, first, count):
         """The block bytes of some rows of blocks."""
         size = house.BLOCK * self.across
@@ -39,30 +36,69 @@ class Picture:
         step = max(1, AT_A_TIME // self.across)
         return [(first, min(step, self.down - first)) for first in range(0, self.down, step)]
 
-    def asked(self, first, count):
-        """The records that run_pixels reads for them: a byte of the format before each block."""
-        return with_format(self.form, self.bands(first, count))
+    def half_rows(self):
+        """The patterns of each row from the top down, red, green, blue."""
+        for first, count in self.groups():
+            words, size = memoryview(shown(self.form, self.bands(first, count))).cast("I"), SHOWN_WORDS * self.across
+            for y in range(4 * first, min(4 * (first + count), self.height)):
+                row, band = memoryview(bytearray(24 * self.across)).cast("I"), words[size * (y // 4 - first):size * (y // 4 - first + 1)]
+                for k in range(6):
+                    row[k::6] = band[1 + 6 * (y % 4) + k::SHOWN_WORDS]
+                yield row.cast("B").cast("H")[:3 * self.width]
 
-    def asked_of(self, numbers):
-        """The same of blocks by their numbers."""
-        return b"".join(with_format(self.form, self.read(house.BLOCK * n, house.BLOCK)) for n in numbers)
+    def byte_rows(self):
+        """The bytes of each row of BC7 from the top down, red, green, blue, alpha."""
+        for first, count in self.groups():
+            blocks = self.bands(first, count)
+            answer = house.ask("run_bc7", blocks, lambda answer: len(answer) == BC7_SHOWN * (len(blocks) // house.BLOCK))
+            words, size = memoryview(answer).cast("Q"), 8 * self.across
+            for y in range(4 * first, min(4 * (first + count), self.height)):
+                row, band = memoryview(bytearray(16 * self.across)).cast("Q"), words[size * (y // 4 - first):size * (y // 4 - first + 1)]
+                for k in range(2):
+                    row[k::2] = band[2 * (y % 4) + k::8]
+                yield row.cast("B")[:4 * self.width]
+
+    def count_tops(self, tops):
+        """Counts pixels by the pattern of their brightest channel: about 100,000 of them, those that the page chooses."""
+        pixels, pitch = 16 * self.across * self.down, 4 * self.across
+        step = max(1, pixels // screen.SAMPLES)
+        for start in range(0, pixels, AT_A_TIME * step):
+            places = [divmod(at, pitch) for at in range(start, min(pixels, start + AT_A_TIME * step), step)]
+            wanted = {number: k for k, number in enumerate(dict.fromkeys(self.across * (y // 4) + x // 4 for y, x in places))}
+            values = memoryview(shown(self.form, b"".join(self.read(house.BLOCK * number, house.BLOCK) for number in wanted))).cast("H")
+            for y, x in places:
+                at = SHOWN // 2 * wanted[self.across * (y // 4) + x // 4] + 2 + 3 * (4 * (y % 4) + x % 4)
+                tops[screen.top_of(values[at:at + 3])] += 1
 
 
-class Face(Picture):
-    """A face of a probe, each block in the format of its own record."""
+class Face:
+    """A face of a probe by the OpenEXR file that the proved program makes of it."""
+    form = UNSIGNED
 
-    def __init__(self, edge, records):
-        super().__init__(4 * edge, 4 * edge, UNSIGNED, None)
-        self.records = records
+    def __init__(self, side, file):
+        self.width = self.height = side
+        self.lines = file[-(8 + 6 * side) * side:]
 
-    def asked(self, first, count):
-        return b"".join(self.records[self.across * first:self.across * (first + count)])
+    def half_rows(self):
+        side = self.width
+        for at in range(8, len(self.lines), 8 + 6 * side):
+            line, row = memoryview(self.lines[at:at + 6 * side]).cast("H"), memoryview(bytearray(6 * side)).cast("H")
+            for channel, plane in enumerate((2, 1, 0)):
+                row[channel::3] = line[side * plane:side * (plane + 1)]
+            yield row
 
-    def asked_of(self, numbers):
-        return b"".join(self.records[n] for n in numbers)
+    def count_tops(self, tops):
+        for row in self.half_rows():
+            for at in range(0, len(row), 3):
+                tops[screen.top_of(row[at:at + 3])] += 1
+
+
+def is_bc7(picture):
+    return picture.form >= BC7
 
 
 def with_format(form, blocks):
+    """What run_pixels reads: a byte of the format before each block."""
     count = len(blocks) // house.BLOCK
     made = bytearray(count * (1 + house.BLOCK))
     made[0::1 + house.BLOCK] = bytes([form]) * count
@@ -71,57 +107,17 @@ def with_format(form, blocks):
     return made
 
 
-def shown(records):
-    """What blocks show: 100 bytes a record."""
-    count = len(records) // (1 + house.BLOCK)
-    return house.ask("run_pixels", records, lambda answer: len(answer) == SHOWN * count and not any(answer[0::SHOWN]))
-
-
-def half_rows(picture):
-    """The patterns of each row from the top down, red, green, blue."""
-    for first, count in picture.groups():
-        words, size = memoryview(shown(picture.asked(first, count))).cast("I"), SHOWN_WORDS * picture.across
-        for y in range(4 * first, min(4 * (first + count), picture.height)):
-            row, band = memoryview(bytearray(24 * picture.across)).cast("B").cast("I"), words[size * (y // 4 - first):size * (y // 4 - first + 1)]
-            for k in range(6):
-                row[k::6] = band[1 + 6 * (y % 4) + k::SHOWN_WORDS]
-            yield row.cast("B").cast("H")[:3 * picture.width]
-
-
-def bc7_rows(picture):
-    """The bytes of each row from the top down, red, green, blue, alpha."""
-    for first, count in picture.groups():
-        blocks = picture.bands(first, count)
-        answer = house.ask("run_bc7", blocks, lambda answer: len(answer) == BC7_SHOWN * (len(blocks) // house.BLOCK))
-        words, size = memoryview(answer).cast("Q"), 8 * picture.across
-        for y in range(4 * first, min(4 * (first + count), picture.height)):
-            row, band = memoryview(bytearray(16 * picture.across)).cast("Q"), words[size * (y // 4 - first):size * (y // 4 - first + 1)]
-            for k in range(2):
-                row[k::2] = band[2 * (y % 4) + k::8]
-            yield row.cast("B")[:4 * picture.width]
-
-
-# ---- exposures
-
-
-def tops_of(picture, tops):
-    """Counts pixels by the pattern of their brightest channel: about 100,000 of them, those that the page chooses."""
-    pixels, pitch = 16 * picture.across * picture.down, 4 * picture.across
-    step = max(1, pixels // screen.SAMPLES)
-    for start in range(0, pixels, AT_A_TIME * step):
-        places = [divmod(at, pitch) for at in range(start, min(pixels, start + AT_A_TIME * step), step)]
-        wanted = {number: k for k, number in enumerate(dict.fromkeys(picture.across * (y // 4) + x // 4 for y, x in places))}
-        values = memoryview(shown(picture.asked_of(wanted))).cast("H")
-        for y, x in places:
-            at = SHOWN // 2 * wanted[picture.across * (y // 4) + x // 4] + 2 + 3 * (4 * (y % 4) + x % 4)
-            tops[max(0 if value >= screen.SIGN else value for value in values[at:at + 3])] += 1
+def shown(form, blocks):
+    """What blocks of BC6H show: 100 bytes each."""
+    count = len(blocks) // house.BLOCK
+    return house.ask("run_pixels", with_format(form, blocks), lambda answer: len(answer) == SHOWN * count and not any(answer[0::SHOWN]))
 
 
 def exposure_of(pictures):
     """The exposure in stops that the page opens pictures at."""
     tops = [0] * screen.SIGN
     for picture in pictures:
-        tops_of(picture, tops)
+        picture.count_tops(tops)
     return screen.middle_exposure(tops)
 
 
@@ -172,13 +168,13 @@ LEVEL = 3
 def write_png(out, picture, stops):
     """A PNG of the picture at an exposure in stops. BC7 has it by itself: its bytes are the screen's already, and stay at 0 stops."""
     def make(file):
-        if picture.is_bc7():
+        if is_bc7(picture):
             png, table = Png(file, picture.width, picture.height, RGBA, stops or picture.form == BC7_SRGB), screen.byte_table(stops) if stops else None
-            for row in bc7_rows(picture):
+            for row in picture.byte_rows():
                 png.row(exposed(row, table) if table else bytes(row))
             return png.end()
         png, byte = Png(file, picture.width, picture.height, RGB, True), list(screen.half_table(stops)).__getitem__
-        for row in half_rows(picture):
+        for row in picture.half_rows():
             png.row(bytes(map(byte, row)))
         return png.end()
 
@@ -198,7 +194,7 @@ def write_pam(out, picture):
 
     def make(file):
         house.write_all(file, head)
-        for row in bc7_rows(picture):
+        for row in picture.byte_rows():
             house.write_all(file, row)
         return len(head) + 4 * picture.width * picture.height
 

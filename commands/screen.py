@@ -32,6 +32,11 @@ def byte_table(stops):
     return bytes(byte_of(value, 2.0 ** stops) for value in struct.unpack("<256f", struct.pack("<256f", *linear)))
 
 
+def top_of(triple):
+    """The pattern of the brightest of a pixel's channels, 0 where none is above zero."""
+    return max(0 if pattern >= SIGN else pattern for pattern in triple)
+
+
 def middle_exposure(tops):
     """The exposure at which the middle one of the lit pixels is at a quarter of white or just below. `tops` counts pixels by the pattern of their
     brightest channel: patterns above zero rise as their numbers do."""

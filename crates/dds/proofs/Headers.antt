@@ -13,7 +13,7 @@ use borrow.Author.Tests.{le-leb, lt-leb, eq-eqb, leb-true, eqb-true}
 use Rattle.laws.specs.Pick.{both, either}
 use Rattle.laws.specs.Bit.{bit}
 use Rattle.laws.proofs.Tests.{both-true}
-use Rattle.dds.specs.Dds.{headerSize, wordAt, magic, code, dxgiOf, HeaderOurs, startOurs, pixelsOurs, textureOurs, fieldsOurs, headerOurs, sizeLimit, SizeOurs, sizeOurs, blockBytes}
+use Rattle.dds.specs.Dds.{headerSize, wordAt, magic, code, dxgiOf, HeaderTaken, startOurs, pixelsOurs, textureOurs, fieldsOurs, headerTaken, sizeLimit, SizeOurs, sizeOurs, blockBytes}
 
 -- ---- headers
 
@@ -21,28 +21,32 @@ one-of : (a b : Bool) → either a b ≡ true → (a ≡ true) ⊎ (b ≡ true)
 one-of true b e = inl refl
 one-of false b e = inr e
 
-module _ (file : List ℕ) where
-  known-so : (dxgiOf file ≡ 95) ⊎ (dxgiOf file ≡ 96) → either (eqb (dxgiOf file) 95) (eqb (dxgiOf file) 96) ≡ true
-  known-so = ⊎-elim (λ e. rw e) (λ e. rw e)
+either-second : (a b : Bool) → b ≡ true → either a b ≡ true
+either-second true b e = refl
+either-second false b e = e
 
+known-so : (first dxgi : ℕ) → (dxgi ≡ first) ⊎ (dxgi ≡ first + 1) → either (eqb dxgi first) (eqb dxgi (first + 1)) ≡ true
+known-so first dxgi = ⊎-elim (λ e. rw (eq-eqb _ _ e)) (λ e. either-second (eqb dxgi first) (eqb dxgi (first + 1)) (eq-eqb _ _ e))
+
+module _ (first most : ℕ) (file : List ℕ) where
   -- S-61: the tests decide whether a header is ours
-  pub ours-so : HeaderOurs file → headerOurs file ≡ true
-  unfolding headerOurs fieldsOurs startOurs pixelsOurs textureOurs
+  pub ours-so : HeaderTaken first most file → headerTaken first most file ≡ true
+  unfolding headerTaken fieldsOurs startOurs pixelsOurs textureOurs
   ours-so h =
       rw
-      (le-leb _ _ (h .long), h .stands, h .size, le-leb _ _ (h .levels), h .format-size, h .format-flag, h .format-code, known-so (h .dxgi), h .dimension, h .no-cube, h .single)
+      (le-leb _ _ (h .long), h .stands, h .size, le-leb _ _ (h .levels), h .format-size, h .format-flag, h .format-code, known-so first (dxgiOf file) (h .dxgi), h .dimension, h .no-cube, h .single)
 
-  pub ours-means : headerOurs file ≡ true → HeaderOurs file
-  unfolding headerOurs fieldsOurs startOurs pixelsOurs textureOurs
+  pub ours-means : headerTaken first most file ≡ true → HeaderTaken first most file
+  unfolding headerTaken fieldsOurs startOurs pixelsOurs textureOurs
   ours-means t =
-      let whole = both-true (leb headerSize (length file)) (fieldsOurs file) t in
-      let fields = both-true (startOurs file) (both (pixelsOurs file) (textureOurs file)) (whole .1) in
-      let others = both-true (pixelsOurs file) (textureOurs file) (fields .1) in
+      let whole = both-true (leb headerSize (length file)) (fieldsOurs first most file) t in
+      let fields = both-true (startOurs most file) (both (pixelsOurs file) (textureOurs first file)) (whole .1) in
+      let others = both-true (pixelsOurs file) (textureOurs first file) (fields .1) in
       let magic = both-true (eqb (wordAt file 0) magic) _ (fields .0) in
-      let size = both-true (eqb (wordAt file 4) 124) (leb (wordAt file 28) 1) (magic .1) in
+      let size = both-true (eqb (wordAt file 4) 124) (leb (wordAt file 28) most) (magic .1) in
       let format-size = both-true (eqb (wordAt file 76) 32) _ (others .0) in
       let flag = both-true (eqb (bit (wordAt file 80) 2) 1) (eqb (wordAt file 84) code) (format-size .1) in
-      let known = both-true (either (eqb (dxgiOf file) 95) (eqb (dxgiOf file) 96)) _ (others .1) in
+      let known = both-true (either (eqb (dxgiOf file) first) (eqb (dxgiOf file) (first + 1))) _ (others .1) in
       let dimension = both-true (eqb (wordAt file 132) 3) _ (known .1) in
       let last = both-true (eqb (bit (wordAt file 136) 2) 0) (eqb (wordAt file 140) 1) (dimension .1) in
       record {
@@ -53,25 +57,25 @@ module _ (file : List ℕ) where
         format-size = eqb-true _ _ (format-size .0);
         format-flag = eqb-true _ _ (flag .0);
         format-code = eqb-true _ _ (flag .1);
-        dxgi = ⊎-elim (λ x. inl (eqb-true _ _ x)) (λ x. inr (eqb-true _ _ x)) (one-of (eqb (dxgiOf file) 95) (eqb (dxgiOf file) 96) (known .0));
+        dxgi = ⊎-elim (λ x. inl (eqb-true _ _ x)) (λ x. inr (eqb-true _ _ x)) (one-of (eqb (dxgiOf file) first) (eqb (dxgiOf file) (first + 1)) (known .0));
         dimension = eqb-true _ _ (dimension .0);
         no-cube = eqb-true _ _ (last .0);
         single = eqb-true _ _ (last .1);
       }
 
-  pub ours-long : headerOurs file ≡ true → headerSize ≤ length file
+  pub ours-long : headerTaken first most file ≡ true → headerSize ≤ length file
   ours-long t = ours-means t .long
 
-  pub ours-dxgi : headerOurs file ≡ true → (95 ≤ dxgiOf file) × (dxgiOf file ≤ 96)
+  pub ours-dxgi : headerTaken first most file ≡ true → (first ≤ dxgiOf file) × (dxgiOf file ≤ first + 1)
   ours-dxgi t = ⊎-elim (λ e. (omega arith, omega arith)) (λ e. (omega arith, omega arith)) (ours-means t .dxgi)
 
   -- what the code's two returns show
-  pub ours-short : length file < headerSize → false ≡ headerOurs file
-  unfolding headerOurs
+  pub ours-short : length file < headerSize → false ≡ headerTaken first most file
+  unfolding headerTaken
   ours-short h = rw (lt-leb _ _ h)
 
-  pub ours-fields : {r : Bool} → headerSize ≤ length file → r ≡ fieldsOurs file → r ≡ headerOurs file
-  unfolding headerOurs
+  pub ours-fields : {r : Bool} → headerSize ≤ length file → r ≡ fieldsOurs first most file → r ≡ headerTaken first most file
+  unfolding headerTaken
   ours-fields h e = rw (le-leb _ _ h) e
 
 -- ---- sizes

@@ -11,7 +11,7 @@ use Rattle.laws.proofs.Tests.{cases}
 use Rattle.laws.proofs.Checks.{none-met}
 use Rattle.bcn_spec.specs.Answers.{done, badSize, blocksMisfit}
 use Rattle.dds.specs.declared.DdsRead.{DdsRead}
-use Rattle.dds.specs.Dds.{headerSize, headerOurs, sizeOurs, blocksAlong, widthOf, heightOf, formatOf, headRefusal, HeadRead, FileRead, BlocksRead}
+use Rattle.dds.specs.Dds.{headerSize, bc6hFirst, oneBytes, headerOurs, sizeOurs, blocksAlong, widthOf, heightOf, formatOf, headRefusal, HeadRead, FileRead, BlocksRead}
 use Rattle.dds.specs.Dds as dds
 use Rattle.dds.proofs.Headers.{ours-so, size-so}
 use Rattle.dds.proofs.Reading.{head-foreign, head-size, head-done, head-known, head-number, head-is, sized-blocks, sized-done, read-number, read-is, read-known, part-is, part-length}
@@ -43,16 +43,16 @@ module _ (file : List ℕ) (room : ℕ) where
       cases (headerOurs file)
       (λ o.
       cases (sizeOurs (widthOf file) (heightOf file))
-      (λ s. absurd (omega (arith, sym e ∙ head-done file o s)))
-      (λ s. rw (o, s) (sym (head-size file o s) ∙ e)))
-      (λ o. rw o (sym (head-foreign file o) ∙ e))
+      (λ s. absurd (omega (arith, sym e ∙ head-done bc6hFirst 1 file o s)))
+      (λ s. rw (o, s) (sym (head-size bc6hFirst 1 file o s) ∙ e)))
+      (λ o. rw o (sym (head-foreign bc6hFirst 1 file o) ∙ e))
 
   module _ (h : headRefusal file ≡ done) where
     ours : headerOurs file ≡ true
-    ours = ours-so file (head-known file h .ours)
+    ours = ours-so bc6hFirst 1 file (head-known bc6hFirst 1 file h .ours)
 
     sized : sizeOurs (widthOf file) (heightOf file) ≡ true
-    sized = size-so (widthOf file) (heightOf file) (head-known file h .size)
+    sized = size-so (widthOf file) (heightOf file) (head-known bc6hFirst 1 file h .size)
 
     refused-large : sizeSmall (widthOf file) (heightOf file) ≡ false → exportRefusal file room ≡ badSize
     unfolding exportRefusal
@@ -68,7 +68,7 @@ module _ (file : List ℕ) (room : ℕ) where
           → exportRefusal file room ≡ writeRefusal size (formatOf file) (widthOf file) (heightOf file) room
       unfolding exportRefusal writeRefusal
       refused-last size b l =
-          let f : formatOf file ≤ 1 = ⊎-elim (λ e. omega arith) (λ e. omega arith) (head-known file h .ours .dxgi) in
+          let f : formatOf file ≤ 1 = ⊎-elim (λ e. omega arith) (λ e. omega arith) (head-known bc6hFirst 1 file h .ours .dxgi) in
           cases (sizeWritable (widthOf file) (heightOf file))
           (λ s. rw (ours, sized, small, eq-eqb _ _ l, le-ltb _ _ f, s, eq-eqb _ _ (b ∙ bytes-same (widthOf file) (heightOf file) s)))
           (λ s. rw (ours, sized, small, eq-eqb _ _ l, le-ltb _ _ f, s))
@@ -117,9 +117,9 @@ module _ (file out : List ℕ) where
 
         pub told-blocks : {p : PfmWritten} → (read .answer ≡ done → ⊥) → p ≡ record { answer = read .answer; length = 0 } → Exported file out p out
         told-blocks n e =
-            let wrong : length file ≡ headerSize + dds.blockBytes (widthOf file) (heightOf file) → ⊥ = λ l. n (read-number f ∙ sized-done file (length file) fine l) in
+            let wrong : length file ≡ headerSize + dds.blockBytes (widthOf file) (heightOf file) → ⊥ = λ l. n (read-number f ∙ sized-done bc6hFirst 1 file oneBytes (length file) fine l) in
             told 14 (refused-blocks file (length out) fine small wrong)
-            (e ∙ ap (λ (x : ℕ). record { answer = x; length = 0 }) (read-number f ∙ sized-blocks file (length file) fine wrong))
+            (e ∙ ap (λ (x : ℕ). record { answer = x; length = 0 }) (read-number f ∙ sized-blocks bc6hFirst 1 file oneBytes (length file) fine wrong))
 
         pub told-written : read .answer ≡ done → {part : List ℕ} → BlocksRead file part → {p : PfmWritten} {after : List ℕ}
             → PictureWritten part (read .format) (read .width) (read .height) out p after → Exported file out p after

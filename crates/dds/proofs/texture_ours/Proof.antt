@@ -11,4 +11,4 @@ returns c =
     rw (c .before .before .before .u32-at .ensures, c .before .before .u32-at2 .ensures, c .before .u32-at3 .ensures, c .u32-at4 .ensures) (simp (and-both, or-either))
 
 pub texture-ours-spec : {M : Type 1} → statement M
-texture-ours-spec = tie.close (tie.spec (λ c κs. search needs) (λ c κs. search needs) (λ c κs. search needs) (λ c κs. search needs) returns)
+texture-ours-spec = tie.close (tie.spec (λ c κs. search needs) (λ c. search needs) (λ c κs. search needs) (λ c κs. search needs) (λ c κs. search needs) returns)

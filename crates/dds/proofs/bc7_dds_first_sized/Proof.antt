@@ -1,0 +1,10 @@
+-- `dds::bc7_dds_first_sized` meets its contract. Assumes nothing.
+use borrow.Author.Needs.{needs}
+use Rattle.dds.proofs.bc7_dds_first_sized.Statement.{statement}
+use Rattle.dds.proofs.bc7_dds_first_sized.Tie as tie
+
+returns : tie.Need-returns
+returns c = c .sized-of .ensures
+
+pub bc7-dds-first-sized-spec : {M : Type 1} → statement M
+bc7-dds-first-sized-spec = tie.close (tie.spec (λ c κs. search needs) returns)

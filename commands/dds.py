@@ -45,13 +45,13 @@ def header_fault(data, first_level=False, as_pfm=False):
         return f"it has {len(data)} bytes, and the header alone has {HEADER}"
     levels, code, dxgi = word_at(data, 28), data[84:88], word_at(data, 128)
     most, limit = (MOST_LEVELS, f"{MOST_LEVELS} are the most") if first_level else (1, "only a texture of one level is taken")
-    way_out = "" if first_level or as_pfm else ": --first-level takes its first level"
+    way_out = "" if first_level else ": knot export --first-level takes its first level" if as_pfm else ": --first-level takes its first level"
     tests = [
         (word_at(data, 4) == 124, f"its header says that it has {word_at(data, 4)} bytes, and not 124"),
         (word_at(data, 76) == 32, f"its pixel format says that it has {word_at(data, 76)} bytes, and not 32"),
         (word_at(data, 80) & 4, "its pixel format has no code"),
         (code == b"DX10", f"its code is '{house.shown(code.decode('latin-1'))}' and not 'DX10'"),
-        (not as_pfm or dxgi not in (98, 99), f"its DXGI format is {dxgi}, which is BC7, and a Portable Float Map is made of BC6H"),
+        (not as_pfm or dxgi not in (98, 99), f"its DXGI format is {dxgi}, which is BC7, and a Portable Float Map is made of BC6H: knot export writes it as PNG or PAM"),
         (dxgi in FORMATS.values(), f"its DXGI format is {dxgi}, and BC6H's are 95 (unsigned) and 96 (signed), BC7's 98 and 99 (sRGB)"),
         (word_at(data, 132) == 3, f"its dimension is {word_at(data, 132)}, and not 3, a texture of two dimensions"),
         (not word_at(data, 136) & 4, "it is a cube map"),
@@ -69,6 +69,8 @@ def refused(number, data=b"", most=MOST_SIDE, **context):
     elif number == 14:
         sides = f"it is {word_at(data, 16):,} by {word_at(data, 12):,} pixels, and " if data else ""
         reason = f"{sides}a side has 1 to {most:,}"
+    if number in (14, 16) and context.get("as_pfm") and all(1 <= word_at(data, at) <= MOST_SIDE for at in (12, 16)):
+        reason = f"{reason or house.meaning(number)}: knot export takes it"
     return house.Refused(number, f"file refused {number}\n", reason)
 
 

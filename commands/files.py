@@ -47,6 +47,36 @@ def read(path, most):
         raise Trouble(f"{name}: {'it is closed, or a directory' if closed else reason(error)}") from None
 
 
+def opened(path, most):
+    """A file of which any part can be had without reading it whole, open. Standard input and a pipe are read whole all the same, as `read` does."""
+    global read_last
+    import stat
+    try:
+        if path not in (None, "-") and stat.S_ISREG(os.stat(path).st_mode):
+            read_last = shown(path)
+            return os.open(path, os.O_RDONLY | os.O_CLOEXEC)
+    except (OSError, ValueError) as error:
+        raise Trouble(f"{shown(path)}: {reason(error)}") from None
+    file = os.memfd_create("knot")
+    write_all(file, read(path, most))
+    return file
+
+
+def part(file, at, size):
+    """`size` bytes of an open file, which has them, from byte `at` on."""
+    pieces = []
+    while size:
+        try:
+            piece = os.pread(file, size, at)
+        except OSError as error:
+            raise Trouble(f"{read_last}: {reason(error)}") from None
+        if not piece:
+            raise Trouble(f"{read_last}: it ended early: it was longer when the command began")
+        pieces.append(piece)
+        at, size = at + len(piece), size - len(piece)
+    return b"".join(pieces)
+
+
 def write_all(file, data):
     rest = memoryview(data)
     while rest:

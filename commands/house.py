@@ -9,9 +9,9 @@ import sys
 
 from . import ends, files, line
 from .ends import DONE, REFUSED, TROUBLE, USAGE, Faulty, Refused, Signalled, Trouble, Usage, meaning  # noqa: F401
-from .files import is_standard_output, painted, put, read, reason, remark, say, shown, tell  # noqa: F401
+from .files import is_standard_output, opened, painted, part, put, read, reason, remark, say, shown, tell, write_all  # noqa: F401
 from .line import number  # noqa: F401
-from .programs import Text, ask, listed, over_store, program, program_at  # noqa: F401
+from .programs import Text, ask, listed, over_store, program, program_at, run_into  # noqa: F401
 from .records import BLOCK, PLACED_STORE, RECORD, STORE, no_record, record_answers, record_in, record_refused  # noqa: F401
 
 # The commands, in the order of `knot help`.
@@ -33,6 +33,7 @@ COMMANDS = [
     "probe",
     "dds",
     "pfm",
+    "export",
 ]
 ASKS_HELP = ("-h", "--help")
 # The options of knot itself, which stand alone, and what of about.py they start.
@@ -43,7 +44,7 @@ as_json = False
 
 
 # What few commands need comes from these modules when it is asked for: a start compiles what it imports.
-LATER = {"write_whole": "writing", "same_file": "writing", "keep_apart": "writing", "version": "about"}
+LATER = {"write_whole": "writing", "write_by": "writing", "same_file": "writing", "keep_apart": "writing", "version": "about"}
 
 
 def __getattr__(name):

@@ -6,7 +6,7 @@ program is, and takes nothing else. What a program writes to standard error is n
 import os
 
 from .ends import ROOT, Refused, Trouble, meaning, module_at
-from .files import reason, shown
+from .files import reason, shown, write_all
 
 INSTALLED = os.path.join(ROOT, "programs")
 # The SHA-256 sums of an installation, by the paths below its prefix.
@@ -72,39 +72,97 @@ def program_at(name):
     return installed if is_installed else os.path.join(ROOT, "target/built", name)
 
 
-def program(name, data, words=()):
-    """Runs a proved program over `data`: what it writes to standard output and to standard error."""
-    path = program_at(name)
-    runner = [] if os.uname().machine == "x86_64" else [os.path.join(ROOT, "tools/run")]
-    status, out, told = run([*runner, path, *words], data)
+def command_of(name, words):
+    """The words that run a proved program."""
+    return [*([] if os.uname().machine == "x86_64" else [os.path.join(ROOT, "tools/run")]), program_at(name), *words]
+
+
+def hold_status(name, status, told):
     if status != 0:
         ended = f"was ended by signal {-status}" if status < 0 else f"failed with status {status}"
         raise Trouble(f"the program {name} {ended}{told_last(told)}")
+
+
+def program(name, data, words=()):
+    """Runs a proved program over `data`, bytes or an open file: what it writes to standard output and to standard error."""
+    status, out, told = run(command_of(name, words), data)
+    hold_status(name, status, told)
     return out, told
 
 
-def run(words, data):
-    """A program's status, or less than 0 for a signal, and what it writes to both streams. The three streams are files in memory."""
-    streams = [os.memfd_create("knot") for _ in range(3)]
-    child = None
-    try:
-        rest = memoryview(data)
-        while rest:
-            rest = rest[os.write(streams[0], rest):]
-        os.lseek(streams[0], 0, os.SEEK_SET)
+class Child:
+    """A program that is started on three open files. It has ended when its block ends, however that does."""
+
+    def __init__(self, words, streams):
         actions = [(os.POSIX_SPAWN_DUP2, stream, number) for number, stream in enumerate(streams)]
-        child = os.posix_spawn(words[0], words, os.environ, file_actions=actions)
-        status = os.waitstatus_to_exitcode(os.waitpid(child, 0)[1])
-        child = None
+        self.number = os.posix_spawn(words[0], words, os.environ, file_actions=actions)
+
+    def __enter__(self):
+        return self
+
+    def status(self):
+        """How it ended: its status, or less than 0 for a signal."""
+        status = os.waitstatus_to_exitcode(os.waitpid(self.number, 0)[1])
+        self.number = None
+        return status
+
+    def __exit__(self, *_):
+        if self.number is not None:
+            os.kill(self.number, 9)
+            os.waitpid(self.number, 0)
+
+
+def run(words, data):
+    """A program's status, and what it writes to both streams. What it reads, where that is no open file yet, and what it writes are files in memory."""
+    streams = [os.memfd_create("knot") for _ in range(3)]
+    try:
+        if isinstance(data, int):
+            os.dup2(data, streams[0], inheritable=False)
+        else:
+            write_all(streams[0], data)
+        os.lseek(streams[0], 0, os.SEEK_SET)
+        with Child(words, streams) as child:
+            status = child.status()
         return status, contents(streams[1]), contents(streams[2])
     except OSError as error:
         raise Trouble(f"the program {os.path.basename(words[0])} could not be run: {reason(error)}") from None
     finally:
-        if child is not None:
-            os.kill(child, 9)
-            os.waitpid(child, 0)
         for stream in streams:
             os.close(stream)
+
+
+def run_into(name, pieces, out, size):
+    """Runs a proved program on the open file `out` as its standard output, of which it has to write `size` bytes; its standard input are the
+    pieces, one after the other, so that neither is ever in memory whole."""
+    words, told, (source, sink) = command_of(name, ()), os.memfd_create("knot"), os.pipe()
+    left = {told, source, sink}
+
+    def done_with(stream):
+        left.remove(stream)
+        os.close(stream)
+
+    try:
+        with Child(words, (source, out, told)) as child:
+            done_with(source)
+            try:
+                for piece in pieces:
+                    write_all(sink, piece)
+            except BrokenPipeError:
+                pass
+            done_with(sink)
+            status, last = child.status(), contents(told)
+    except OSError as error:
+        raise Trouble(f"the program {name} could not be run: {reason(error)}") from None
+    finally:
+        for stream in left:
+            os.close(stream)
+    hold_status(name, status, last)
+    there = os.fstat(out).st_size
+    if there != size:
+        # A program has no status of its own: where it could not write, this write says why.
+        os.lseek(out, 0, os.SEEK_END)
+        write_all(out, bytes(max(1, min(size - there, 1 << 20))))
+        raise Trouble(f"the program {name} did not end its output, {there:,} of {size:,} bytes{told_last(last)}")
 
 
 def contents(stream):

@@ -10,6 +10,8 @@ from .files import is_standard_output, put, reason, shown, write_all, written
 NO_LINKS = {errno.EPERM, errno.EOPNOTSUPP, errno.ENOTSUP, errno.ENOSYS, errno.EINVAL, errno.EMLINK, errno.EACCES}
 NO_SYNC = {errno.EINVAL, errno.EOPNOTSUPP, errno.ENOTSUP, errno.EROFS, errno.EBADF}
 CURRENT_FOLDER, NO_REPLACE = -100, 1
+# The bytes that are copied at a time.
+PIECE = 1 << 20
 
 
 def write_whole(path, data, over=True):
@@ -19,17 +21,55 @@ def write_whole(path, data, over=True):
     if is_standard_output(path):
         put(data)
         return
+
+    def make(file):
+        write_all(file, data)
+        return len(data)
+
+    with_folder(path, over, make, lambda target: write_in_place(target, [data]))
+
+
+def write_by(path, make):
+    """The same of a file that is never in memory whole: `make` writes the open file, and answers how many bytes it then has to have.
+
+    What has no beside gets what is whole too: it is made in another place first."""
+    if is_standard_output(path):
+        pass_on(path, make, lambda pieces: [put(piece) for piece in pieces])
+        return
+    with_folder(path, True, make, lambda target: pass_on(path, make, lambda pieces: write_in_place(target, pieces)))
+
+
+def with_folder(path, over, make, in_place):
+    """Writes a file beside its place, or `in_place` what has none, and syncs the folder."""
     try:
         # A link is followed to what is written over, and is itself in the way of what may not be.
         target = os.path.realpath(path) if over else os.path.abspath(path)
         if over and is_special(target):
-            write_in_place(target, data)
+            in_place(target)
         else:
-            write_beside(target, data, over)
+            write_beside(target, make, over)
     except (OSError, ValueError) as error:
         raise Trouble(f"{shown(path)}: {reason(error)}") from None
     written.append(path)
     sync_folder(path, os.path.dirname(target))
+
+
+def pass_on(path, make, write):
+    """Makes a file that has no name, and writes it where it is whole."""
+    import tempfile
+    try:
+        with tempfile.TemporaryFile(buffering=0) as file:
+            hold_whole(file.fileno(), make)
+            file.seek(0)
+            write(iter(lambda: file.read(PIECE), b""))
+    except OSError as error:
+        raise Trouble(f"{shown(path)}: {reason(error)}") from None
+
+
+def hold_whole(file, make):
+    wanted, there = make(file), os.fstat(file).st_size
+    if there != wanted:
+        raise Trouble(f"{there:,} of {wanted:,} bytes were written, and nothing is kept of them")
 
 
 def is_special(target):
@@ -41,10 +81,11 @@ def is_special(target):
     return not stat.S_ISREG(mode) and not stat.S_ISDIR(mode)
 
 
-def write_in_place(target, data):
+def write_in_place(target, pieces):
     file = os.open(target, os.O_WRONLY | os.O_CLOEXEC)
     try:
-        write_all(file, data)
+        for piece in pieces:
+            write_all(file, piece)
     finally:
         os.close(file)
 
@@ -61,13 +102,13 @@ def heed_signals():
             signal.signal(number_of, end)
 
 
-def write_beside(target, data, over):
+def write_beside(target, make, over):
     heed_signals()
     beside = os.path.join(os.path.dirname(target), f".knot-{os.urandom(6).hex()}")
     try:
-        file = os.open(beside, os.O_WRONLY | os.O_CREAT | os.O_EXCL | os.O_CLOEXEC, 0o666)
+        file = os.open(beside, os.O_RDWR | os.O_CREAT | os.O_EXCL | os.O_CLOEXEC, 0o666)
         try:
-            write_all(file, data)
+            hold_whole(file, make)
             os.fsync(file)
         finally:
             os.close(file)

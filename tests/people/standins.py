@@ -69,6 +69,8 @@ def commands(folder):
         "place": [SAMPLES / "twins.store", out], "unplace": [SAMPLES / "unplaced.places", out],
         "probe": [probe, "2"], "probe of a face": [probe, "2", "0", out],
         "dds": [five], "dds --first-level": ["--first-level", SAMPLES / "levels.dds"], "dds --relabel": ["--relabel", "unsigned", five, out], "dds --blocks": ["--blocks", five, out], "dds --make": ["--make", "5", "3", "signed", folder / "blocks", out], "pfm": [SAMPLES / "eight.dds", out],
+        "export": [five, out, "--kind", "exr"], "export as PFM": [five, out, "--kind", "pfm"], "export as PNG": [five, out, "--kind", "png"], "export of a record": [four, "0", out, "--kind", "png"],
+        "export of a face": [probe, "--face", "0", out, "--kind", "exr"], "export of BC7": [SAMPLES / "bc7.dds", out, "--kind", "png"],
     }
 
 

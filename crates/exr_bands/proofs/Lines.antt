@@ -10,7 +10,7 @@ use Rattle.laws.specs.Made.{made, join}
 use Rattle.laws.proofs.Rows.{made-same}
 use Rattle.laws.proofs.Joined.{run-at}
 use Rattle.pfm_floats.proofs.Stores.{sets-append}
-use Rattle.pfm.proofs.Places.{part-of}
+use Rattle.laws.proofs.Taken.{part-of-part}
 use Rattle.pfm_bands.proofs.Runs.{run-take, Filled, fill-end}
 use Rattle.exr.specs.File.{halfAt, channelAt, valuesAt, headOf}
 use Rattle.exr.specs.Bands.{runAt, bandLine, bandAt}
@@ -151,7 +151,7 @@ module _ (band : List ℕ) (format across first : ℕ) where
         → take (2 * width) (drop ((8 + 24 * across) * row + from) lines) ≡ channelAt band format across width channel row
     unfolding channelAt
     channel-cropped row channel from tail h fits d =
-        sym (part-of lines ((8 + 24 * across) * row) from (8 + 24 * across) (2 * width) fits)
+        sym (part-of-part lines ((8 + 24 * across) * row) from (8 + 24 * across) (2 * width) fits)
         ∙ ap (λ (t : List ℕ). take (2 * width) (drop from t)) (line-at row h)
         ∙ ap (take (2 * width)) d
         ∙ run-take (halfAt band format across channel row) 2 (length-half band format across channel row) width (4 * across) tail w

@@ -12,7 +12,7 @@ use Rattle.bc6h_spec.specs.Block.{pixelsOf}
 use Rattle.dds.specs.Dds.{blocksAlong}
 use Rattle.pfm_header.specs.Header.{headerOf}
 use Rattle.pfm.specs.File.{pixelBytes, pixelAt, rowAt, rowUp, bodyOf, fileIn, fileOf}
-use Rattle.pfm.proofs.Places.{part-of}
+use Rattle.laws.proofs.Taken.{part-of-part}
 use Rattle.pfm_bands.specs.Bands.{pictureOf, bandIn, rowsIn, fromBottom, pieceUp}
 use Rattle.pfm_bands.proofs.Runs.{behind, run-pieces}
 
@@ -22,7 +22,7 @@ use Rattle.pfm_bands.proofs.Runs.{behind, run-pieces}
 band-block : (blocks : List ℕ) (across d k : ℕ) → k < across → blockAt (bandIn blocks across d) k ≡ blockAt blocks (d * across + k)
 band-block blocks across d k h =
     let place : 16 * across * d + 16 * k ≡ 16 * (d * across + k) = omega arith in
-    part-of blocks (16 * across * d) (16 * k) (16 * across) 16 (omega arith) ∙ ap (λ (n : ℕ). take 16 (drop n blocks)) place
+    part-of-part blocks (16 * across * d) (16 * k) (16 * across) 16 (omega arith) ∙ ap (λ (n : ℕ). take 16 (drop n blocks)) place
 
 -- the block of pixel (x, row) there, in the picture
 pub band-place : (blocks : List ℕ) (across d row x : ℕ) → row < 4 → x < 4 * across

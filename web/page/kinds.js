@@ -5,7 +5,8 @@ const PLAIN = 24, PLACED = 32, PLAIN_LIMIT = 48000, PLACED_LIMIT = 64000;
 const NO_PLACE = "255 0 0 0 0";  // face, column and row of a record that is not placed, byte by byte
 const BC7_FORMAT = 2;  // the number that stands here for BC7, beside 0 unsigned and 1 signed
 const DDS_FORMATS = { 95: "BC6H unsigned", 96: "BC6H signed", 97: "BC7", 98: "BC7", 99: "BC7 sRGB" };
-const BC7_NUMBERS = [97, 98, 99];
+const BC7_NUMBERS = [97, 98, 99], BC7_UNTYPED = 97, BC7_TYPED = 98;
+const MOST_LEVELS = 13;
 // Other DXGI formats that one meets in DDS files.
 const OTHER_FORMATS = {
   2: "RGBA, 32-bit float", 10: "RGBA, 16-bit float", 28: "RGBA, 8 bits", 29: "RGBA, 8 bits, sRGB",
@@ -67,16 +68,19 @@ function kindOf(knot, name, bytes) {
   return bytes.length % 16 === 0 && 2 * plain.share > 1 ? "unsigned" : "store";
 }
 
+// The 32-bit number at a byte of a DDS file, low byte first; 0 where the file ends before.
+const ddsWord = (bytes, at) => bytes.length >= at + 4 ? new DataView(bytes.buffer, bytes.byteOffset).getUint32(at, true) : 0;
+
 // Why a DDS file's header is not one that is read, in words; null where this does not say.
 function ddsCause(bytes) {
   if (!startsWith(bytes, "DDS ")) return "It does not begin as a DDS file does.";
   if (bytes.length < 148) return `It has ${bytes.length} bytes, and the headers alone have 148.`;
-  const view = new DataView(bytes.buffer, bytes.byteOffset), word = (at) => view.getUint32(at, true), code = String.fromCharCode(...bytes.subarray(84, 88));
+  const word = (at) => ddsWord(bytes, at), code = String.fromCharCode(...bytes.subarray(84, 88));
   if (code !== "DX10") return /^[\x20-\x7e]{4}$/.test(code) ? `It has no DX10 header; its format is ${code}.` : "It has no DX10 header: it is an older DDS file.";
   const format = word(128);
   const other = OTHER_FORMATS[format] ? `, ${OTHER_FORMATS[format]}` : "";
   if (!(format in DDS_FORMATS)) return `Its format is DXGI number ${format}${other}. This page reads 95 and 96 (BC6H) and 97 to 99 (BC7).`;
-  if (word(28) > 1) return `It has ${word(28)} mip levels; only files with one level are read.`;
+  if (word(28) > MOST_LEVELS) return `It has ${word(28)} mip levels; a file has at most ${MOST_LEVELS}.`;
   if (word(136) & 4) return "It is a cube map; only single pictures are read. A probe of six faces is read as a store of records with a place.";
   if (word(140) > 1) return `It is an array of ${word(140)} pictures; only single ones are read.`;
   if (word(132) !== 3) return "It is not a picture of two dimensions.";

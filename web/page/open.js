@@ -1,7 +1,7 @@
 "use strict";
 // Opens a file in this page: dropped, chosen, a sample, or the one that `knot open` put in.
 
-const { Knotpasture, Program, Refused, WORDS, VERSION, BC7_RESERVED, DDS_HEADER, FACES, EDGE_LIMIT } = knotpasture;
+const { Knotpasture, Program, Refused, WORDS, VERSION, BC7_RESERVED, FACES, EDGE_LIMIT } = knotpasture;
 const at = (id) => document.getElementById(id);
 const fromBase64 = (text) => Uint8Array.from(atob(text), (letter) => letter.charCodeAt(0));
 const held = JSON.parse(at("held").textContent);

@@ -115,13 +115,14 @@ async function showPicture(view, { blocks, across, down, width, height, format, 
     }, aloud);
   });
   const pfm = pushed("Save PFM", () => save(`${stem(file.name)}.pfm`, new Blob([knot.pfmWrite(blocks, format, width, height)])));
-  if (width % 4 || height % 4) Object.assign(pfm, { disabled: true, title: "A Portable Float Map needs a width and a height that are multiples of 4" });
+  const exr = pushed("Save EXR", () => save(`${stem(file.name)}.exr`, new Blob([knot.exrWrite(blocks, format, width, height)])));
+  if (width % 4 || height % 4) for (const button of [pfm, exr]) Object.assign(button, { disabled: true, title: "The page saves this where width and height are multiples of 4; knot export takes every size" });
   box.append(make("p", { class: "hint", "aria-hidden": "true" }, "Drag to move, wheel or pinch to zoom, click to keep a pixel"));
   const rows = [["kind", kind], ["size", `${width.toLocaleString("en")} × ${height.toLocaleString("en")} pixels`], ["format", FORMATS[format]],
     ["blocks", `${(across * down).toLocaleString("en")}: ${across} × ${down}`], ...(isBc7 ? [] : [["minus infinity", infinite ? count(infinite, "value") : "none"]]), ["decoded in", `${took.toFixed(took < 10 ? 1 : 0)} ms`], view.sumRow()];
   const png = pushed("Save PNG", () => savePng(stage, `${stem(file.name)}.png`));
   view.fill(make("div", { class: "work" },
-    make("div", { class: "shown" }, stageTools(stage, ...(isBc7 ? [] : [pfm]), png), box, inspector.brief, ...(isBc7 ? [] : [legend()])),
+    make("div", { class: "shown" }, stageTools(stage, ...(isBc7 ? [] : [pfm, exr]), png), box, inspector.brief, ...(isBc7 ? [] : [legend()])),
     make("aside", { class: "side", "aria-label": "Facts" }, inspector.box, make("section", { class: "card" }, make("h2", {}, "File"), factList(rows)), modesCard(modes, isBc7))));
   view.stage = stage;
   view.onRedraw(() => { stage.draw(); inspector.redraw(); });
@@ -129,18 +130,24 @@ async function showPicture(view, { blocks, across, down, width, height, format, 
   view.light(isBc7 ? 0 : middleExposure(values), isBc7 ? ["one"] : ["one", "false"]);
 }
 
-// The library's call reads BC6H. Of a BC7 file it reads a copy whose format number says BC6H, so that it checks everything but that number.
-function readDds(knot, bytes) {
-  const number = bytes.length >= 132 ? new DataView(bytes.buffer, bytes.byteOffset).getUint32(128, true) : 0;
-  if (!BC7_NUMBERS.includes(number)) return knot.ddsRead(bytes);
+// BC7 without a type is read as BC7: of such a file a copy says so.
+function asTyped(bytes) {
   const copy = bytes.slice();
-  copy[128] = 95;
-  return { ...knot.ddsRead(copy), format: BC7_FORMAT };
+  copy[128] = BC7_TYPED;
+  return copy;
+}
+
+// Size, format and blocks of a DDS file: of its largest level, where it has several.
+function readDds(knot, bytes) {
+  const number = ddsWord(bytes, 128);
+  if (!BC7_NUMBERS.includes(number)) return knot.ddsFirstLevel(bytes);
+  return { ...knot.bc7DdsFirstLevel(number === BC7_UNTYPED ? asTyped(bytes) : bytes), format: BC7_FORMAT };
 }
 
 function showDds(view) {
-  const { width, height, format } = readDds(view.knot, view.file.bytes), blocks = view.file.bytes.subarray(DDS_HEADER);
-  return showPicture(view, { blocks, across: Math.ceil(width / 4), down: Math.ceil(height / 4), width, height, format, kind: "DDS texture" });
+  const { width, height, format, blocks } = readDds(view.knot, view.file.bytes), levels = ddsWord(view.file.bytes, 28);
+  const kind = levels > 1 ? `DDS texture, the largest of ${levels} levels` : "DDS texture";
+  return showPicture(view, { blocks, across: Math.ceil(width / 4), down: Math.ceil(height / 4), width, height, format, kind });
 }
 
 // How many blocks a row of bare blocks has: as asked, where that fits; else the divisor next above the root, so that the picture is wide rather than high.

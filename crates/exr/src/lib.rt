@@ -35,7 +35,7 @@ impl ExrWritten {
 }
 
 // A pattern, its low byte first.
-fn put_half(half: u16, out: &mut [u8], at: usize)
+pub fn put_half(half: u16, out: &mut [u8], at: usize)
     requires { ⌜ at + 2 ≤ length (now out) ⌝ }
     ensures { λ _. ⌜ now (out .exit) ≡ sets (now (out .entry)) at (lowFirst 2 half) ⌝ }
 {
@@ -82,7 +82,7 @@ fn put_block(values: &[u16; 48], across: usize, out: &mut [u8], column: usize)
 }
 
 // What stands before the values of a line: its number, and how many bytes they have.
-fn put_head(across: usize, y: usize, out: &mut [u8], at: usize)
+pub fn put_head(across: usize, y: usize, out: &mut [u8], at: usize)
     requires { ⌜ (across ≤ 1024) × (at + 8 ≤ length (now out)) ⌝ }
     ensures { λ _. ⌜ now (out .exit) ≡ sets (now (out .entry)) at (headOf (4 * across) y) ⌝ }
 {

@@ -23,7 +23,7 @@ module _ (input out : List ℕ) (r : Bc7BlocksPixels) (after : List ℕ) (p : Ru
       record {
         answers = rw (eq-eqb (length input % 16) 0 s) (ap (λ (n : ℕ). 64 * n) b);
         holds = rw (eq-eqb (length input % 16) 0 s) (rw z at (p .holds));
-        fits = omega (arith, b)
+        fits = omega (arith, b);
       }
 
   uneven : (length input % 16 ≡ 0 → ⊥) → Decoded input out (64 * r .blocks) after
@@ -34,7 +34,7 @@ module _ (input out : List ℕ) (r : Bc7BlocksPixels) (after : List ℕ) (p : Ru
       record {
         answers = rw (ne-eqb (length input % 16) 0 n) (ap (λ (n : ℕ). 64 * n) b);
         holds = rw (ne-eqb (length input % 16) 0 n) (rw z at (p .holds));
-        fits = omega (arith, b)
+        fits = omega (arith, b);
       }
 
   pub decoded : 64 * (length input / 16) ≤ length out → Decoded input out (64 * r .blocks) after

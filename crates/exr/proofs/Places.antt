@@ -31,19 +31,19 @@ module _ (head blue green red : List ℕ) (n : ℕ) (h : length head ≡ 8) (b :
 module _ (blocks : List ℕ) (format across width y : ℕ) where
   line-blue : drop 8 (lineAt blocks format across width y) ≡ valuesAt blocks format across width y
   unfolding lineAt
-  line-blue = 
+  line-blue =
       behind-head (headOf width y) (channelAt blocks format across width 2 y) (channelAt blocks format across width 1 y) (channelAt blocks format across width 0 y) (2 * width)
       (length-head width y) (length-channel blocks format across width 2 y) (length-channel blocks format across width 1 y)
 
   line-green : drop (8 + 2 * width) (lineAt blocks format across width y) ≡ channelAt blocks format across width 1 y ++ channelAt blocks format across width 0 y
   unfolding lineAt
-  line-green = 
+  line-green =
       behind-blue (headOf width y) (channelAt blocks format across width 2 y) (channelAt blocks format across width 1 y) (channelAt blocks format across width 0 y) (2 * width)
       (length-head width y) (length-channel blocks format across width 2 y) (length-channel blocks format across width 1 y)
 
   line-red : drop (8 + 2 * width + 2 * width) (lineAt blocks format across width y) ≡ channelAt blocks format across width 0 y
   unfolding lineAt
-  line-red = 
+  line-red =
       behind-green (headOf width y) (channelAt blocks format across width 2 y) (channelAt blocks format across width 1 y) (channelAt blocks format across width 0 y) (2 * width)
       (length-head width y) (length-channel blocks format across width 2 y) (length-channel blocks format across width 1 y)
 

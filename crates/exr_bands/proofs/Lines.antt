@@ -8,10 +8,12 @@ use lib.ListN.{length, take, drop, length-append, length-drop}
 use lib.Seq.{sets, sets-eq, paste, length-take-le, length-sets}
 use Rattle.laws.specs.Made.{made, join}
 use Rattle.laws.proofs.Rows.{made-same}
-use Rattle.laws.proofs.Joined.{run-at}
+use Rattle.laws.proofs.Joined.{run-length, run-at}
 use Rattle.pfm_floats.proofs.Stores.{sets-append}
 use Rattle.laws.proofs.Taken.{part-of-part}
 use Rattle.pfm_bands.proofs.Runs.{run-take, Filled, fill-end}
+use Rattle.dds.specs.Dds.{blocksAlong}
+use Rattle.exr_header.specs.Header.{lineLength}
 use Rattle.exr.specs.File.{halfAt, channelAt, valuesAt, headOf}
 use Rattle.exr.specs.Bands.{runAt, bandLine, bandAt}
 use Rattle.exr.proofs.Bands.{length-head}
@@ -109,6 +111,17 @@ module _ (lines : List ℕ) (across width first : ℕ) where
 
 -- ---- what the lines are
 
+pub piece-length : (band : List ℕ) (format across width first row : ℕ) → length (pieceLine band format across width first row) ≡ lineLength width
+unfolding pieceLine lineLength
+piece-length band format across width first row =
+    let c : (channel : ℕ) → length (channelAt band format across width channel row) ≡ 2 * width = λ channel. length-channel band format across width channel row in
+    simp length-append (omega (arith, length-head width (first + row), c 0, c 1, c 2))
+
+pub pieces-length : (band : List ℕ) (format width first rows : ℕ) → length (pieceOf band format width first rows) ≡ lineLength width * rows
+unfolding pieceOf
+pieces-length band format width first rows =
+    run-length (pieceLine band format (blocksAlong width) width first) (lineLength width) (piece-length band format (blocksAlong width) width first) rows
+
 module _ (band : List ℕ) (format across first : ℕ) where
   run-channel : (channel row : ℕ) → row < 4 → runAt band format 0 across channel row ≡ channelAt band format across (4 * across) channel row
   run-channel channel row h =
@@ -124,10 +137,8 @@ module _ (band : List ℕ) (format across first : ℕ) where
       (ap₂ (λ (s t : List ℕ). s ++ t) (run-channel 2 row h) (ap₂ (λ (s t : List ℕ). s ++ t) (run-channel 1 row h) (run-channel 0 row h)))
 
   wide-length : (row : ℕ) → length (pieceLine band format across (4 * across) first row) ≡ 8 + 24 * across
-  unfolding pieceLine
-  wide-length row =
-      let c : (channel : ℕ) → length (channelAt band format across (4 * across) channel row) ≡ 2 * (4 * across) = λ channel. length-channel band format across (4 * across) channel row in
-      simp length-append (omega (arith, length-head (4 * across) (first + row), c 0, c 1, c 2))
+  unfolding lineLength
+  wide-length row = let e : length (pieceLine band format across (4 * across) first row) ≡ 8 + 6 * (4 * across) = piece-length band format across (4 * across) first row in omega arith
 
   -- a row of blocks is four lines
   four-lines : bandAt band format 0 across first ≡ join (made (pieceLine band format across (4 * across) first) 4)

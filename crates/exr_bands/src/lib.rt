@@ -11,7 +11,15 @@ use exr::put_head;
 use raw_bytes::copy_part;
 
 // The line of `lines` that begins at `at`, cropped to `width` pixels, as line y; it goes to `to`.
-fn crop_line(lines: &[u8], at: usize, across: usize, width: usize, y: usize, out: &mut [u8], to: usize)
+fn crop_line(
+    lines: &[u8],
+    at: usize,
+    across: usize,
+    width: usize,
+    y: usize,
+    out: &mut [u8],
+    to: usize,
+)
     requires { ⌜ (across ≤ 1024) × (width ≤ 4 * across) ⌝ }
     requires { ⌜ (at + (8 + 24 * across) ≤ length (now lines)) × (to + (8 + 6 * width) ≤ length (now out)) ⌝ }
     ensures { λ _. ⌜ now (out .exit) ≡ sets (now (out .entry)) to (croppedAt (now (lines .entry)) at across width y) ⌝ }
@@ -30,13 +38,29 @@ fn crop_lines(lines: &[u8], across: usize, width: usize, first: usize, rows: usi
     ensures { λ _. ⌜ now (out .exit) ≡ croppedLines (now (lines .entry)) across width first rows ++ drop ((8 + 6 * width) * rows) (now (out .entry)) ⌝ }
 {
     for row in 0..rows {
-        crop_line(lines, (8 + 24 * across) * row, across, width, first + row, out, (8 + 6 * width) * row);
+        crop_line(
+            lines,
+            (8 + 24 * across) * row,
+            across,
+            width,
+            first + row,
+            out,
+            (8 + 6 * width) * row,
+        );
     }
 }
 
 // What the file has of a row of blocks: its first `rows` lines, cropped to `width` pixels, with numbers from `first` on. Answers how many bytes
 // that is. `lines` takes the four lines before they are cropped.
-pub fn put_lines(band: &[u8], format: u8, width: usize, first: usize, rows: usize, lines: &mut [u8], out: &mut [u8]) -> usize
+pub fn put_lines(
+    band: &[u8],
+    format: u8,
+    width: usize,
+    first: usize,
+    rows: usize,
+    lines: &mut [u8],
+    out: &mut [u8],
+) -> usize
     requires { ⌜ LinesFit format width first rows (length (now band)) (length (now lines)) (length (now out)) ⌝ }
     ensures { λ r. ⌜ LinesPut (now (band .entry)) format width first rows (now (out .entry)) r (now (out .exit)) ⌝ }
 {

@@ -16,13 +16,26 @@ fn crop_rows(lines: &[u8], across: usize, width: usize, rows: usize, out: &mut [
 {
     let hidden = 4 - rows;
     for i in 0..rows {
-        copy_part(lines, 48 * across * (hidden + i), 12 * width, out, 12 * width * i);
+        copy_part(
+            lines,
+            48 * across * (hidden + i),
+            12 * width,
+            out,
+            12 * width * i,
+        );
     }
 }
 
 // What the file has of a row of blocks: its first `rows` rows of pixels, the lowest first, each cropped to `width` pixels. Answers how many bytes
 // that is. `lines` takes the four rows before they are cropped.
-pub fn put_rows(band: &[u8], format: u8, width: usize, rows: usize, lines: &mut [u8], out: &mut [u8]) -> usize
+pub fn put_rows(
+    band: &[u8],
+    format: u8,
+    width: usize,
+    rows: usize,
+    lines: &mut [u8],
+    out: &mut [u8],
+) -> usize
     requires { ⌜ RowsFit format width rows (length (now band)) (length (now lines)) (length (now out)) ⌝ }
     ensures { λ r. ⌜ RowsPut (now (band .entry)) format width rows (now (out .entry)) r (now (out .exit)) ⌝ }
 {

@@ -61,7 +61,16 @@ fn rows_in(height: u32, d: usize) -> usize
 }
 
 // What the file has of the row of blocks of turn n; answers how many bytes that is.
-fn put_piece(kind: u8, format: u8, width: u32, height: u32, n: usize, band: &[u8], lines: &mut [u8], out: &mut [u8]) -> usize
+fn put_piece(
+    kind: u8,
+    format: u8,
+    width: u32,
+    height: u32,
+    n: usize,
+    band: &[u8],
+    lines: &mut [u8],
+    out: &mut [u8],
+) -> usize
     requires { ⌜ WishOurs kind format width height × (n < blocksAlong height) × (blockSize * blocksAlong width ≤ length (now band)) ⌝ }
     requires { ⌜ (196608 ≤ length (now lines)) × (196608 ≤ length (now out)) ⌝ }
     ensures { λ r. ⌜ Says (pieceFor kind format width height n (now (band .entry))) (now (out .exit)) r ⌝ }
@@ -70,7 +79,15 @@ fn put_piece(kind: u8, format: u8, width: u32, height: u32, n: usize, band: &[u8
         let rows = rows_in(height, blocks_along(height) - 1 - n);
         return put_rows(band, format, width as usize, rows, lines, out);
     }
-    put_lines(band, format, width as usize, 4 * n, rows_in(height, n), lines, out)
+    put_lines(
+        band,
+        format,
+        width as usize,
+        4 * n,
+        rows_in(height, n),
+        lines,
+        out,
+    )
 }
 
 // What goes out first is what stands before the rows of blocks.
@@ -81,14 +98,32 @@ fn write_start(kind: u8, width: u32, height: u32, out: &[u8], end: usize) -> boo
 }
 
 // What goes out then is the piece of the row of blocks that was read.
-fn write_piece(kind: u8, format: u8, width: u32, height: u32, n: usize, band: &[u8], out: &[u8], end: usize) -> bool
+fn write_piece(
+    kind: u8,
+    format: u8,
+    width: u32,
+    height: u32,
+    n: usize,
+    band: &[u8],
+    out: &[u8],
+    end: usize,
+) -> bool
     requires { ⌜ Says (pieceFor kind format width height n (now band)) (now out) end ⌝ }
 {
     io::write_all(STDOUT_FILENO, &out[..end])
 }
 
 // Reads the row of blocks of turn n and writes its piece; answers whether to go on.
-fn export_band(kind: u8, format: u8, width: u32, height: u32, n: usize, band: &mut [u8], lines: &mut [u8], out: &mut [u8]) -> bool
+fn export_band(
+    kind: u8,
+    format: u8,
+    width: u32,
+    height: u32,
+    n: usize,
+    band: &mut [u8],
+    lines: &mut [u8],
+    out: &mut [u8],
+) -> bool
     requires { ⌜ WishOurs kind format width height × (n < blocksAlong height) ⌝ }
     requires { ⌜ (16384 ≤ length (now band)) × (196608 ≤ length (now lines)) × (196608 ≤ length (now out)) ⌝ }
 {
@@ -100,7 +135,15 @@ fn export_band(kind: u8, format: u8, width: u32, height: u32, n: usize, band: &m
     write_piece(kind, format, width, height, n, &band[..size], out, end)
 }
 
-fn export_bands(kind: u8, format: u8, width: u32, height: u32, band: &mut [u8], lines: &mut [u8], out: &mut [u8])
+fn export_bands(
+    kind: u8,
+    format: u8,
+    width: u32,
+    height: u32,
+    band: &mut [u8],
+    lines: &mut [u8],
+    out: &mut [u8],
+)
     requires { ⌜ WishOurs kind format width height ⌝ }
     requires { ⌜ (16384 ≤ length (now band)) × (196608 ≤ length (now lines)) × (196608 ≤ length (now out)) ⌝ }
 {
@@ -129,7 +172,9 @@ fn main() {
     let got = io::read_full(STDIN_FILENO, &mut wish);
     let width = u32_at(&wish, 2);
     let height = u32_at(&wish, 6);
-    if got == WISH && is_ours(wish[0], wish[1], width, height) {
-        export(wish[0], wish[1], width, height);
+    if got == WISH {
+        if is_ours(wish[0], wish[1], width, height) {
+            export(wish[0], wish[1], width, height);
+        }
     }
 }

@@ -18,12 +18,12 @@ def beside(folder):
 
 
 places, probe = beside("places"), beside("probe")
-MODES = {0b00: 1, 0b01: 2, 0b00010: 3, 0b00110: 4, 0b01010: 5, 0b01110: 6, 0b10010: 7, 0b10110: 8, 0b11010: 9, 0b11110: 10, 0b00011: 11, 0b00111: 12, 0b01011: 13, 0b01111: 14}
+MODES = {0b00010: 3, 0b00110: 4, 0b01010: 5, 0b01110: 6, 0b10010: 7, 0b10110: 8, 0b11010: 9, 0b11110: 10, 0b00011: 11, 0b00111: 12, 0b01011: 13, 0b01111: 14}
 
 
 def mode_of(block):
     """S-11: two bits; if they are 10 or 11, three more above them. 0 for a reserved mode."""
-    return MODES.get(block[0] % 4) or MODES.get(block[0] % 32, 0)
+    return MODES.get(block[0] % 32, 0) if block[0] & 2 else 1 + block[0] % 2
 
 
 def store_refusal(store):

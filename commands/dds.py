@@ -1,9 +1,10 @@
-"""Reads and writes DDS files: one BC6H texture of one level under the DX10 header.
+"""Reads and writes DDS files: one BC6H or BC7 texture under the DX10 header.
 
 It prints the width, the height, the format and the number of blocks of FILE; without one it reads standard input. --blocks writes the block
-bytes of FILE to OUT. --make writes a DDS file of the BLOCK-BYTES to OUT; FORMAT is signed or unsigned. A refused file is the line
-'file refused' and the number, and nothing is written: 13 the header is not ours, 14 a side is not 1 to 4,096, 15 the block bytes are short
-or left over.
+bytes of FILE to OUT. A texture with mip levels is refused unless --first-level asks for its first level. --make writes a DDS file of the
+BLOCK-BYTES to OUT; FORMAT is unsigned, signed, bc7 or bc7-srgb. --relabel writes a BC6H file anew as signed or unsigned, with the same blocks:
+some encoders label signed files as unsigned. A refused file is the line 'file refused' and the number, and nothing is written: 13 the header
+is not ours, 14 a side is not 1 to 4,096, 15 the block bytes are short or left over.
 """
 from . import fieldtext, house
 from .line import JSON, Line, Option
@@ -12,62 +13,81 @@ LINE = Line(
     "[FILE]",
     "--blocks FILE OUT",
     "--make WIDTH HEIGHT FORMAT BLOCK-BYTES OUT",
-    options=[Option("--blocks", "write the block bytes alone"), Option("--make", "write a DDS file"), JSON],
-    example="knot dds samples/five.dds\nknot dds --blocks samples/five.dds five.blocks\nknot dds --make 5 3 signed five.blocks again.dds",
+    "--relabel FORMAT FILE OUT",
+    options=[
+        Option("--blocks", "write the block bytes alone"),
+        Option("--make", "write a DDS file"),
+        Option("--relabel", "write a BC6H file anew as signed or unsigned"),
+        Option("--first-level", "of a texture with mip levels take the first"),
+        JSON,
+    ],
+    example="knot dds samples/five.dds\nknot dds --first-level samples/levels.dds\nknot dds --blocks samples/five.dds five.blocks\n"
+    "knot dds --make 5 3 signed five.blocks again.dds\nknot dds --relabel unsigned again.dds other.dds",
 )
-HEADER, MOST_BLOCKS = 148, 1 << 24
-MOST_SIDE = 4096
+# The bytes before the blocks, the most block bytes of one level and of all, and the most pixels on a side.
+HEADER, MOST_BLOCKS, MOST_CHAIN, MOST_SIDE = 148, 1 << 24, 22_369_648, 4096
+MOST_LEVELS = 13
 HIGHEST = 2**32 - 1
+# The formats by the number that run_dds answers, each with its DXGI number.
+FORMATS = {"unsigned": 95, "signed": 96, "bc7": 98, "bc7-srgb": 99}
+NAMES = list(FORMATS)
 
 
 def word_at(data, at):
     return int.from_bytes(data[at:at + 4], "little")
 
 
-def header_fault(data):
-    """Why a header is none of ours, in words: the first of the tests of S-61 that it fails. The proved program decides; this only tells."""
+def header_fault(data, first_level=False, as_pfm=False):
+    """Why a header is none of ours, in words: a test of S-61, S-94 or S-95 that it fails. The proved program decides; this only tells."""
     if data[:4] != b"DDS ":
         return "it does not begin with 'DDS ', as a DDS file does"
     if len(data) < HEADER and data[84:88] in (b"DX10", b""):
         return f"it has {len(data)} bytes, and the header alone has {HEADER}"
     levels, code, dxgi = word_at(data, 28), data[84:88], word_at(data, 128)
+    most, limit = (MOST_LEVELS, f"{MOST_LEVELS} are the most") if first_level else (1, "only a texture of one level is taken")
+    way_out = "" if first_level or as_pfm else ": --first-level takes its first level"
     tests = [
         (word_at(data, 4) == 124, f"its header says that it has {word_at(data, 4)} bytes, and not 124"),
-        (levels <= 1, f"it has {levels:,} mip levels, and only a texture of one level is taken"),
         (word_at(data, 76) == 32, f"its pixel format says that it has {word_at(data, 76)} bytes, and not 32"),
         (word_at(data, 80) & 4, "its pixel format has no code"),
         (code == b"DX10", f"its code is '{house.shown(code.decode('latin-1'))}' and not 'DX10'"),
-        (dxgi in (95, 96), f"its DXGI format is {dxgi}, and BC6H's are 95 (unsigned) and 96 (signed)"),
+        (not as_pfm or dxgi not in (98, 99), f"its DXGI format is {dxgi}, which is BC7, and a Portable Float Map is made of BC6H"),
+        (dxgi in FORMATS.values(), f"its DXGI format is {dxgi}, and BC6H's are 95 (unsigned) and 96 (signed), BC7's 98 and 99 (sRGB)"),
         (word_at(data, 132) == 3, f"its dimension is {word_at(data, 132)}, and not 3, a texture of two dimensions"),
         (not word_at(data, 136) & 4, "it is a cube map"),
         (word_at(data, 140) == 1, f"it is an array of {word_at(data, 140):,} textures"),
+        (levels <= most, f"it has {levels:,} mip levels, and {limit}{way_out}"),
     ]
     return next((words for holds, words in tests if not holds), house.meaning(13))
 
 
-def refused(number, data=b"", most=MOST_SIDE):
+def refused(number, data=b"", most=MOST_SIDE, **context):
     """A refusal with its cause: `data` is the file that was read, if it was a file."""
     reason = None
     if number == 13:
-        reason = header_fault(data)
+        reason = header_fault(data, **context)
     elif number == 14:
         sides = f"it is {word_at(data, 16):,} by {word_at(data, 12):,} pixels, and " if data else ""
         reason = f"{sides}a side has 1 to {most:,}"
     return house.Refused(number, f"file refused {number}\n", reason)
 
 
-def read(path):
-    """A file's width, height, format and block bytes."""
-    data = house.read(path, HEADER + MOST_BLOCKS)
-    told = house.ask("run_dds", data, lambda answer: len(answer) == 6 and answer[1] < len(fieldtext.FORMATS))
+def block_bytes(width, height):
+    return (width + 3) // 4 * ((height + 3) // 4) * house.BLOCK
+
+
+def read(path, first_level=False):
+    """A file's width, height, format and block bytes, those of the first level where it has several."""
+    data = house.read(path, HEADER + (MOST_CHAIN if first_level else MOST_BLOCKS))
+    told = house.ask("run_dds", data, lambda answer: len(answer) == 6 and answer[1] < len(NAMES), ["--first-level"] if first_level else [])
     if told[0] != 0:
-        raise refused(told[0], data)
+        raise refused(told[0], data, first_level=first_level)
     width, height = (int.from_bytes(told[at:at + 2], "little") for at in (2, 4))
-    return width, height, fieldtext.FORMATS[told[1]], data[HEADER:]
+    return width, height, NAMES[told[1]], data[HEADER:HEADER + block_bytes(width, height)]
 
 
 def show(asked):
-    width, height, form, blocks = read(asked.file)
+    width, height, form, blocks = read(asked.file, asked.first_level)
     if asked.json:
         house.put_json({"name": house.read_last, "width": width, "height": height, "format": form, "blocks": len(blocks) // house.BLOCK})
     else:
@@ -76,14 +96,12 @@ def show(asked):
 
 def take_blocks(asked):
     house.keep_apart(asked.out, asked.file)
-    house.write_whole(asked.out, read(asked.file)[3])
+    house.write_whole(asked.out, read(asked.file, asked.first_level)[3])
 
 
-def make(asked):
-    sides = [house.number(word, what, HIGHEST) for word, what in ((asked.width, "WIDTH"), (asked.height, "HEIGHT"))]
-    wish = bytes([fieldtext.format_number(asked.format)]) + b"".join(side.to_bytes(4, "little") for side in sides)
-    house.keep_apart(asked.out, asked.block_bytes)
-    blocks = house.read(asked.block_bytes, MOST_BLOCKS)
+def whole_file(width, height, form, blocks):
+    """A DDS file: the proved writer makes the header. Its formats are BC6H's; for BC7 the DXGI number is put in, and the proved reader asked."""
+    wish = bytes([NAMES.index(form) % 2]) + b"".join(side.to_bytes(4, "little") for side in (width, height))
 
     def is_whole(answer):
         return len(answer) == 1 and answer != b"\0" or answer[:5] == b"\0DDS " and len(answer) == 1 + HEADER
@@ -91,12 +109,39 @@ def make(asked):
     told = house.ask("run_dds", wish + blocks, is_whole, ["--make"])
     if told[0] != 0:
         raise refused(told[0])
-    house.write_whole(asked.out, told[1:] + blocks)
+    if form in fieldtext.FORMATS:
+        return told[1:] + blocks
+    made = told[1:129] + FORMATS[form].to_bytes(4, "little") + told[133:] + blocks
+    wanted = bytes([0, NAMES.index(form)]) + b"".join(side.to_bytes(2, "little") for side in (width, height))
+    house.ask("run_dds", made, lambda answer: answer == wanted)
+    return made
+
+
+def make(asked):
+    if asked.first_level:
+        raise house.Usage("--first-level reads a file, and --make reads none")
+    sides = [house.number(word, what, HIGHEST) for word, what in ((asked.width, "WIDTH"), (asked.height, "HEIGHT"))]
+    if asked.format not in FORMATS:
+        raise house.Usage(f"a format is {', '.join(NAMES)}, and not '{house.shown(asked.format, 40)}'")
+    house.keep_apart(asked.out, asked.block_bytes)
+    house.write_whole(asked.out, whole_file(*sides, asked.format, house.read(asked.block_bytes, MOST_BLOCKS)))
+
+
+def relabel(asked):
+    """The same picture's blocks, said to be in the other format, or in the one that is said already."""
+    fieldtext.format_number(asked.format)
+    house.keep_apart(asked.out, asked.file)
+    width, height, form, blocks = read(asked.file, asked.first_level)
+    if form not in fieldtext.FORMATS:
+        raise house.Refused(13, "file refused 13\n", f"its format is {form}, and only a BC6H file is signed or unsigned")
+    house.write_whole(asked.out, whole_file(width, height, asked.format, blocks))
 
 
 def run(asked):
     if asked.make:
         make(asked)
+    elif asked.relabel:
+        relabel(asked)
     elif asked.blocks:
         take_blocks(asked)
     else:

@@ -67,7 +67,7 @@ def commands(folder):
         "record take": ["take", four, "0", out], "record put": ["put", four, "0", folder / "one", out],
         "place": [SAMPLES / "twins.store", out], "unplace": [SAMPLES / "unplaced.places", out],
         "probe": [probe, "2"], "probe of a face": [probe, "2", "0", out],
-        "dds": [five], "dds --blocks": ["--blocks", five, out], "dds --make": ["--make", "5", "3", "signed", folder / "blocks", out], "pfm": [SAMPLES / "eight.dds", out],
+        "dds": [five], "dds --first-level": ["--first-level", SAMPLES / "levels.dds"], "dds --relabel": ["--relabel", "unsigned", five, out], "dds --blocks": ["--blocks", five, out], "dds --make": ["--make", "5", "3", "signed", folder / "blocks", out], "pfm": [SAMPLES / "eight.dds", out],
     }
 
 

@@ -75,12 +75,17 @@ def dds_file(**changes):
 
 def causes(folder):
     path, out = folder / "a.dds", folder / "out"
-    for changes, words in (({"at28": 5}, "it has 5 mip levels"), ({"at136": 4}, "it is a cube map"), ({"at140": 6}, "it is an array of 6 textures"), ({"at128": 98}, "its DXGI format is 98"),
+    for changes, words in (({"at28": 5}, "it has 5 mip levels"), ({"at136": 4}, "it is a cube map"), ({"at140": 6}, "it is an array of 6 textures"), ({"at128": 97}, "its DXGI format is 97"),
                            ({"at132": 4}, "its dimension is 4"), ({"at84": 0x35545844}, "its code is 'DXT5' and not 'DX10'"), ({"at0": 0}, "it does not begin with 'DDS '"),
                            ({"at4": 100}, "its header says that it has 100 bytes"), ({"at80": 0}, "its pixel format has no code"), ({"at84": 0x1B}, "its code is '\\x1b\\x00\\x00\\x00'")):
         path.write_bytes(dds_file(**changes))
         for words_of in (["dds", path], ["dds", "--blocks", path, out], ["pfm", path, out]):
             check(f"cause of 13, {words}, {words_of[0]} {len(words_of)}", words_of, 1, b"file refused 13\n", f"{path}: refused, 13: {words}")
+    path.write_bytes(dds_file(at128=98))
+    check("cause of 13, BC7 as a Portable Float Map", ["pfm", path, out], 1, b"file refused 13\n", "its DXGI format is 98, which is BC7, and a Portable Float Map is made of BC6H")
+    path.write_bytes(dds_file(at28=5))
+    check("the way out of 13", ["dds", path], 1, b"file refused 13\n", "it has 5 mip levels, and only a texture of one level is taken: --first-level takes its first level")
+    check("--first-level with --make", ["dds", "--make", "--first-level", "5", "3", "signed", path, out], 2, b"", "--first-level reads a file, and --make reads none")
     path.write_bytes(dds_file(at16=5000))
     check("limit of 14", ["dds", path], 1, b"file refused 14\n", "it is 5,000 by 4 pixels, and a side has 1 to 4,096")
     check("limit of 14, pfm", ["pfm", path, out], 1, b"file refused 14\n", "it is 5,000 by 4 pixels, and a side has 1 to 64")

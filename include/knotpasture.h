@@ -367,8 +367,8 @@ uint64_t knot_unplace_store(const uint8_t *store, size_t store_length, uint8_t *
 #define KNOT_MOVED(word) ((unsigned)((word) >> 16 & 0xFFFF))
 #define KNOT_UNMOVED_RECORD(word) ((unsigned)((word) >> 32 & 0xFFFF))
 
-/* Gives record n of a store of records with a place another place: writes to out the store with the face, column and row of record n set. Every other
- * byte is the store's; the rest of out stays. Face KNOT_NO_FACE, column 0 and row 0 take the place away. What place the record has does not matter.
+/* Sets the place of record n: writes to out the store with the face, column and row of record n set. Every other byte is the store's; the rest
+ * of out stays. Face KNOT_NO_FACE, column 0 and row 0 take the place away. What place the record has does not matter.
  *
  * Answers as knot_place_store. Refusals: 5, 6, 3 (less room than the store has bytes), 8, 1, 7 (of record n, with its number; the other records are not
  * looked at), 17 (of the place that is given), in this order.
@@ -438,9 +438,9 @@ uint32_t knot_probe_face(const uint8_t *store, size_t store_length, uint32_t edg
  */
 uint64_t knot_probe_open(const uint8_t *store, size_t store_length, uint32_t edge, uint16_t *table, size_t table_length);
 
-/* The three half-float patterns of a pixel of a probe that is open: what knot_probe_pixel answers of the same store and edge, where
- * knot_probe_open of these left the table and was done. It looks at one value of the table and at one record, and is safe with any other
- * table, which a refusal tells or does not.
+/* A pixel of a probe that is open: what knot_probe_pixel answers of the same store and edge, where knot_probe_open of these was done and left
+ * the table. It looks at one value of the table and at one record. With any other table it answers by what that says, and reads nothing
+ * outside the store.
  *
  * Answers as knot_probe_pixel. Refusals: 19, 24, 3 (a table of fewer than KNOT_PROBE_TABLE values), 23 (no record in the table), 8 (a record
  * that the store has not), 1, in this order.
@@ -529,8 +529,8 @@ uint64_t knot_dds_read(const uint8_t *file, size_t file_length);
 /* Where in a DDS file the blocks start: KNOT_DDS_HEADER. 0 exactly when knot_dds_read refuses. They go on to the file's end. Stack: 100 bytes. */
 size_t knot_dds_blocks(const uint8_t *file, size_t file_length);
 
-/* Size and format of a whole DDS file of BC7 blocks, under the same rules: DXGI format 98 is KNOT_BC7_LINEAR, 99 is KNOT_BC7_SRGB. 13 means
- * here any other header. Answers as knot_dds_head. Refusals: 13, 14, 15.
+/* What knot_dds_read answers, of BC7 blocks: DXGI format 98 is KNOT_BC7_LINEAR, 99 is KNOT_BC7_SRGB, and 13 means any other header.
+ * Refusals: 13, 14, 15.
  *
  * Stack: 100 bytes.
  */
@@ -538,12 +538,12 @@ uint64_t knot_bc7_dds_read(const uint8_t *file, size_t file_length);
 
 enum { KNOT_BC7_LINEAR = 0, KNOT_BC7_SRGB = 1 };
 
-/* Where in a DDS file of BC7 blocks they start: KNOT_DDS_HEADER. 0 exactly when knot_bc7_dds_read refuses. They go on to the file's end. Stack: 100 bytes. */
+/* Where BC7 blocks start: KNOT_DDS_HEADER. 0 exactly when knot_bc7_dds_read refuses. They go on to the file's end. Stack: 100 bytes. */
 size_t knot_bc7_dds_blocks(const uint8_t *file, size_t file_length);
 
-/* Size and format of a whole DDS file with mip levels, 1 to KNOT_DDS_LEVELS of them, 0 taken as 1: the blocks of all levels are there and
- * nothing else, the largest level first; each side is half of the one before, rounded down, and 1 at least. Every other rule is
- * knot_dds_read's, which answers the same of a file of one level. Answers as knot_dds_head, of the largest level. Refusals: 13, 14, 15.
+/* Size and format of a DDS file with mip levels: 1 to KNOT_DDS_LEVELS of them, 0 taken as 1. The blocks of all levels are there and nothing
+ * else, the largest level first; each side is half of the one before, rounded down, and 1 at least. Every other rule is knot_dds_read's, which
+ * answers the same of a file of one level. Answers as knot_dds_head, of the largest level. Refusals: 13, 14, 15.
  *
  * Stack: 100 bytes.
  */
@@ -551,17 +551,17 @@ uint64_t knot_dds_first_level(const uint8_t *file, size_t file_length);
 
 enum { KNOT_DDS_LEVELS = 13 /* mip levels of a file, at most */ };
 
-/* Where in a DDS file with mip levels the blocks of the largest one start: KNOT_DDS_HEADER. 0 exactly when knot_dds_first_level refuses. They are
- * 16 bytes for each four by four pixels of width by height, rounded up. Stack: 100 bytes. */
+/* Where the blocks of the largest level start: KNOT_DDS_HEADER. 0 exactly when knot_dds_first_level refuses. They are 16 bytes for each four by
+ * four pixels of width by height, rounded up. Stack: 100 bytes. */
 size_t knot_dds_first_blocks(const uint8_t *file, size_t file_length);
 
-/* What knot_dds_first_level answers, of BC7 blocks: the format is knot_bc7_dds_read's. Refusals: 13, 14, 15.
+/* What knot_dds_first_level answers, of BC7 blocks: the format is as knot_bc7_dds_read says. Refusals: 13, 14, 15.
  *
  * Stack: 100 bytes.
  */
 uint64_t knot_bc7_dds_first_level(const uint8_t *file, size_t file_length);
 
-/* Where in such a file the blocks of the largest level start: KNOT_DDS_HEADER. 0 exactly when knot_bc7_dds_first_level refuses. Stack: 100 bytes. */
+/* Where the BC7 blocks of the largest level start: KNOT_DDS_HEADER. 0 exactly when knot_bc7_dds_first_level refuses. Stack: 100 bytes. */
 size_t knot_bc7_dds_first_blocks(const uint8_t *file, size_t file_length);
 
 /* Writes a DDS file: KNOT_DDS_HEADER bytes and the blocks; the rest of out stays. knot_dds_read of exactly those bytes answers the same size

@@ -78,16 +78,7 @@ extern "C" {
     pub fn knot_placed_record_block(store: *const u8, store_length: usize, n: usize) -> usize;
     pub fn knot_place_store(old: *const u8, old_length: usize, out: *mut u8, out_length: usize) -> u64;
     pub fn knot_unplace_store(store: *const u8, store_length: usize, out: *mut u8, out_length: usize) -> u64;
-    pub fn knot_put_place(
-        store: *const u8,
-        store_length: usize,
-        n: usize,
-        face: u8,
-        column: u16,
-        row: u16,
-        out: *mut u8,
-        out_length: usize,
-    ) -> u64;
+    pub fn knot_put_place(store: *const u8, store_length: usize, n: usize, face: u8, column: u16, row: u16, out: *mut u8, out_length: usize) -> u64;
     pub fn knot_probe_pixel(store: *const u8, store_length: usize, edge: u32, face: u32, x: u32, y: u32, faulty: *mut usize) -> u64;
     pub fn knot_probe_check(store: *const u8, store_length: usize, edge: u32) -> u64;
     pub fn knot_probe_face(store: *const u8, store_length: usize, edge: u32, face: u32, out: *mut u16, out_length: usize) -> u32;

@@ -89,10 +89,10 @@ pub half-stores : (l : List ℕ) (n half : ℕ) → set (set l n (half % 256)) (
 unfolding lowFirst
 half-stores l n half = let e : n + 1 ≡ suc n = omega arith in rw e
 
-pub head-stores : (across y : ℕ) {size : ℕ} (l l1 l2 : List ℕ) (n : ℕ) → size ≡ 6 * (4 * across) → l1 ≡ sets l n (lowFirst 4 y) → l2 ≡ sets l1 (n + 4) (lowFirst 4 size)
-    → l2 ≡ sets l n (headOf (4 * across) y)
+pub head-stores : (width y : ℕ) {size : ℕ} (l l1 l2 : List ℕ) (n : ℕ) → size ≡ 6 * width → l1 ≡ sets l n (lowFirst 4 y) → l2 ≡ sets l1 (n + 4) (lowFirst 4 size)
+    → l2 ≡ sets l n (headOf width y)
 unfolding headOf
-head-stores across y l l1 l2 n e a b = rw (a, e) at b ∙ sets-append (lowFirst 4 y) (lowFirst 4 (6 * (4 * across))) l n (n + 4) (omega (arith, length-low 4 y))
+head-stores width y l l1 l2 n e a b = rw (a, e) at b ∙ sets-append (lowFirst 4 y) (lowFirst 4 (6 * width)) l n (n + 4) (omega (arith, length-low 4 y))
 
 -- ---- the loop over a row of blocks
 

@@ -19,7 +19,7 @@ use Rattle.text.specs.Text.{Written}
 use Rattle.exr_header.specs.Header.{lineLength, frontLength, frontOf, SizeFits}
 use Rattle.exr_header.proofs.Numbers.{front-length-is}
 use Rattle.exr.specs.declared.ExrWritten.{ExrWritten}
-use Rattle.exr.specs.File.{linesOf, fileOf, fileLength, writeRefusal, writtenAt, PictureWritten, lengthOf}
+use Rattle.exr.specs.File.{linesOf, fileIn, fileOf, fileLength, writeRefusal, writtenAt, PictureWritten, lengthOf}
 use Rattle.exr.specs.Bands.{bandsOf}
 use Rattle.exr.proofs.Whole.{lines-bands, length-lines}
 
@@ -191,10 +191,10 @@ bytes-most {blocks} {format} {width} {height} {out} {after} {r} w = go (writeRef
     go (suc k) q = let e : r .bytes ≡ 0 = ap (λ (x : ExrWritten). x .bytes) (w .answers) ∙ rw q in omega arith
 
 pub length-file : (blocks : List ℕ) (format width height : ℕ) → length (fileOf blocks format width height) ≡ fileLength width height
-unfolding fileOf fileLength
+unfolding fileIn fileLength
 length-file blocks format width height =
-    length-append (frontOf width height) (linesOf blocks format width height)
-    ∙ ap₂ (λ (a b : ℕ). a + b) (front-length-is width height) (length-lines blocks format width height)
+    length-append (frontOf width height) (linesOf blocks format (width / 4) width height)
+    ∙ ap₂ (λ (a b : ℕ). a + b) (front-length-is width height) (length-lines blocks format (width / 4) width height)
 
 -- what is written is that file, byte by byte: exactly the bytes that are counted
 pub written-file : {blocks : List ℕ} {format width height : ℕ} {out after : List ℕ} {r : ExrWritten} → PictureWritten blocks format width height out r after
@@ -220,7 +220,7 @@ module _ (blocks : List ℕ) (format width height : ℕ) (out : List ℕ) where
         → part ≡ bandsOf blocks format (width / 4) (height / 4) ++ drop ((32 + 96 * (width / 4)) * (height / 4)) (midOf at (length with-front - at) with-front)
         → size ≡ lengthOf width height
         → PictureWritten blocks format width height out (record { answer = answer; bytes = size }) (putMid at (length with-front - at) with-front part)
-    unfolding fileOf fileLength
+    unfolding fileIn fileLength
     told-done d m part {at} w len p i =
         let z : writeRefusal (length blocks) format width height (length out) ≡ done = sym e ∙ d in
         let known = write-known _ _ _ _ _ z in
@@ -228,7 +228,7 @@ module _ (blocks : List ℕ) (format width height : ℕ) (out : List ℕ) where
         let k = small width height (known .even) in
         let h = frontOf width height in
         let n = frontLength height in
-        let body = linesOf blocks format width height in
+        let body = linesOf blocks format (width / 4) width height in
         let eh : length h ≡ n = front-length-is width height in
         let ea : at ≡ n = w .next-is ∙ (let z : 0 + length h ≡ n = omega arith in z) in
         let room : length h ≤ length out = omega (arith, known .fits) in
@@ -240,7 +240,7 @@ module _ (blocks : List ℕ) (format width height : ℕ) (out : List ℕ) where
         let none : drop (length m - at) (drop at m) ≡ [] =
         drop-of-length-le (drop at m) {i = length m - at} (let d = length-drop at m in omega arith) in
         let same : bandsOf blocks format (width / 4) (height / 4) ≡ body =
-        sym (lines-bands blocks format (width / 4) (height / 4)) ∙ ap₂ (linesOf blocks format) (k .whole-width) (k .whole-height) in
+        sym (lines-bands blocks format (width / 4) (height / 4)) ∙ ap₂ (linesOf blocks format (width / 4)) (k .whole-width) (k .whole-height) in
         let behind : drop ((32 + 96 * (width / 4)) * (height / 4)) (drop n out) ≡ drop (n + lineLength width * height) out =
         ap (λ (x : ℕ). drop x (drop n out)) (bytes-lines width height (known .even)) ∙ drop-drop (lineLength width * height) n out in
         let whole : part ≡ body ++ drop (n + lineLength width * height) out =

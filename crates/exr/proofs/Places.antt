@@ -9,89 +9,85 @@ use lib.Seq.{drop-drop, drop-at, take-at, take-take}
 use Rattle.laws.specs.Made.{made, join}
 use Rattle.laws.proofs.Joined.{run-at}
 use Rattle.bcn_spec.specs.Answers.{done}
+use Rattle.pfm.proofs.Places.{part-of}
 use Rattle.exr_header.specs.Header.{lowFirst, headerLength, lineLength, frontLength, lineStart, startBytes, tableOf, headerOf, frontOf}
 use Rattle.exr_header.proofs.Numbers.{header-length, front-length-is, start-length}
 use Rattle.exr.specs.declared.ExrWritten.{ExrWritten}
-use Rattle.exr.specs.File.{patternAt, halfAt, channelAt, headOf, lineAt, linesOf, fileOf, PictureWritten}
+use Rattle.exr.specs.File.{patternAt, halfAt, channelAt, headOf, valuesAt, lineAt, linesOf, fileIn, PictureWritten}
 use Rattle.exr.proofs.Bands.{length-head}
 use Rattle.exr.proofs.Whole.{length-half, length-channel, length-line}
 use Rattle.exr.proofs.Calls.{written-file}
 
--- part of a part
-part-of : (l : List ℕ) (a b m n : ℕ) → b + n ≤ m → take n (drop b (take m (drop a l))) ≡ take n (drop (a + b) l)
-part-of l a b m n h = go (drop a l) b m n h ∙ ap (take n) (drop-drop b a l)
-  where
-    go : (l : List ℕ) (b m n : ℕ) → b + n ≤ m → take n (drop b (take m l)) ≡ take n (drop b l)
-    go l zero m n h = take-take n m l (omega arith)
-    go [] (suc b) zero n h = refl
-    go [] (suc b) (suc m) n h = refl
-    go (x ∷ l) (suc b) zero n h = absurd (omega arith)
-    go (x ∷ l) (suc b) (suc m) n h = go l b m n (omega arith)
-
 -- the channels of a line stand behind its head, blue first
-module _ (blocks : List ℕ) (format width y : ℕ) where
-  blue : List ℕ
-  blue = channelAt blocks format width 2 y
+module _ (head blue green red : List ℕ) (n : ℕ) (h : length head ≡ 8) (b : length blue ≡ n) (g : length green ≡ n) where
+  pub behind-head : drop 8 (head ++ (blue ++ (green ++ red))) ≡ blue ++ (green ++ red)
+  behind-head = drop-at head (blue ++ (green ++ red)) 8 h
 
-  green : List ℕ
-  green = channelAt blocks format width 1 y
+  pub behind-blue : drop (8 + n) (head ++ (blue ++ (green ++ red))) ≡ green ++ red
+  behind-blue = sym (drop-drop n 8 (head ++ (blue ++ (green ++ red)))) ∙ ap (drop n) behind-head ∙ drop-at blue (green ++ red) n b
 
-  red : List ℕ
-  red = channelAt blocks format width 0 y
+  pub behind-green : drop (8 + n + n) (head ++ (blue ++ (green ++ red))) ≡ red
+  behind-green = sym (drop-drop n (8 + n) (head ++ (blue ++ (green ++ red)))) ∙ ap (drop n) behind-blue ∙ drop-at green red n g
 
-  line-blue : drop 8 (lineAt blocks format width y) ≡ channelAt blocks format width 2 y ++ (channelAt blocks format width 1 y ++ channelAt blocks format width 0 y)
+module _ (blocks : List ℕ) (format across width y : ℕ) where
+  line-blue : drop 8 (lineAt blocks format across width y) ≡ valuesAt blocks format across width y
   unfolding lineAt
-  line-blue = drop-at (headOf width y) _ 8 (length-head width y)
+  line-blue =
+      behind-head (headOf width y) (channelAt blocks format across width 2 y) (channelAt blocks format across width 1 y) (channelAt blocks format across width 0 y) (2 * width)
+      (length-head width y) (length-channel blocks format across width 2 y) (length-channel blocks format across width 1 y)
 
-  line-green : drop (8 + 2 * width) (lineAt blocks format width y) ≡ channelAt blocks format width 1 y ++ channelAt blocks format width 0 y
+  line-green : drop (8 + 2 * width) (lineAt blocks format across width y) ≡ channelAt blocks format across width 1 y ++ channelAt blocks format across width 0 y
+  unfolding lineAt
   line-green =
-      sym (drop-drop (2 * width) 8 (lineAt blocks format width y)) ∙ ap (drop (2 * width)) line-blue ∙ drop-at (channelAt blocks format width 2 y) _ (2 * width) (length-channel blocks format width 2 y)
+      behind-blue (headOf width y) (channelAt blocks format across width 2 y) (channelAt blocks format across width 1 y) (channelAt blocks format across width 0 y) (2 * width)
+      (length-head width y) (length-channel blocks format across width 2 y) (length-channel blocks format across width 1 y)
 
-  line-red : drop (8 + 2 * width + 2 * width) (lineAt blocks format width y) ≡ channelAt blocks format width 0 y
+  line-red : drop (8 + 2 * width + 2 * width) (lineAt blocks format across width y) ≡ channelAt blocks format across width 0 y
+  unfolding lineAt
   line-red =
-      sym (drop-drop (2 * width) (8 + 2 * width) (lineAt blocks format width y)) ∙ ap (drop (2 * width)) line-green
-      ∙ drop-at (channelAt blocks format width 1 y) _ (2 * width) (length-channel blocks format width 1 y)
+      behind-green (headOf width y) (channelAt blocks format across width 2 y) (channelAt blocks format across width 1 y) (channelAt blocks format across width 0 y) (2 * width)
+      (length-head width y) (length-channel blocks format across width 2 y) (length-channel blocks format across width 1 y)
 
   module _ (x : ℕ) (hx : x < width) where
-    in-channel : (channel : ℕ) (rest : List ℕ) → take 2 (drop (2 * x) (channelAt blocks format width channel y ++ rest)) ≡ halfAt blocks format (width / 4) channel y x
+    in-channel : (channel : ℕ) (rest : List ℕ) → take 2 (drop (2 * x) (channelAt blocks format across width channel y ++ rest)) ≡ halfAt blocks format across channel y x
     unfolding channelAt
-    in-channel channel rest = run-at (halfAt blocks format (width / 4) channel y) 2 (length-half blocks format (width / 4) channel y) width x rest hx
+    in-channel channel rest = run-at (halfAt blocks format across channel y) 2 (length-half blocks format across channel y) width x rest hx
 
     -- `before` channels stand before this one in the line
-    in-line : (before : ℕ) → before < 3 → take 2 (drop (8 + 2 * (before * width + x)) (lineAt blocks format width y)) ≡ halfAt blocks format (width / 4) (2 - before) y x
+    in-line : (before : ℕ) → before < 3 → take 2 (drop (8 + 2 * (before * width + x)) (lineAt blocks format across width y)) ≡ halfAt blocks format across (2 - before) y x
     in-line zero h =
         let at : 8 + 2 * (0 * width + x) ≡ 8 + 2 * x = omega arith in
-        ap (λ (n : ℕ). take 2 (drop n (lineAt blocks format width y))) at
-        ∙ ap (take 2) (sym (drop-drop (2 * x) 8 (lineAt blocks format width y)) ∙ ap (drop (2 * x)) line-blue) ∙ in-channel 2 _
+        ap (λ (n : ℕ). take 2 (drop n (lineAt blocks format across width y))) at
+        ∙ ap (take 2) (sym (drop-drop (2 * x) 8 (lineAt blocks format across width y)) ∙ ap (drop (2 * x)) line-blue) ∙ in-channel 2 _
     in-line (suc zero) h =
         let at : 8 + 2 * (1 * width + x) ≡ 8 + 2 * width + 2 * x = omega arith in
-        ap (λ (n : ℕ). take 2 (drop n (lineAt blocks format width y))) at
-        ∙ ap (take 2) (sym (drop-drop (2 * x) (8 + 2 * width) (lineAt blocks format width y)) ∙ ap (drop (2 * x)) line-green) ∙ in-channel 1 _
+        ap (λ (n : ℕ). take 2 (drop n (lineAt blocks format across width y))) at
+        ∙ ap (take 2) (sym (drop-drop (2 * x) (8 + 2 * width) (lineAt blocks format across width y)) ∙ ap (drop (2 * x)) line-green) ∙ in-channel 1 _
     in-line (suc (suc zero)) h =
         let at : 8 + 2 * (2 * width + x) ≡ 8 + 2 * width + 2 * width + 2 * x = omega arith in
-        ap (λ (n : ℕ). take 2 (drop n (lineAt blocks format width y))) at
-        ∙ ap (take 2) (sym (drop-drop (2 * x) (8 + 2 * width + 2 * width) (lineAt blocks format width y)) ∙ ap (drop (2 * x)) (line-red ∙ sym (append-nil (channelAt blocks format width 0 y)))) ∙ in-channel 0 []
+        ap (λ (n : ℕ). take 2 (drop n (lineAt blocks format across width y))) at
+        ∙ ap (take 2) (sym (drop-drop (2 * x) (8 + 2 * width + 2 * width) (lineAt blocks format across width y)) ∙ ap (drop (2 * x)) (line-red ∙ sym (append-nil (channelAt blocks format across width 0 y)))) ∙ in-channel 0 []
     in-line (suc (suc (suc n))) h = absurd (omega arith)
 
-module _ (blocks : List ℕ) (format width height y : ℕ) (hy : y < height) where
+module _ (blocks : List ℕ) (format across width height y : ℕ) (hy : y < height) where
   -- line y of the file begins where the table says
-  pub line-place : take (lineLength width) (drop (lineStart width height y) (fileOf blocks format width height)) ≡ lineAt blocks format width y
-  unfolding fileOf linesOf lineStart
+  pub line-place : take (lineLength width) (drop (lineStart width height y) (fileIn blocks format across width height)) ≡ lineAt blocks format across width y
+  unfolding fileIn linesOf lineStart
   line-place =
-      let body = linesOf blocks format width height in
+      let body = linesOf blocks format across width height in
       let n = lineLength width in
       ap (take n)
       (sym (drop-drop (y * n) (frontLength height) (frontOf width height ++ body)) ∙ ap (drop (y * n)) (drop-at (frontOf width height) body (frontLength height) (front-length-is width height)))
       ∙ ap (λ (k : ℕ). take n (drop k body)) (mul-comm y n)
       ∙ ap (λ (t : List ℕ). take n (drop (n * y) t)) (sym (append-nil body))
-      ∙ run-at (lineAt blocks format width) n (length-line blocks format width) height y [] hy
+      ∙ run-at (lineAt blocks format across width) n (length-line blocks format across width) height y [] hy
 
   -- entry y of the table: where line y begins, in 8 bytes
-  pub table-place : take 8 (drop (headerLength + 8 * y) (fileOf blocks format width height)) ≡ lowFirst 8 (lineStart width height y)
-  unfolding fileOf frontOf tableOf startBytes
+  pub table-place : take 8 (drop (headerLength + 8 * y) (fileIn blocks format across width height)) ≡ lowFirst 8 (lineStart width height y)
+  unfolding fileIn frontOf tableOf startBytes
   table-place =
       let table = tableOf width height in
-      let body = linesOf blocks format width height in
+      let body = linesOf blocks format across width height in
       let h = headerOf width height in
       ap (λ (t : List ℕ). take 8 (drop (headerLength + 8 * y) t)) (append-assoc h table body)
       ∙ ap (take 8) (sym (drop-drop (8 * y) headerLength (h ++ (table ++ body))) ∙ ap (drop (8 * y)) (drop-at h (table ++ body) headerLength (header-length width height)))
@@ -100,11 +96,11 @@ module _ (blocks : List ℕ) (format width height y : ℕ) (hy : y < height) whe
   module _ (x : ℕ) (hx : x < width) where
     -- Channel c of pixel (x, y): the pattern's two bytes.
     pub pixel-place : (channel : ℕ) → channel < 3
-        → take 2 (drop (lineStart width height y + (8 + 2 * ((2 - channel) * width + x))) (fileOf blocks format width height))
-        ≡ lowFirst 2 (patternAt blocks format (width / 4) channel y x)
+        → take 2 (drop (lineStart width height y + (8 + 2 * ((2 - channel) * width + x))) (fileIn blocks format across width height))
+        ≡ lowFirst 2 (patternAt blocks format across channel y x)
     unfolding halfAt lineLength
     pixel-place channel h =
-        let file = fileOf blocks format width height in
+        let file = fileIn blocks format across width height in
         let b = 2 - channel in
         let place = 8 + 2 * (b * width + x) in
         let few : b * width ≤ 2 * width = mul-le-mul-right width (omega arith) in
@@ -112,8 +108,8 @@ module _ (blocks : List ℕ) (format width height y : ℕ) (hy : y < height) whe
         let back : 2 - b ≡ channel = omega arith in
         sym (part-of file (lineStart width height y) place (lineLength width) 2 inside)
         ∙ ap (λ (t : List ℕ). take 2 (drop place t)) line-place
-        ∙ in-line blocks format width y x hx b (omega arith)
-        ∙ ap (λ (c : ℕ). halfAt blocks format (width / 4) c y x) back
+        ∙ in-line blocks format across width y x hx b (omega arith)
+        ∙ ap (λ (c : ℕ). halfAt blocks format across c y x) back
 
 -- and in what the call leaves, where it is done: exactly the bytes that it counts
 pub pixel-written : {blocks : List ℕ} {format width height : ℕ} {out after : List ℕ} {r : ExrWritten} → PictureWritten blocks format width height out r after
@@ -122,4 +118,4 @@ pub pixel-written : {blocks : List ℕ} {format width height : ℕ} {out after :
     ≡ lowFirst 2 (patternAt blocks format (width / 4) channel y x)
 pixel-written {blocks} {format} {width} {height} w z x y channel hx hy hc =
     ap (λ (t : List ℕ). take 2 (drop (lineStart width height y + (8 + 2 * ((2 - channel) * width + x))) t)) (written-file w z)
-    ∙ pixel-place blocks format width height y hy x hx channel hc
+    ∙ pixel-place blocks format (width / 4) width height y hy x hx channel hc

@@ -44,14 +44,12 @@ module _ (blocks : List ℕ) (format across : ℕ) where
       rw (first, half-in channel d row k 1 h (omega arith), half-in channel d row k 2 h (omega arith), half-in channel d row k 3 h (omega arith))
 
   -- a channel of a line is a run of cells
-  channel-run : (channel d row : ℕ) → row < 4 → channelAt blocks format (4 * across) channel (4 * d + row) ≡ runAt blocks format (across * d) across channel row
+  pub channel-run : (channel d row : ℕ) → row < 4 → channelAt blocks format across (4 * across) channel (4 * d + row) ≡ runAt blocks format (across * d) across channel row
   unfolding channelAt runAt
   channel-run channel d row h =
-      let four : 4 * across / 4 ≡ across = omega arith in
-      rw four
-      (run-fours (halfAt blocks format across channel (4 * d + row)) (cellAt blocks format (across * d) channel row) (λ k. cell-fours channel d row k h) across)
+      run-fours (halfAt blocks format across channel (4 * d + row)) (cellAt blocks format (across * d) channel row) (λ k. cell-fours channel d row k h) across
 
-  line-is : (d row : ℕ) → row < 4 → lineAt blocks format (4 * across) (4 * d + row) ≡ bandLine blocks format (across * d) across row (4 * d + row)
+  line-is : (d row : ℕ) → row < 4 → lineAt blocks format across (4 * across) (4 * d + row) ≡ bandLine blocks format (across * d) across row (4 * d + row)
   unfolding lineAt bandLine
   line-is d row h =
       ap (λ (t : List ℕ). headOf (4 * across) (4 * d + row) ++ t)
@@ -59,21 +57,21 @@ module _ (blocks : List ℕ) (format across : ℕ) where
 
   band-lines : (d : ℕ)
       → bandOf blocks format across d
-      ≡ lineAt blocks format (4 * across) (4 * d)
-      ++ (lineAt blocks format (4 * across) (4 * d + 1) ++ (lineAt blocks format (4 * across) (4 * d + 2) ++ lineAt blocks format (4 * across) (4 * d + 3)))
+      ≡ lineAt blocks format across (4 * across) (4 * d)
+      ++ (lineAt blocks format across (4 * across) (4 * d + 1) ++ (lineAt blocks format across (4 * across) (4 * d + 2) ++ lineAt blocks format across (4 * across) (4 * d + 3)))
   unfolding bandOf bandAt
   band-lines d =
       let zero-more : 4 * d + 0 ≡ 4 * d = omega arith in
-      let first : lineAt blocks format (4 * across) (4 * d) ≡ bandLine blocks format (across * d) across 0 (4 * d) =
-      ap (lineAt blocks format (4 * across)) (sym zero-more) ∙ line-is d 0 (omega arith) ∙ ap (bandLine blocks format (across * d) across 0) zero-more in
+      let first : lineAt blocks format across (4 * across) (4 * d) ≡ bandLine blocks format (across * d) across 0 (4 * d) =
+      ap (lineAt blocks format across (4 * across)) (sym zero-more) ∙ line-is d 0 (omega arith) ∙ ap (bandLine blocks format (across * d) across 0) zero-more in
       sym
       (ap₂ (λ (s t : List ℕ). s ++ t) first
       (ap₂ (λ (s t : List ℕ). s ++ t) (line-is d 1 (omega arith)) (ap₂ (λ (s t : List ℕ). s ++ t) (line-is d 2 (omega arith)) (line-is d 3 (omega arith)))))
 
   -- what is written row of blocks by row of blocks is the file's lines
-  pub lines-bands : (down : ℕ) → linesOf blocks format (4 * across) (4 * down) ≡ bandsOf blocks format across down
+  pub lines-bands : (down : ℕ) → linesOf blocks format across (4 * across) (4 * down) ≡ bandsOf blocks format across down
   unfolding linesOf bandsOf
-  lines-bands down = run-fours (lineAt blocks format (4 * across)) (bandOf blocks format across) band-lines down
+  lines-bands down = run-fours (lineAt blocks format across (4 * across)) (bandOf blocks format across) band-lines down
 
 -- ---- lengths
 
@@ -81,16 +79,17 @@ pub length-half : (blocks : List ℕ) (format across channel y x : ℕ) → leng
 unfolding halfAt
 length-half blocks format across channel y x = length-low 2 (patternAt blocks format across channel y x)
 
-pub length-channel : (blocks : List ℕ) (format width channel y : ℕ) → length (channelAt blocks format width channel y) ≡ 2 * width
+pub length-channel : (blocks : List ℕ) (format across width channel y : ℕ) → length (channelAt blocks format across width channel y) ≡ 2 * width
 unfolding channelAt
-length-channel blocks format width channel y = run-length (halfAt blocks format (width / 4) channel y) 2 (length-half blocks format (width / 4) channel y) width
+length-channel blocks format across width channel y = run-length (halfAt blocks format across channel y) 2 (length-half blocks format across channel y) width
 
-pub length-line : (blocks : List ℕ) (format width y : ℕ) → length (lineAt blocks format width y) ≡ lineLength width
+pub length-line : (blocks : List ℕ) (format across width y : ℕ) → length (lineAt blocks format across width y) ≡ lineLength width
 unfolding lineAt lineLength
-length-line blocks format width y =
-    let c : (channel : ℕ) → length (channelAt blocks format width channel y) ≡ 2 * width = λ channel. length-channel blocks format width channel y in
+length-line blocks format across width y =
+    let c : (channel : ℕ) → length (channelAt blocks format across width channel y) ≡ 2 * width = λ channel. length-channel blocks format across width channel y in
     simp length-append (omega (arith, length-head width y, c 0, c 1, c 2))
 
-pub length-lines : (blocks : List ℕ) (format width height : ℕ) → length (linesOf blocks format width height) ≡ lineLength width * height
+pub length-lines : (blocks : List ℕ) (format across width height : ℕ) → length (linesOf blocks format across width height) ≡ lineLength width * height
 unfolding linesOf
-length-lines blocks format width height = run-length (lineAt blocks format width) (lineLength width) (length-line blocks format width) height
+length-lines blocks format across width height =
+    run-length (lineAt blocks format across width) (lineLength width) (length-line blocks format across width) height

@@ -25,24 +25,32 @@ patternAt blocks format across channel y x =
 unfoldable pub halfAt : List ℕ → ℕ → ℕ → ℕ → ℕ → ℕ → List ℕ
 halfAt blocks format across channel y x = lowFirst 2 (patternAt blocks format across channel y x)
 
--- one channel of line y, from the left
-unfoldable pub channelAt : List ℕ → ℕ → ℕ → ℕ → ℕ → List ℕ
-channelAt blocks format width channel y = join (made (halfAt blocks format (width / 4) channel y) width)
+-- one channel of line y of a picture that is `width` pixels wide, from the left
+unfoldable pub channelAt : List ℕ → ℕ → ℕ → ℕ → ℕ → ℕ → List ℕ
+channelAt blocks format across width channel y = join (made (halfAt blocks format across channel y) width)
+
+-- The values of line y. The channels come in the order of their names: all blue values, all green ones, all red ones.
+abbrev pub valuesAt : List ℕ → ℕ → ℕ → ℕ → ℕ → List ℕ
+valuesAt blocks format across width y =
+    channelAt blocks format across width 2 y ++ (channelAt blocks format across width 1 y ++ channelAt blocks format across width 0 y)
 
 -- Before the values of a line: its number, and how many bytes they have.
 unfoldable pub headOf : ℕ → ℕ → List ℕ
 headOf width y = lowFirst 4 y ++ lowFirst 4 (6 * width)
 
--- Line y. The channels come in the order of their names: all blue values, all green ones, all red ones.
-unfoldable pub lineAt : List ℕ → ℕ → ℕ → ℕ → List ℕ
-lineAt blocks format width y = headOf width y ++ (channelAt blocks format width 2 y ++ (channelAt blocks format width 1 y ++ channelAt blocks format width 0 y))
+unfoldable pub lineAt : List ℕ → ℕ → ℕ → ℕ → ℕ → List ℕ
+lineAt blocks format across width y = headOf width y ++ valuesAt blocks format across width y
 
 -- the lines from the top down
-unfoldable pub linesOf : List ℕ → ℕ → ℕ → ℕ → List ℕ
-linesOf blocks format width height = join (made (lineAt blocks format width) height)
+unfoldable pub linesOf : List ℕ → ℕ → ℕ → ℕ → ℕ → List ℕ
+linesOf blocks format across width height = join (made (lineAt blocks format across width) height)
 
-unfoldable pub fileOf : List ℕ → ℕ → ℕ → ℕ → List ℕ
-fileOf blocks format width height = frontOf width height ++ linesOf blocks format width height
+unfoldable pub fileIn : List ℕ → ℕ → ℕ → ℕ → ℕ → List ℕ
+fileIn blocks format across width height = frontOf width height ++ linesOf blocks format across width height
+
+-- the file of whole blocks
+abbrev pub fileOf : List ℕ → ℕ → ℕ → ℕ → List ℕ
+fileOf blocks format width height = fileIn blocks format (width / 4) width height
 
 unfoldable pub fileLength : ℕ → ℕ → ℕ
 fileLength width height = frontLength height + lineLength width * height

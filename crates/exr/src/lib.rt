@@ -82,12 +82,12 @@ fn put_block(values: &[u16; 48], across: usize, out: &mut [u8], column: usize)
 }
 
 // What stands before the values of a line: its number, and how many bytes they have.
-fn put_head(across: usize, y: usize, out: &mut [u8], at: usize)
-    requires { ⌜ (across ≤ 1024) × (at + 8 ≤ length (now out)) ⌝ }
-    ensures { λ _. ⌜ now (out .exit) ≡ sets (now (out .entry)) at (headOf (4 * across) y) ⌝ }
+pub fn put_head(width: usize, y: usize, out: &mut [u8], at: usize)
+    requires { ⌜ (width ≤ 4096) × (at + 8 ≤ length (now out)) ⌝ }
+    ensures { λ _. ⌜ now (out .exit) ≡ sets (now (out .entry)) at (headOf width y) ⌝ }
 {
     put_number(y as u64, 4, out, at);
-    put_number(6 * (4 * across) as u64, 4, out, at + 4);
+    put_number(6 * width as u64, 4, out, at + 4);
 }
 
 // The heads of four lines.
@@ -95,11 +95,12 @@ fn put_heads(across: usize, y: usize, out: &mut [u8], at: usize)
     requires { ⌜ (across ≤ 1024) × (y ≤ 4096) × (at + 3 * (8 + 24 * across) + 8 ≤ length (now out)) ⌝ }
     ensures { λ _. ⌜ now (out .exit) ≡ headSets across y (now (out .entry)) at ⌝ }
 {
+    let width = 4 * across;
     let stride = 8 + 24 * across;
-    put_head(across, y, out, at);
-    put_head(across, y + 1, out, at + stride);
-    put_head(across, y + 2, out, at + 2 * stride);
-    put_head(across, y + 3, out, at + 3 * stride);
+    put_head(width, y, out, at);
+    put_head(width, y + 1, out, at + stride);
+    put_head(width, y + 2, out, at + 2 * stride);
+    put_head(width, y + 3, out, at + 3 * stride);
 }
 
 // A row of blocks, from block `first` on, as four lines from line `y` on: each block is decoded once.

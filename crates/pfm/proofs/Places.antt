@@ -14,13 +14,13 @@ use Rattle.bcn_spec.specs.Bits.{blockAt}
 use Rattle.pfm_header.specs.Header.{headerOf, headerLength}
 use Rattle.pfm_header.proofs.Text.{length-header}
 use Rattle.pfm.specs.declared.PfmWritten.{PfmWritten}
-use Rattle.pfm.specs.File.{pixelBytes, pixelAt, rowAt, rowUp, bodyOf, fileOf, PictureWritten}
+use Rattle.pfm.specs.File.{pixelBytes, pixelAt, rowAt, rowUp, bodyOf, fileIn, PictureWritten}
 use Rattle.laws.proofs.Joined.{run-at}
 use Rattle.pfm.proofs.Whole.{length-at, length-row}
 use Rattle.pfm.proofs.Calls.{written-file}
 
 -- part of a part
-part-of : (l : List ℕ) (a b m n : ℕ) → b + n ≤ m → take n (drop b (take m (drop a l))) ≡ take n (drop (a + b) l)
+pub part-of : (l : List ℕ) (a b m n : ℕ) → b + n ≤ m → take n (drop b (take m (drop a l))) ≡ take n (drop (a + b) l)
 part-of l a b m n h = go (drop a l) b m n h ∙ ap (take n) (drop-drop b a l)
   where
     go : (l : List ℕ) (b m n : ℕ) → b + n ≤ m → take n (drop b (take m l)) ≡ take n (drop b l)
@@ -30,7 +30,7 @@ part-of l a b m n h = go (drop a l) b m n h ∙ ap (take n) (drop-drop b a l)
     go (x ∷ l) (suc b) zero n h = absurd (omega arith)
     go (x ∷ l) (suc b) (suc m) n h = go l b m n (omega arith)
 
-module _ (blocks : List ℕ) (format width height x y : ℕ) (hx : x < width) (hy : y < height) where
+module _ (blocks : List ℕ) (format across width height x y : ℕ) (hx : x < width) (hy : y < height) where
   place : ℕ
   place = 12 * ((height - 1 - y) * width + x)
 
@@ -43,25 +43,25 @@ module _ (blocks : List ℕ) (format width height x y : ℕ) (hx : x < width) (h
   back : height - 1 - (height - 1 - y) ≡ y
   back = omega arith
 
-  row-is : take (12 * width) (drop (12 * width * (height - 1 - y)) (bodyOf blocks format width height)) ≡ rowAt blocks format width y
+  row-is : take (12 * width) (drop (12 * width * (height - 1 - y)) (bodyOf blocks format across width height)) ≡ rowAt blocks format across width y
   unfolding bodyOf rowUp
   row-is =
-      ap (λ (t : List ℕ). take (12 * width) (drop (12 * width * (height - 1 - y)) t)) (sym (append-nil (join (made (rowUp blocks format width height) height))))
-      ∙ run-at (rowUp blocks format width height) (12 * width) (length-row blocks format width height) height (height - 1 - y) [] (omega arith)
-      ∙ ap (rowAt blocks format width) back
+      ap (λ (t : List ℕ). take (12 * width) (drop (12 * width * (height - 1 - y)) t)) (sym (append-nil (join (made (rowUp blocks format across width height) height))))
+      ∙ run-at (rowUp blocks format across width height) (12 * width) (length-row blocks format across width height) height (height - 1 - y) [] (omega arith)
+      ∙ ap (rowAt blocks format across width) back
 
-  pixel-is : take 12 (drop (12 * x) (rowAt blocks format width y)) ≡ pixelAt blocks format (width / 4) y x
+  pixel-is : take 12 (drop (12 * x) (rowAt blocks format across width y)) ≡ pixelAt blocks format across y x
   unfolding rowAt
   pixel-is =
-      ap (λ (t : List ℕ). take 12 (drop (12 * x) t)) (sym (append-nil (join (made (pixelAt blocks format (width / 4) y) width))))
-      ∙ run-at (pixelAt blocks format (width / 4) y) 12 (length-at blocks format (width / 4) y) width x [] hx
+      ap (λ (t : List ℕ). take 12 (drop (12 * x) t)) (sym (append-nil (join (made (pixelAt blocks format across y) width))))
+      ∙ run-at (pixelAt blocks format across y) 12 (length-at blocks format across y) width x [] hx
 
   -- in the file
-  pub pixel-place : take 12 (drop (headerLength width height + 12 * ((height - 1 - y) * width + x)) (fileOf blocks format width height))
-      ≡ pixelBytes (pixelsOf (isSigned format) (blockAt blocks (y / 4 * (width / 4) + x / 4))) (4 * (y % 4) + x % 4)
-  unfolding fileOf pixelAt
+  pub pixel-place : take 12 (drop (headerLength width height + 12 * ((height - 1 - y) * width + x)) (fileIn blocks format across width height))
+      ≡ pixelBytes (pixelsOf (isSigned format) (blockAt blocks (y / 4 * across + x / 4))) (4 * (y % 4) + x % 4)
+  unfolding fileIn pixelAt
   pixel-place =
-      let b = bodyOf blocks format width height in
+      let b = bodyOf blocks format across width height in
       let p = 12 * ((height - 1 - y) * width + x) in
       let w : 12 * x + 12 ≤ 12 * width = omega arith in
       ap (take 12)
@@ -77,4 +77,4 @@ pub pixel-written : {blocks : List ℕ} {format width height : ℕ} {out after :
     ≡ pixelBytes (pixelsOf (isSigned format) (blockAt blocks (y / 4 * (width / 4) + x / 4))) (4 * (y % 4) + x % 4)
 pixel-written {blocks} {format} {width} {height} w z x y hx hy =
     ap (λ (t : List ℕ). take 12 (drop (headerLength width height + 12 * ((height - 1 - y) * width + x)) t)) (written-file w z)
-    ∙ pixel-place blocks format width height x y hx hy
+    ∙ pixel-place blocks format (width / 4) width height x y hx hy

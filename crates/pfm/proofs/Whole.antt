@@ -41,43 +41,41 @@ module _ (blocks : List ℕ) (format across : ℕ) where
       (quarter-pixels (pixelsOf (isSigned format) (blockAt blocks (across * d + k))) row h)
 
   -- a row of pixels is a row of a row of blocks
-  row-line : (d row : ℕ) → row < 4 → rowAt blocks format (4 * across) (4 * d + row) ≡ lineAt blocks format (across * d) across row
+  row-line : (d row : ℕ) → row < 4 → rowAt blocks format across (4 * across) (4 * d + row) ≡ lineAt blocks format (across * d) across row
   unfolding rowAt lineAt
   row-line d row h =
-      let four : 4 * across / 4 ≡ across = omega arith in
-      rw four
-      (run-fours (pixelAt blocks format across (4 * d + row)) (cellAt blocks format (across * d) row) (λ k. cell-fours d row k h) across)
+      run-fours (pixelAt blocks format across (4 * d + row)) (cellAt blocks format (across * d) row) (λ k. cell-fours d row k h) across
 
 -- file rows are counted from the bottom
 module _ (blocks : List ℕ) (format across down : ℕ) where
-  up-line : (n i : ℕ) → n < down → i < 4 → rowUp blocks format (4 * across) (4 * down) (4 * n + i) ≡ lineAt blocks format (across * (down - 1 - n)) across (3 - i)
+  up-line : (n i : ℕ) → n < down → i < 4 → rowUp blocks format across (4 * across) (4 * down) (4 * n + i) ≡ lineAt blocks format (across * (down - 1 - n)) across (3 - i)
   unfolding rowUp
   up-line n i h l =
       let y : 4 * down - 1 - (4 * n + i) ≡ 4 * (down - 1 - n) + (3 - i) = omega arith in
-      ap (rowAt blocks format (4 * across)) y ∙ row-line blocks format across (down - 1 - n) (3 - i) (omega arith)
+      ap (rowAt blocks format across (4 * across)) y ∙ row-line blocks format across (down - 1 - n) (3 - i) (omega arith)
 
   fourRows : ℕ → List ℕ
   fourRows n =
-      rowUp blocks format (4 * across) (4 * down) (4 * n)
-      ++ (rowUp blocks format (4 * across) (4 * down) (4 * n + 1) ++ (rowUp blocks format (4 * across) (4 * down) (4 * n + 2) ++ rowUp blocks format (4 * across) (4 * down) (4 * n + 3)))
+      rowUp blocks format across (4 * across) (4 * down) (4 * n)
+      ++ (rowUp blocks format across (4 * across) (4 * down) (4 * n + 1) ++ (rowUp blocks format across (4 * across) (4 * down) (4 * n + 2) ++ rowUp blocks format across (4 * across) (4 * down) (4 * n + 3)))
 
   up-band : (n : ℕ) → n < down → fourRows n ≡ bandUp blocks format across down n
   unfolding bandUp bandAt fourRows
   up-band n h =
       let zero-more : 4 * n ≡ 4 * n + 0 = omega arith in
-      let first : rowUp blocks format (4 * across) (4 * down) (4 * n) ≡ lineAt blocks format (across * (down - 1 - n)) across 3 =
-      ap (rowUp blocks format (4 * across) (4 * down)) zero-more ∙ up-line n 0 h (omega arith) in
+      let first : rowUp blocks format across (4 * across) (4 * down) (4 * n) ≡ lineAt blocks format (across * (down - 1 - n)) across 3 =
+      ap (rowUp blocks format across (4 * across) (4 * down)) zero-more ∙ up-line n 0 h (omega arith) in
       rw (first, up-line n 1 h (omega arith), up-line n 2 h (omega arith), up-line n 3 h (omega arith))
 
   -- what is written row of blocks by row of blocks is the file's body
-  pub body-bands : bodyOf blocks format (4 * across) (4 * down) ≡ bandsOf blocks format across down
+  pub body-bands : bodyOf blocks format across (4 * across) (4 * down) ≡ bandsOf blocks format across down
   unfolding bodyOf bandsOf fourRows
   body-bands =
-      run-fours (rowUp blocks format (4 * across) (4 * down)) fourRows (λ k. four-is k) down ∙ ap join (made-same fourRows (bandUp blocks format across down) down up-band)
+      run-fours (rowUp blocks format across (4 * across) (4 * down)) fourRows (λ k. four-is k) down ∙ ap join (made-same fourRows (bandUp blocks format across down) down up-band)
     where
       four-is : (k : ℕ) → fourRows k
-          ≡ rowUp blocks format (4 * across) (4 * down) (4 * k)
-          ++ (rowUp blocks format (4 * across) (4 * down) (4 * k + 1) ++ (rowUp blocks format (4 * across) (4 * down) (4 * k + 2) ++ rowUp blocks format (4 * across) (4 * down) (4 * k + 3)))
+          ≡ rowUp blocks format across (4 * across) (4 * down) (4 * k)
+          ++ (rowUp blocks format across (4 * across) (4 * down) (4 * k + 1) ++ (rowUp blocks format across (4 * across) (4 * down) (4 * k + 2) ++ rowUp blocks format across (4 * across) (4 * down) (4 * k + 3)))
       four-is k = refl
 
 -- ---- lengths
@@ -86,10 +84,12 @@ pub length-at : (blocks : List ℕ) (format across y x : ℕ) → length (pixelA
 unfolding pixelAt
 length-at blocks format across y x = length-pixel _ _
 
-pub length-row : (blocks : List ℕ) (format width height i : ℕ) → length (rowUp blocks format width height i) ≡ 12 * width
+pub length-row : (blocks : List ℕ) (format across width height i : ℕ) → length (rowUp blocks format across width height i) ≡ 12 * width
 unfolding rowUp rowAt
-length-row blocks format width height i = run-length (pixelAt blocks format (width / 4) (height - 1 - i)) 12 (length-at blocks format (width / 4) (height - 1 - i)) width
+length-row blocks format across width height i =
+    run-length (pixelAt blocks format across (height - 1 - i)) 12 (length-at blocks format across (height - 1 - i)) width
 
-pub length-body : (blocks : List ℕ) (format width height : ℕ) → length (bodyOf blocks format width height) ≡ 12 * width * height
+pub length-body : (blocks : List ℕ) (format across width height : ℕ) → length (bodyOf blocks format across width height) ≡ 12 * width * height
 unfolding bodyOf
-length-body blocks format width height = run-length (rowUp blocks format width height) (12 * width) (length-row blocks format width height) height
+length-body blocks format across width height =
+    run-length (rowUp blocks format across width height) (12 * width) (length-row blocks format across width height) height

@@ -1,5 +1,5 @@
-"""Records with a place, the moves between them and 24-byte records, and a place that is put, as S-53 to S-55 and S-91 state them, and nothing of
-the code."""
+"""Records with a place, the moves between them and 24-byte records, and one place that is put, as S-53 to S-55, S-91 and S-100 state them, and
+nothing of the code."""
 import struct
 
 OLD, OLD_LIMIT = 24, 48_000
@@ -82,6 +82,14 @@ def put(store, room, n, face, column, row):
     if new_refusal(bytes(5) + place + bytes(22)):
         return BAD_PLACE, 0, b""
     return DONE, 0, store[:at + 5] + place + store[at + 10:]
+
+
+def put_output(wish):
+    """What the program run_put writes of what it reads."""
+    if len(wish) < 9:
+        return b""
+    number, _, made = put(wish[9:], NEW_LIMIT, *struct.unpack_from("<IBHH", wish))
+    return bytes([number]) + made
 
 
 def faulty(store):

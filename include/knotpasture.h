@@ -370,8 +370,8 @@ uint64_t knot_unplace_store(const uint8_t *store, size_t store_length, uint8_t *
 /* Sets the place of record n: writes to out the store with the face, column and row of record n set. Every other byte is the store's; the rest
  * of out stays. Face KNOT_NO_FACE, column 0 and row 0 take the place away. What place the record has does not matter.
  *
- * Answers as knot_place_store. Refusals: 5, 6, 3 (less room than the store has bytes), 8, 1, 7 (of record n, with its number; the other records are not
- * looked at), 17 (of the place that is given), in this order.
+ * Answers as knot_place_store. Refusals: 5, 6, 3 (less room than the store has bytes), 8, 1, 7 (of record n, with its number; no other record
+ * is looked at), 17 (of the place that is given), in this order.
  *
  * Stack: 50 bytes.
  */

@@ -61,8 +61,10 @@ class Asked:
 
 
 class Line:
-    def __init__(self, *forms, options=(), example="", statuses=STATUSES):
+    def __init__(self, *forms, options=(), example="", statuses=STATUSES, dashed=()):
         self.forms, self.options, self.example, self.statuses = [Form(form) for form in forms], list(options), example, statuses
+        # Words that begin with a dash, and yet are operands.
+        self.dashed = dashed
 
     def parsed(self, words):
         given, operands = self.split(list(words))
@@ -87,7 +89,7 @@ class Line:
             word = words.pop(0)
             if word == "--":
                 return given, operands + words
-            if not word.startswith("-") or word == "-" or word[1:2].isdigit():
+            if not word.startswith("-") or word == "-" or word[1:2].isdigit() or word.upper() in self.dashed:
                 operands.append(word)
                 continue
             name, has_value, value = word.partition("=")

@@ -1,5 +1,14 @@
-"""What knot place and knot unplace share: a store is moved from one file to another, whole or not at all."""
+"""What knot place, knot unplace and knot probe --make share: what a program makes of a store, whole or not at all."""
 from . import house
+
+
+def answered(program, wish, length):
+    """A program's number, and what it made: `length` bytes where the number is 0, else nothing."""
+    def is_whole(answer):
+        return answer[:1] == b"\0" and len(answer) == 1 + length or len(answer) == 1 and answer != b"\0"
+
+    answer = house.ask(program, wish, is_whole)
+    return answer[0], answer[1:]
 
 
 def move(asked, program, read, size, moved_size):
@@ -7,13 +16,8 @@ def move(asked, program, read, size, moved_size):
     house.keep_apart(asked.made, asked.given)
     store = read(asked.given, asked.as_store)
     count, rest = divmod(len(store), size)
-
-    def is_whole(answer):
-        moved = answer[:1] == b"\0" and rest == 0 and len(answer) == 1 + count * moved_size
-        return moved or len(answer) == 1 and answer != b"\0"
-
-    answer = house.ask(program, store, is_whole)
-    if answer[0] != 0:
-        raise house.Refused(answer[0], f"store refused {answer[0]}\n")
-    house.write_whole(asked.made, answer[1:])
+    number, moved = answered(program, store, count * moved_size if rest == 0 else -1)
+    if number != 0:
+        raise house.Refused(number, f"store refused {number}\n")
+    house.write_whole(asked.made, moved)
     house.say(f"moved {count}\n", asked.made)

@@ -1,4 +1,5 @@
-"""Records with a place, and the moves between them and 24-byte records, as S-53 to S-55 state them, and nothing of the code."""
+"""Records with a place, the moves between them and 24-byte records, and one place that is put, as S-53 to S-55, S-91 and S-100 state them, and
+nothing of the code."""
 import struct
 
 OLD, OLD_LIMIT = 24, 48_000
@@ -61,6 +62,31 @@ def place(store, room):
 
 def unplace(store, room):
     return moved(store, room, NEW_LIMIT, NEW, OLD, back_refusal, lambda record: record[:5] + bytes(3) + record[16:])
+
+
+def put(store, n, face, column, row):
+    """The number, and the store with the place of record n set; none on a refusal."""
+    if len(store) > NEW_LIMIT:
+        return LONG, b""
+    if len(store) % NEW:
+        return UNEVEN, b""
+    records = split(store, NEW)
+    if n >= len(records):
+        return NO_RECORD, b""
+    if new_refusal(records[n]) in (BAD_FORMAT, SPARE):
+        return new_refusal(records[n]), b""
+    if face not in range(6) and (face, column, row) != (255, 0, 0):
+        return BAD_PLACE, b""
+    records[n] = records[n][:5] + struct.pack("<BHH", face, column, row) + records[n][10:]
+    return DONE, b"".join(records)
+
+
+def put_output(wish):
+    """What the program run_put writes of what it reads."""
+    if len(wish) < 9:
+        return b""
+    number, made = put(wish[9:], *struct.unpack_from("<IBHH", wish))
+    return bytes([number]) + made
 
 
 def faulty(store):

@@ -1,4 +1,4 @@
-"""The probe as S-56 to S-58 state it, and nothing of the code: what each call answers, and stores to ask about. Pictures are blocks of mode 11,
+"""The probe as S-56 to S-59 and S-102 state it, and nothing of the code: what each call answers, and stores to ask about. Pictures are blocks of mode 11,
 of which S-19 to S-23 give the few steps from ten stored bits to a half-float."""
 import random
 import struct
@@ -163,6 +163,86 @@ def build(blocks, form, edge, first, room):
     places = [(face, column, row) for face in range(FACES) for row in range(edge) for column in range(edge)]
     pieces = [record(*place, blocks[16 * n : 16 * n + 16], form, (first + n) % 2**32) for n, place in enumerate(places)]
     return 0, b"".join(pieces)
+
+
+# ---- what the programs write
+
+
+def build_output(wish):
+    """What run_build writes of what it reads: S-101."""
+    if len(wish) < 9:
+        return b""
+    form, size, first = struct.unpack_from("<BII", wish)
+    number, store = build(wish[9:], form, size, first, SIZE * 1536)
+    return bytes([number]) + store
+
+
+def fault_line(number, record):
+    return f"store refused {number}{f' record {record}' if number in (1, 7, 17, 20, 21, 22) else ''}\n".encode()
+
+
+def told(store, size):
+    number, record = check(store, size)
+    return fault_line(number, record) if number else f"probe edge {size} records {len(store) // SIZE}\n".encode()
+
+
+def probe_output(question):
+    """What run_probe writes of what it reads: S-102. A face is its rows of triples, from the top; None for one that is written."""
+    if len(question) < 9:
+        return b"", None
+    kind, size, face = struct.unpack_from("<BII", question)
+    store = question[9:]
+    if kind in (0, 2):
+        return told(store, size if kind == 0 else edge(store)), None
+    if kind not in (1, 3):
+        return b"", None
+    number, record = check(store, size)
+    if number or face >= FACES:
+        return fault_line(number or 24, record), None
+    shown = Shown(store)
+    return None, [[shown.triple(face, x, y) for x in range(4 * size)] for y in range(4 * size)]
+
+
+def pfm(rows):
+    """The file from the words of S-64: header, then rows from the bottom up, each half-float as a float."""
+    floats = [struct.unpack("<e", struct.pack("<H", value))[0] for row in reversed(rows) for triple in row for value in triple]
+    return b"PF\n%d %d\n-1.0\n" % (len(rows), len(rows)) + struct.pack(f"<{len(floats)}f", *floats)
+
+
+def exr_rows(file):
+    """The rows of triples of a file that is as S-92 says, read by the public description of the format: attributes, table of lines, lines."""
+    if struct.unpack_from("<II", file) != (20000630, 2):
+        raise ValueError("no OpenEXR file of one part with scan lines")
+    at, found = 8, {}
+    while file[at]:
+        name, kind, rest = file[at:].split(b"\0", 2)
+        at = len(file) - len(rest) + 4
+        size = struct.unpack_from("<I", rest)[0]
+        found[name.decode()] = kind.decode(), file[at:at + size]
+        at += size
+    at += 1
+    left, top, right, bottom = struct.unpack("<4i", found["dataWindow"][1])
+    one = struct.pack("<f", 1)
+    channel = struct.pack("<4I", 1, 0, 1, 1)
+    wanted = {
+        "channels": ("chlist", b"B\0" + channel + b"G\0" + channel + b"R\0" + channel + b"\0"), "compression": ("compression", b"\0"),
+        "dataWindow": ("box2i", struct.pack("<4i", 0, 0, right, bottom)), "displayWindow": ("box2i", struct.pack("<4i", 0, 0, right, bottom)),
+        "lineOrder": ("lineOrder", b"\0"), "pixelAspectRatio": ("float", one), "screenWindowCenter": ("v2f", bytes(8)), "screenWindowWidth": ("float", one),
+    }
+    if found != wanted:
+        raise ValueError(f"the attributes are {found}")
+    width, height, rows = right + 1, bottom + 1, []
+    starts = struct.unpack_from(f"<{height}Q", file, at)
+    at += 8 * height
+    for y, start in enumerate(starts):
+        if start != at or struct.unpack_from("<iI", file, at) != (y, 6 * width):
+            raise ValueError(f"line {y} is not where the table says, or has another head")
+        blue, green, red = (struct.unpack_from(f"<{width}H", file, at + 8 + 2 * width * k) for k in range(3))
+        rows.append(list(zip(red, green, blue)))
+        at += 8 + 6 * width
+    if at != len(file):
+        raise ValueError("bytes are left over")
+    return rows
 
 
 def orders(records):

@@ -35,7 +35,7 @@ impl ExrWritten {
 }
 
 // A pattern, its low byte first.
-fn put_half(half: u16, out: &mut [u8], at: usize)
+pub fn put_half(half: u16, out: &mut [u8], at: usize)
     requires { ⌜ at + 2 ≤ length (now out) ⌝ }
     ensures { λ _. ⌜ now (out .exit) ≡ sets (now (out .entry)) at (lowFirst 2 half) ⌝ }
 {

@@ -9,7 +9,7 @@ use run_streams::StoreInput;
 use run_streams::first_bytes;
 use run_streams::read_input;
 use run_streams::write_text;
-use text_moves::Output;
+use text_moves::PLACED;
 use text_moves::put_placed;
 
 // What goes out is the definition of what was read.
@@ -24,7 +24,7 @@ fn main() {
     let Input::Whole(size) = read_input(&mut input) else {
         return;
     };
-    let mut out = [0u8; Output::PLACED];
+    let mut out = [0u8; PLACED];
     let end = put_placed(first_bytes(&input, size), &mut out);
     write_placed(&input, size, &out, end);
 }

@@ -1,6 +1,7 @@
-// Says whether a store is a probe of an edge, or writes a face of it as a Portable Float Map, to standard output.
+// Says whether a store is a probe, or writes a face of it as a Portable Float Map or an OpenEXR file, to standard output.
 //
-// Standard input has a byte, 0 to be told and another for a face; the edge and the face in four bytes each, low byte first; then the store.
+// Standard input has the kind, a byte: 0 to be told of an edge, 1 for a face as a Portable Float Map, 2 to be told of the edge that fits the
+// store, 3 for a face as an OpenEXR file; the edge and the face in four bytes each, low byte first; then the store.
 // A refusal is a line that begins `store refused`. Each block is shown in the format of its own record.
 
 ghost use Rattle.text_probe.specs.Output.{questionLimit, probeOutput};
@@ -9,7 +10,8 @@ use run_streams::Input;
 use run_streams::first_bytes;
 use run_streams::read_input;
 use run_streams::write_text;
-use text_probe::Question;
+use text_probe::ANSWER;
+use text_probe::QUESTION;
 use text_probe::put_probe;
 
 // What goes out is the definition of what was read.
@@ -20,11 +22,11 @@ fn write_probe(input: &[u8], size: usize, out: &[u8], end: usize)
 }
 
 fn main() {
-    let mut input = [0u8; Question::ROOM];
+    let mut input = [0u8; QUESTION];
     let Input::Whole(size) = read_input(&mut input) else {
         return;
     };
-    let mut out = [0u8; Question::OUTPUT];
+    let mut out = [0u8; ANSWER];
     let end = put_probe(first_bytes(&input, size), &mut out);
     write_probe(&input, size, &out, end);
 }

@@ -9,7 +9,7 @@ use run_streams::Input;
 use run_streams::first_bytes;
 use run_streams::read_input;
 use run_streams::write_text;
-use text_moves::Output;
+use text_moves::UNPLACED;
 use text_moves::put_unplaced;
 
 // One byte more than a store may have: enough to tell that one is too long.
@@ -27,7 +27,7 @@ fn main() {
     let Input::Whole(size) = read_input(&mut input) else {
         return;
     };
-    let mut out = [0u8; Output::UNPLACED];
+    let mut out = [0u8; UNPLACED];
     let end = put_unplaced(first_bytes(&input, size), &mut out);
     write_unplaced(&input, size, &out, end);
 }

@@ -3,25 +3,30 @@ use mathlib.Core.Path.{_≡_, refl, sym, ap, _∙_}
 use mathlib.Core.List.{List, [], _∷_, _++_, append-nil}
 use Prim.Native.Nat.{ℕ, zero, suc, _+_, _-_, _*_, _≤_, _<_}
 use native.Mathlib.Omega.{arith}
-use lib.ListN.{length, set, take, drop, drop-of-length-le}
+use lib.ListN.{length, getD, set, take, drop, drop-of-length-le, length-drop}
 use lib.Seq.{sets, sets-eq, take-all, length-take-le}
 use lib.Dec.{ltb}
-use borrow.Author.Tests.{ltb-true, ltb-false}
+use borrow.Author.Tests.{lt-ltb, le-ltb, ltb-true, ltb-false}
 use borrow.Rule.Slice.PartMut.{midOf, putMid, mid-len}
 use Rattle.laws.proofs.Tests.{cases}
 use Rattle.bcn_spec.specs.Answers.{done, longStore}
 use Rattle.store_records.specs.Store.{recordSize, storeLimit, recordsIn, recordRefusal}
 use Rattle.probe_places.specs.Places.{placeSize, placeLimit, placesIn}
 use Rattle.probe_places.specs.declared.Fault.{Fault}
+use Rattle.probe_places.specs.declared.Place.{Place}
 use Rattle.probe_places.specs.Faults.{firstFault, wholeFirst}
 use Rattle.probe_moves.specs.declared.Moved.{Moved}
 use Rattle.probe_moves.specs.Moves.{placedStore, oldStore, backRefusal, placingFault, unplacingFault, placingRefusal, unplacingRefusal, MovedTo, PlacedStore, UnplacedStore}
 use Rattle.probe_moves.proofs.Checks.{long}
 use Rattle.probe_moves.proofs.Moving.{placed-length, old-length}
 use Rattle.probe_moves.proofs.Calls.{answer-number, whole-moved, silent, place-done, unplace-done}
+use Rattle.probe_put.specs.Put.{putStore, recordFault, puttingFault, PlacePut}
+use Rattle.probe_put.proofs.Putting.{put-length, put-known}
+use Rattle.raw_bytes.specs.Bytes.{lowFirst}
 use Rattle.text.specs.Text.{Written}
-use Rattle.text.proofs.Texts.{said, written-length}
-use Rattle.text_moves.specs.Output.{movedOutput, placedOutput, unplacedOutput}
+use Rattle.text.proofs.Texts.{said}
+use Rattle.text_moves.proofs.Heads.{Put, fitting, nothing, rest-whole}
+use Rattle.text_moves.specs.Output.{movedOutput, placedOutput, unplacedOutput, wishHead, wishLimit, wishedRecord, wishedPlace, wishOutput}
 
 -- ---- a byte, and a word that was stored in the part behind it
 
@@ -44,35 +49,39 @@ answer-first (x ∷ rest) word after answer h e =
       exit-is = rw (size, none) (behind answer rest word after (rw (size, whole) at e) (omega arith));
     }
 
--- ---- of both moves
+-- ---- an answer and what it says of the moved bytes
+
+module _ (out after moved : List ℕ) {answer k : ℕ} (e : answer ≡ k) where
+  pub answered-refused : (answer ≡ done → ⊥) → after ≡ midOf 1 (length out - 1) out → 1 ≤ length out
+      → Written out 0 (movedOutput k moved) 1 (set (putMid 1 (length out - 1) out after) 0 answer)
+  answered-refused n silent some = said (answer-first out [] after answer some silent) (go k e)
+    where
+      go : (k : ℕ) → answer ≡ k → answer ∷ [] ≡ movedOutput k moved
+      go zero e = absurd (n e)
+      go (suc k) e = ap (λ (a : ℕ). a ∷ []) e
+
+  pub answered-done : answer ≡ done → after ≡ moved ++ drop (length moved) (midOf 1 (length out - 1) out) → {size : ℕ} → length moved ≡ size
+      → 1 + size ≤ length out → Written out 0 (movedOutput k moved) (1 + size) (set (putMid 1 (length out - 1) out after) 0 answer)
+  answered-done z whole {size} l room =
+      let number : k ≡ done = sym e ∙ z in
+      rw (sym l) (said (answer-first out moved after answer (omega arith) whole) (rw (number, z)))
+
+-- ---- of each move
 
 module _ {fault : Fault} {count : ℕ} {moved : List ℕ} (out after : List ℕ) {r : Moved} (d : MovedTo fault count moved (midOf 1 (length out - 1) out) r after)
   where
     written-refused : 1 ≤ length out → (r .answer ≡ done → ⊥)
         → Written out 0 (movedOutput (fault .answer) moved) 1 (set (putMid 1 (length out - 1) out after) 0 (r .answer))
-    written-refused some n = said (answer-first out [] after (r .answer) some (silent d n)) (go (fault .answer) (answer-number d))
-      where
-        go : (k : ℕ) → r .answer ≡ k → r .answer ∷ [] ≡ movedOutput k moved
-        go zero e = absurd (n e)
-        go (suc k) e = ap (λ (a : ℕ). a ∷ []) e
+    written-refused some n = answered-refused out after moved (answer-number d) n (silent d n) some
 
     written-done : r .answer ≡ done → {size : ℕ} → length moved ≡ size → 1 + size ≤ length out
         → Written out 0 (movedOutput (fault .answer) moved) (1 + size) (set (putMid 1 (length out - 1) out after) 0 (r .answer))
-    written-done z {size} e room =
-        let number : fault .answer ≡ done = sym (answer-number d) ∙ z in
-        rw (sym e) (said (answer-first out moved after (r .answer) (omega arith) (whole-moved d z)) (rw (number, z)))
+    written-done z e room = answered-done out after moved (answer-number d) z (whole-moved d z) e room
 
 -- ---- of each, where what is lent is the room that the definition has
 
-part-length : (out : List ℕ) {room : ℕ} → length out ≡ 1 + room → length (midOf 1 (length out - 1) out) ≡ room
+pub part-length : (out : List ℕ) {room : ℕ} → length out ≡ 1 + room → length (midOf 1 (length out - 1) out) ≡ room
 part-length out e = mid-len 1 (length out) out (omega arith) ∙ omega arith
-
--- the output ends within the bytes that were lent
-abbrev pub Put : (out word : List ℕ) (end : ℕ) (exit : List ℕ) → Type 0
-Put out word end exit = (end ≤ length exit) × Written out 0 word end exit
-
-fitting : {out word exit : List ℕ} {end : ℕ} → end ≤ length out → Written out 0 word end exit → Put out word end exit
-fitting h w = (rw (written-length w) h, w)
 
 module _ (old out after : List ℕ) {r : Moved} (room : length out ≡ 1 + placeLimit) (d : PlacedStore old (midOf 1 (length out - 1) out) r after) where
   lent : movedOutput (placingRefusal old (length (midOf 1 (length out - 1) out))) (placedStore old) ≡ placedOutput old
@@ -104,6 +113,32 @@ module _ (new out after : List ℕ) {r : Moved} (room : length out ≡ 1 + store
       let l : length (midOf 1 (length out - 1) out) ≡ storeLimit = part-length out room in
       fitting (omega arith) (said (written-done out after d z (old-length new) (omega arith)) lent-back)
 
+module _ (input : List ℕ) (h : wishHead ≤ length input) where
+  module _ {n column row : ℕ} (number : n ≡ lowFirst input 0 4) (col : column ≡ lowFirst input 5 2) (r2 : row ≡ lowFirst input 7 2) where
+    abbrev store : List ℕ
+    store = take (length input - wishHead) (drop wishHead input)
+
+    abbrev place : Place
+    place = record { face = getD input 4 0; column = column; row = row }
+
+    lent-wish : (room : ℕ) → room ≡ placeLimit → movedOutput (puttingFault store n place room .answer) (putStore store n place) ≡ wishOutput input
+    unfolding wishOutput wishedRecord wishedPlace
+    lent-wish room e = rw (e, rest-whole wishHead input h, le-ltb _ _ h, number, col, r2)
+
+    module _ (out after : List ℕ) {r : Moved} (room : length out ≡ 1 + placeLimit) (d : PlacePut store n place (midOf 1 (length out - 1) out) r after) where
+      pub wish-refused : (r .answer ≡ done → ⊥) → Put out (wishOutput input) 1 (set (putMid 1 (length out - 1) out after) 0 (r .answer))
+      wish-refused not-done = fitting (omega arith) (said (written-refused out after d (omega arith) not-done) (lent-wish _ (part-length out room)))
+
+      pub wish-done : r .answer ≡ done
+          → Put out (wishOutput input) (1 + length store) (set (putMid 1 (length out - 1) out after) 0 (r .answer))
+      wish-done z =
+          let p = put-known store n place d z .fits in
+          fitting (omega arith) (said (written-done out after d z (put-length store n place) (omega arith)) (lent-wish _ (part-length out room)))
+
+pub no-wish : (input out : List ℕ) → length input < wishHead → Put out (wishOutput input) 0 out
+unfolding wishOutput
+no-wish input out h = nothing out (rw (lt-ltb _ _ h))
+
 -- ---- an input that is longer than any store that is taken is refused, and what is cut off of it changes nothing
 
 module _ (definition : List ℕ → List ℕ) (limit number : ℕ) (long-refused : (l : List ℕ) → limit < length l → definition l ≡ number ∷ []) where
@@ -131,3 +166,14 @@ long-unplaced new h = alone (oldStore new) (firstFault (backRefusal new) (places
 
 pub unplaced-cut : (input : List ℕ) (room : ℕ) → placeLimit < room → unplacedOutput (take room input) ≡ unplacedOutput input
 unplaced-cut = cut unplacedOutput placeLimit longStore long-unplaced
+
+long-wish : (input : List ℕ) → wishLimit < length input → wishOutput input ≡ longStore ∷ []
+unfolding wishOutput puttingFault
+long-wish input h =
+    let some : wishHead ≤ length input = omega arith in
+    let store = drop wishHead input in
+    let far : placeLimit < length store = simp length-drop (omega arith) in
+    rw (le-ltb _ _ some) (alone _ (recordFault store (wishedRecord input) (wishedPlace input)) (long placeLimit placeSize placeSize (length store) placeLimit far))
+
+pub wish-cut : (input : List ℕ) (room : ℕ) → wishLimit < room → wishOutput (take room input) ≡ wishOutput input
+wish-cut = cut wishOutput wishLimit longStore long-wish

@@ -2,12 +2,12 @@
 use mathlib.Core.Path.{_≡_, refl, sym, ap, _∙_}
 use mathlib.Core.List.{List, [], _++_}
 use Prim.Native.Nat.{ℕ, _+_, _-_, _*_, _/_, _%_, _≤_, _<_}
-use native.Mathlib.Nat.{mul-le-mul, mod-lt, div-lt-iff-lt-mul}
+use native.Mathlib.Nat.{mod-lt, div-lt-iff-lt-mul}
 use native.Mathlib.Omega.{arith}
 use lib.ListN.{length}
 use lib.Seq.{sets}
 use Rattle.laws.specs.Made.{made, join}
-use Rattle.laws.proofs.Joined.{run-length, run-more}
+use Rattle.laws.proofs.Joined.{run-length}
 use Rattle.laws.proofs.Rows.{made-same}
 use Rattle.pfm_floats.specs.declared.Rgb.{Rgb}
 use Rattle.pfm_floats.specs.Bytes.{rgbBytes}
@@ -18,14 +18,13 @@ use Rattle.pfm.specs.File.{colourAt, pixelBytes}
 use Rattle.pfm.proofs.Bands.{length-pixel}
 use Rattle.probe.proofs.Counting.{digits-below}
 use Rattle.text.specs.Text.{Written}
-use Rattle.text.proofs.Texts.{sets-append, then}
+use Rattle.text.proofs.Texts.{then}
+use Rattle.exr_square.proofs.Runs.{one-put, all-put}
+use Rattle.exr_square.proofs.Squares.{square-few}
 use Rattle.text_probe.specs.Image.{pixelUp, imagePixel, imageBody, imageFile}
 use Rattle.text_probe.specs.Output.{outputRoom}
 
 -- ---- where a pixel of the file stands in the picture
-
-pub square-few : (side : ℕ) → side ≤ 64 → side * side ≤ 4096
-square-few side h = mul-le-mul {n₁ = side} {m₁ = side} {n₂ = 64} {m₂ = 64} h h
 
 -- its row and column, and that it is inside
 pub record Here (side j : ℕ) : Type 0 where
@@ -54,32 +53,21 @@ module _ (values : List ℕ) (side : ℕ) where
   unfolding imagePixel
   pixel-length j = length-pixel values _
 
-  upto-length : (j : ℕ) → length (join (made (imagePixel values side) j)) ≡ 12 * j
-  upto-length = run-length (imagePixel values side) 12 pixel-length
-
-  pub pixels-none : (out : List ℕ) (at : ℕ) → out ≡ sets out at (join (made (imagePixel values side) 0))
-  unfolding made
-  pixels-none out at = refl
-
   pub pixels-more : (out₀ out : List ℕ) (at j : ℕ) {p : Rgb} {exit : List ℕ} → out ≡ sets out₀ at (join (made (imagePixel values side) j))
       → p ≡ colourAt values (pixelUp side j) → exit ≡ sets out (at + 12 * j) (rgbBytes p)
       → exit ≡ sets out₀ at (join (made (imagePixel values side) (j + 1)))
   unfolding imagePixel pixelBytes
   pixels-more out₀ out at j {p} e q w =
-      w ∙ ap (λ (c : Rgb). sets out (at + 12 * j) (rgbBytes c)) q ∙ ap (λ (l : List ℕ). sets l (at + 12 * j) (imagePixel values side j)) e
-      ∙ sets-append (join (made (imagePixel values side) j)) (imagePixel values side j) out₀ at (at + 12 * j) (let l = upto-length j in omega arith)
-      ∙ ap (sets out₀ at) (sym (run-more (imagePixel values side) j))
+      one-put (imagePixel values side) 12 pixel-length out₀ out _ at j e (w ∙ ap (λ (c : Rgb). sets out (at + 12 * j) (rgbBytes c)) q)
 
-  pub body-length : length (imageBody values side) ≡ 12 * (side * side)
+  body-length : length (imageBody values side) ≡ 12 * (side * side)
   unfolding imageBody
-  body-length = upto-length (side * side)
+  body-length = run-length (imagePixel values side) 12 pixel-length (side * side)
 
   pub pixels-done : (out₀ out : List ℕ) (at j : ℕ) → out ≡ sets out₀ at (join (made (imagePixel values side) j)) → j ≤ side * side → side * side ≤ j
       → Written out₀ at (imageBody values side) (at + 12 * (side * side)) out
   unfolding imageBody
-  pixels-done out₀ out at j e h k =
-      let is : j ≡ side * side = omega arith in
-      record { next-is = let l = body-length in omega arith; exit-is = rw is at e }
+  pixels-done out₀ out at j e h k = all-put (imagePixel values side) 12 pixel-length out₀ out at (side * side) j e h k
 
 -- ---- the header before them
 

@@ -25,6 +25,8 @@ use Rattle.probe.proofs.Checking.{then-done}
 use Rattle.probe.proofs.Probes.{for-inside, place-filled}
 use Rattle.probe_faces.specs.Face.{faceOf, faceRefusal, faceFault, FacePainted}
 use Rattle.probe_faces.proofs.Painting.{face-length, roomy, done-probe, pixel-same}
+use Rattle.exr_square.specs.Square.{squareFile}
+use Rattle.exr_square.proofs.Squares.{same-square}
 use Rattle.text_probe.specs.Image.{AllNumbers, imageFile}
 use Rattle.text_probe.proofs.Images.{same-file}
 
@@ -120,20 +122,29 @@ module _ {store : List ℕ} {edge face : ℕ} {lent after : List ℕ} {r : Fault
   whole : after ≡ faceOf store edge face ++ drop (length (faceOf store edge face)) lent
   whole = rw unrefused at (d .holds)
 
-  pub face-shown : imageFile after side ≡ imageFile (faceOf store edge face) side
-  face-shown =
+  front : (i : ℕ) → i < 48 * edge * edge → getD after i 0 ≡ getD (faceOf store edge face) i 0
+  front i h =
+      let size = face-length store edge face in
+      ap (λ (t : List ℕ). getD t i 0) whole ∙ List·getD-append (faceOf store edge face) _ 0 i (omega arith)
+
+  -- three values a pixel
+  all-values : 3 * (side * side) ≡ 48 * edge * edge
+  all-values =
+      let a : 4 * edge * (4 * edge) ≡ 4 * (edge * (4 * edge)) = mul-assoc 4 edge (4 * edge) in
+      let b : edge * (4 * edge) ≡ 4 * edge * edge = mul-comm edge (4 * edge) in
+      let c : 4 * edge * edge ≡ 4 * (edge * edge) = mul-assoc 4 edge edge in
+      let e : 48 * edge * edge ≡ 48 * (edge * edge) = mul-assoc 48 edge edge in
+      omega arith
+
+  pub map-shown : imageFile after side ≡ imageFile (faceOf store edge face) side
+  map-shown =
       let p = probe .edge-first in
       same-file after (faceOf store edge face) side (omega arith) same
     where
-      front : (i : ℕ) → i < 48 * edge * edge → getD after i 0 ≡ getD (faceOf store edge face) i 0
-      front i h =
-          let size = face-length store edge face in
-          ap (λ (t : List ℕ). getD t i 0) whole ∙ List·getD-append (faceOf store edge face) _ 0 i (omega arith)
-
       same : (k : ℕ) → k < side * side → colourAt after k ≡ colourAt (faceOf store edge face) k
       same k h =
-          let a : 4 * edge * (4 * edge) ≡ 4 * (edge * (4 * edge)) = mul-assoc 4 edge (4 * edge) in
-          let b : edge * (4 * edge) ≡ 4 * edge * edge = mul-comm edge (4 * edge) in
-          let c : 4 * edge * edge ≡ 4 * (edge * edge) = mul-assoc 4 edge edge in
-          let e : 48 * edge * edge ≡ 48 * (edge * edge) = mul-assoc 48 edge edge in
+          let e = all-values in
           rw (front (3 * k) (omega arith), front (3 * k + 1) (omega arith), front (3 * k + 2) (omega arith))
+
+  pub exr-shown : squareFile after side ≡ squareFile (faceOf store edge face) side
+  exr-shown = same-square after (faceOf store edge face) side (λ i h. front i (omega (arith, h, all-values)))

@@ -1,5 +1,5 @@
 // What the program run_probe writes of its question: whether a store is a probe of an edge, as a line; or a face of it as a Portable
-// Float Map, each block in the format of its own record.
+// Float Map or an OpenEXR file, each block in the format of its own record.
 
 ghost use mathlib.Core.Path.{_≡_};
 ghost use Prim.Native.Nat.{_+_, _*_, _<_, _≤_};
@@ -9,10 +9,12 @@ ghost use Rattle.text.specs.Text.{Written};
 ghost use Rattle.text_probe.specs.Image.{pixelUp, imageBody, imageFile, AllNumbers};
 ghost use Rattle.text_probe.specs.Output.{wordAt, faultyPart, faultLine, probeLine, checkOutput, faceOutput, probeOutput, outputRoom};
 use bcn_spec::Answer;
+use exr_square::put_square;
 use pfm_floats::Rgb;
 use pfm_floats::put_rgb;
 use pfm_header::put_header;
 use probe::probe_check;
+use probe_build::probe_edge;
 use probe_faces::probe_face;
 use probe_places::Fault;
 use probe_places::Place;
@@ -21,23 +23,26 @@ use raw_bytes::u32_to_usize;
 use text::put;
 use text::put_count;
 
-pub struct Question {
-    pub end: usize,
-}
+// The kinds of a question: told of the edge, a face as a Portable Float Map, told of the edge that fits, a face as an OpenEXR file.
+const TELL: u8 = 0;
 
-impl Question {
-    // The bytes before the store: a byte, 0 to be told and another for a face; the edge and the face, low byte first.
-    const HEAD: usize = 9;
+const MAP: u8 = 1;
 
-    // One byte more than the largest question has: enough to tell that a store is too long.
-    pub const ROOM: usize = Question::HEAD + Place::STORE + 1;
+const FIT: u8 = 2;
 
-    // The values of the largest face.
-    const VALUES: usize = 12288;
+const EXR: u8 = 3;
 
-    // The most bytes of an answer: a header, and twelve for each pixel of that face.
-    pub const OUTPUT: usize = 18 + 12 * 4096;
-}
+// The bytes before the store: the kind; the edge and the face, low byte first.
+const HEAD: usize = 9;
+
+// One byte more than the largest question has: enough to tell that a store is too long.
+pub const QUESTION: usize = HEAD + Place::STORE + 1;
+
+// The values of the largest face.
+const VALUES: usize = 12288;
+
+// The most bytes of an answer: a header, and twelve for each pixel of that face.
+pub const ANSWER: usize = 18 + 12 * 4096;
 
 // ---- the question
 
@@ -146,15 +151,19 @@ fn put_image(values: &[u16], side: usize, out: &mut [u8]) -> usize
     put_pixels(values, side, out, at)
 }
 
-fn put_face(store: &[u8], edge: usize, face: usize, out: &mut [u8]) -> usize
+// A face as a file, of one form or the other.
+fn put_face(store: &[u8], edge: usize, face: usize, exr: bool, out: &mut [u8]) -> usize
     requires { ⌜ outputRoom ≤ length (now out) ⌝ }
     ensures { λ r. ⌜ r ≤ outputRoom ⌝ }
-    ensures { λ r. ⌜ Written (now (out .entry)) 0 (faceOutput (now (store .entry)) edge face) r (now (out .exit)) ⌝ }
+    ensures { λ r. ⌜ Written (now (out .entry)) 0 (faceOutput exr (now (store .entry)) edge face) r (now (out .exit)) ⌝ }
 {
-    let mut values = [0u16; Question::VALUES];
+    let mut values = [0u16; VALUES];
     let fault = probe_face(store, edge, face, &mut values);
     if fault.answer != Answer::DONE {
         return put_fault(out, fault);
+    }
+    if exr {
+        return put_square(&values, edge, out);
     }
     put_image(&values, 4 * edge, out)
 }
@@ -165,13 +174,24 @@ pub fn put_probe(input: &[u8], out: &mut [u8]) -> usize
     ensures { λ r. ⌜ r ≤ length (now (out .exit)) ⌝ }
     ensures { λ r. ⌜ Written (now (out .entry)) 0 (probeOutput (now (input .entry))) r (now (out .exit)) ⌝ }
 {
-    if input.len() < Question::HEAD {
+    if input.len() < HEAD {
         return 0;
     }
+    let kind = input[0];
     let edge = word_at(input, 1);
-    let store = &input[Question::HEAD..];
-    if input[0] == 0 {
+    let face = word_at(input, 5);
+    let store = &input[HEAD..];
+    if kind == TELL {
         return put_check(store, edge, out);
     }
-    put_face(store, edge, word_at(input, 5), out)
+    if kind == MAP {
+        return put_face(store, edge, face, false, out);
+    }
+    if kind == FIT {
+        return put_check(store, u32_to_usize(probe_edge(store)), out);
+    }
+    if kind == EXR {
+        return put_face(store, edge, face, true, out);
+    }
+    0
 }

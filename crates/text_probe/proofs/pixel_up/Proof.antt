@@ -1,5 +1,6 @@
 use native.Mathlib.Omega.{arith}
-use Rattle.text_probe.proofs.Images.{square-few, Here, here, up-is}
+use Rattle.text_probe.proofs.Images.{Here, here, up-is}
+use Rattle.exr_square.proofs.Squares.{square-few}
 use borrow.Author.Needs.{needs}
 use Rattle.text_probe.proofs.pixel_up.Statement.{statement}
 use Rattle.text_probe.proofs.pixel_up.Tie as tie

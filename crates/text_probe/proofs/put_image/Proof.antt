@@ -1,4 +1,5 @@
-use Rattle.text_probe.proofs.Images.{square-few, header-few, file-written}
+use Rattle.text_probe.proofs.Images.{header-few, file-written}
+use Rattle.exr_square.proofs.Squares.{square-few}
 use native.Mathlib.Omega.{arith}
 use borrow.Author.Needs.{needs}
 use Rattle.text_probe.proofs.put_image.Statement.{statement}

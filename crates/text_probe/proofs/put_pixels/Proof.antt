@@ -1,5 +1,7 @@
 use Rattle.pfm.specs.File.{colourAt}
-use Rattle.text_probe.proofs.Images.{square-few, pixels-none, pixels-more, pixels-done}
+use Rattle.text_probe.proofs.Images.{pixels-more, pixels-done}
+use Rattle.exr_square.proofs.Runs.{none-put}
+use Rattle.exr_square.proofs.Squares.{square-few}
 use Rattle.text_probe.specs.Image.{imagePixel}
 use Rattle.laws.specs.Made.{made, join}
 use lib.Seq.{sets}
@@ -22,7 +24,7 @@ mul-count : tie.Need-mul-count Inv-loop μ-loop
 mul-count c = record { fits = let s = square-few (c .before .before .args .side) (search needs) in omega arith }
 
 loop-holds : tie.Need-loop-holds Inv-loop μ-loop
-loop-holds c = (search needs, refl, pixels-none _ _ _ _)
+loop-holds c = (search needs, refl, none-put (imagePixel _ _) _ _)
 
 put-rgb-requires : tie.Need-put-rgb-requires Inv-loop μ-loop
 put-rgb-requires c κs = (search needs, rw (c .before .of .ensures) (c .before .before .before .before .before .before .before .before .before .before .pre .1 .each (c .before .before .before .before .before .pixel-up .result) (c .before .before .before .before .before .pixel-up .ensures .1)))

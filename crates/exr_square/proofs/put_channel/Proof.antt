@@ -1,0 +1,83 @@
+-- `exr_square::put_channel` meets its contract. Assumes nothing.
+use mathlib.Core.Path.{_≡_, refl}
+use Prim.Native.Nat.{_+_, _-_, _*_, _≤_, _<_}
+use native.Mathlib.Omega.{arith}
+use lib.ListN.{length}
+use lib.Seq.{sets}
+use borrow.Author.Needs.{needs}
+use Rattle.laws.specs.Made.{made, join}
+use Rattle.exr_square.specs.Square.{valueOf, channelOf}
+use Rattle.exr_square.proofs.Runs.{none-put, one-put, all-put}
+use Rattle.exr_square.proofs.Squares.{pixel-inside, square-few, value-length}
+use Rattle.exr_square.proofs.put_channel.Statement.{statement}
+use Rattle.exr_square.proofs.put_channel.Tie as tie
+
+abbrev Inv-loop : tie.InvT-loop
+Inv-loop values side channel y out₀ at x₀ out x =
+    (x ≤ side) × (length out ≡ length out₀) × (out ≡ sets out₀ at (join (made (valueOf values side channel y) x)))
+
+abbrev μ-loop : tie.MeasureT-loop
+μ-loop values side channel y out₀ at x₀ out x = side - x
+
+loop-holds : tie.Need-loop-holds Inv-loop μ-loop
+loop-holds c = (search needs, refl, none-put (valueOf _ _ _ _) _ _)
+
+-- the pixel of this turn, and how many there are
+here : (c : tie.In-loop Inv-loop μ-loop) → (c .before .before .before .before .args .y * c .before .before .before .before .args .side + c .before .loop .x < c .before .before .before .before .args .side * c .before .before .before .before .args .side) × (c .before .before .before .before .args .side * c .before .before .before .before .args .side ≤ 4096)
+here c = (pixel-inside _ _ _ (search needs) (search needs), square-few _ (search needs))
+
+mul-put-half : tie.Need-mul-put-half Inv-loop μ-loop
+mul-put-half c = let p = here c in record { fits = omega (arith, p .0, p .1) }
+
+add-put-half : tie.Need-add-put-half Inv-loop μ-loop
+add-put-half c = let p = here c in record { fits = omega (arith, p .0, p .1) }
+
+mul-put-half-2 : tie.Need-mul-put-half-2 Inv-loop μ-loop
+mul-put-half-2 c = let p = here c in record { fits = omega (arith, p .0, p .1) }
+
+add-put-half-2 : tie.Need-add-put-half-2 Inv-loop μ-loop
+add-put-half-2 c = let p = here c in record { fits = omega (arith, p .0, p .1) }
+
+mul-put-half-3 : tie.Need-mul-put-half-3 Inv-loop μ-loop
+mul-put-half-3 c = let p = here c in record { fits = omega (arith, p .0, p .1) }
+
+shared-slice-read-put-half : tie.Need-shared-slice-read-put-half Inv-loop μ-loop
+shared-slice-read-put-half c = let p = here (c .before) in omega (arith, p .0)
+
+loop-again : tie.Need-loop-again Inv-loop μ-loop
+unfolding valueOf
+loop-again c =
+    let l = c .before .before .before .before .before .before .loop in
+    let s = c .before .before .before .before .before .before .before .before .before .args in
+    (search needs, search needs, one-put (valueOf (s .values .now) (s .side) (s .channel) (s .y)) 2 (value-length (s .values .now) (s .side) (s .channel) (s .y)) _ (l .out) _ (s .at) (l .x) (l .inv .2) (c .before .before .put-half .ensures))
+
+returns : tie.Need-returns Inv-loop μ-loop
+unfolding channelOf
+returns c =
+    let l = c .before .loop in
+    let s = c .before .before .before .before .args in
+    all-put (valueOf (s .values .now) (s .side) (s .channel) (s .y)) 2 (value-length (s .values .now) (s .side) (s .channel) (s .y)) _ _ _ _ (l .x) (l .inv .2) (search needs) (search needs)
+
+pub put-channel-spec : {M : Type 1} → statement M
+put-channel-spec =
+    tie.close
+    (tie.spec
+    Inv-loop
+    μ-loop
+    loop-holds
+    mul-put-half
+    add-put-half
+    mul-put-half-2
+    add-put-half-2
+    mul-put-half-3
+    shared-slice-read-put-half
+    (λ c. search needs)
+    (λ c. search needs)
+    (λ c κs. search needs)
+    (λ c. search needs)
+    (λ c. search needs)
+    loop-again
+    (λ c. search needs)
+    (λ c. search needs)
+    (λ c. search needs)
+    returns)

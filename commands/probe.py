@@ -30,7 +30,7 @@ LINE = Line(
     example="knot probe samples/small.probe\nknot probe samples/small.probe 2 0 face.pfm\nknot probe --make new.probe 0.dds 1.dds 2.dds 3.dds 4.dds 5.dds",
     dashed=faces.DASHED,
 )
-TELL, FACE, FIT = 0, 1, 2
+TELL, FACE, FIT, FACE_EXR = range(4)
 # The program takes an edge and a face of four bytes: a higher number is refused as this one is.
 MOST = 2**32 - 1
 REFUSED = rb"store refused ([0-9]+)(?: record ([0-9]+))?\n"
@@ -46,8 +46,11 @@ def reason(number, kind, record, length):
 
 
 def ask(asked, kind, edge, face, is_whole):
+    return answer_of(kinds.placed_to_change(asked.store, asked.as_store), kind, edge, face, is_whole)
+
+
+def answer_of(store, kind, edge, face, is_whole):
     """What the program answers, where it does not refuse."""
-    store = kinds.placed_to_change(asked.store, asked.as_store)
     question = bytes([kind]) + b"".join(min(number, MOST).to_bytes(4, "little") for number in (edge, face))
     answer = house.ask("run_probe", question + store, lambda answer: re.fullmatch(REFUSED, answer) or is_whole(answer, len(store)))
     refused = re.fullmatch(REFUSED, answer)
@@ -74,12 +77,17 @@ def facts(asked, edge, name):
     return json.dumps({"name": name, "edge": edge, "records": 6 * edge * edge}, indent=1) + "\n"
 
 
-def tell(asked, edge):
+def is_told(edge):
+    """Whether an answer is the line of a probe: of that edge, or of the one that fits where none is said."""
     def is_whole(answer, length):
         fits = edge_of(length)
         return fits != 0 and edge in (None, fits) and answer == line_of(fits).encode()
 
-    answer = ask(asked, FIT if edge is None else TELL, edge or 0, 0, is_whole)
+    return is_whole
+
+
+def tell(asked, edge):
+    answer = ask(asked, FIT if edge is None else TELL, edge or 0, 0, is_told(edge))
     house.put(facts(asked, int(answer.split()[2]), house.read_last))
 
 

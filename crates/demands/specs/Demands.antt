@@ -49,7 +49,7 @@ use Rattle.pfm_floats.specs.Half.{isNegative, exponentOf, halfValue, Is24ths, f
 use Rattle.pfm_header.specs.Header.{headerLength}
 use Rattle.pfm.specs.declared.PfmWritten.{PfmWritten}
 use Rattle.pfm.specs.File.{pixelBytes, PictureWritten}
-use Rattle.exr_header.specs.Header.{lowFirst, lineStart}
+use Rattle.exr_header.specs.Header.{lowBytes, lineStart}
 use Rattle.exr.specs.declared.ExrWritten.{ExrWritten}
 use Rattle.exr.specs.File as exr
 
@@ -150,7 +150,7 @@ abbrev pub PatternWritten : Type 0
 PatternWritten = (blocks : List ℕ) (format width height : ℕ) (lent after : List ℕ) (r : ExrWritten) → exr.PictureWritten blocks format width height lent r after → r .answer ≡ done
     → (x y channel : ℕ) → x < width → y < height → channel < 3
     → take 2 (drop (lineStart width height y + (8 + 2 * ((2 - channel) * width + x))) (take (r .bytes) after))
-    ≡ lowFirst 2 (getD (pixelsOf (isSigned format) (blockAt blocks (y / 4 * (width / 4) + x / 4))) (3 * (4 * (y % 4) + x % 4) + channel) 0)
+    ≡ lowBytes 2 (getD (pixelsOf (isSigned format) (blockAt blocks (y / 4 * (width / 4) + x / 4))) (3 * (4 * (y % 4) + x % 4) + channel) 0)
 
 -- S-91: the record has the place that was put, and every byte but the five of its place stays.
 abbrev pub PlaceAlone : Type 0

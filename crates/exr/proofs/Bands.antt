@@ -14,7 +14,7 @@ use Rattle.bc6h_spec.specs.Block.{pixelsOf}
 use Rattle.pfm_floats.proofs.Stores.{sets-append}
 use Rattle.pfm.proofs.Lines.{four-sets}
 use Rattle.pfm.proofs.Bands.{parts}
-use Rattle.exr_header.specs.Header.{lowFirst}
+use Rattle.exr_header.specs.Header.{lowBytes}
 use Rattle.exr_header.proofs.Numbers.{length-low}
 use Rattle.exr.specs.File.{headOf}
 use Rattle.exr.specs.Bands.{quarterOf, fourSets, channelSets, blockSets, headSets, cellAt, runAt, bandLine, bandAt, bandOf, bandsOf}
@@ -23,11 +23,11 @@ use Rattle.exr.proofs.Lines.{lineUpto, line-start, line-length, line-st
 -- ---- lengths
 
 pub length-head : (width y : ℕ) → length (headOf width y) ≡ 8
-unfolding headOf lowFirst
+unfolding headOf lowBytes
 length-head width y = refl
 
 pub length-quarter : (values : List ℕ) (channel row : ℕ) → length (quarterOf values channel row) ≡ 8
-unfolding quarterOf lowFirst
+unfolding quarterOf lowBytes
 length-quarter values channel row = refl
 
 pub length-cell : (blocks : List ℕ) (format first channel row column : ℕ) → length (cellAt blocks format first channel row column) ≡ 8
@@ -56,13 +56,13 @@ length-of blocks format across n = length-band blocks format (across * n) across
 
 -- ---- stores one after the other
 
-pub four-halves : (values : List ℕ) (channel row : ℕ) (l l1 l2 l3 l4 : List ℕ) (n : ℕ) → l1 ≡ sets l n (lowFirst 2 (getD values (3 * (4 * row) + channel) 0))
-    → l2 ≡ sets l1 (n + 2) (lowFirst 2 (getD values (3 * (4 * row + 1) + channel) 0)) → l3 ≡ sets l2 (n + 4) (lowFirst 2 (getD values (3 * (4 * row + 2) + channel) 0))
-    → l4 ≡ sets l3 (n + 6) (lowFirst 2 (getD values (3 * (4 * row + 3) + channel) 0)) → l4 ≡ sets l n (quarterOf values channel row)
+pub four-halves : (values : List ℕ) (channel row : ℕ) (l l1 l2 l3 l4 : List ℕ) (n : ℕ) → l1 ≡ sets l n (lowBytes 2 (getD values (3 * (4 * row) + channel) 0))
+    → l2 ≡ sets l1 (n + 2) (lowBytes 2 (getD values (3 * (4 * row + 1) + channel) 0)) → l3 ≡ sets l2 (n + 4) (lowBytes 2 (getD values (3 * (4 * row + 2) + channel) 0))
+    → l4 ≡ sets l3 (n + 6) (lowBytes 2 (getD values (3 * (4 * row + 3) + channel) 0)) → l4 ≡ sets l n (quarterOf values channel row)
 unfolding quarterOf
 four-halves values channel row l l1 l2 l3 l4 n a b c d =
-    let at : ℕ → List ℕ = λ k. lowFirst 2 (getD values k 0) in
-    let long : (k : ℕ) → length (lowFirst 2 (getD values k 0)) ≡ 2 = λ k. length-low 2 (getD values k 0) in
+    let at : ℕ → List ℕ = λ k. lowBytes 2 (getD values k 0) in
+    let long : (k : ℕ) → length (lowBytes 2 (getD values k 0)) ≡ 2 = λ k. length-low 2 (getD values k 0) in
     let p = at (3 * (4 * row) + channel) in
     let q = at (3 * (4 * row + 1) + channel) in
     let s = at (3 * (4 * row + 2) + channel) in
@@ -85,14 +85,14 @@ block-stores values across column l l1 l2 l3 a b c =
     c ∙ ap (λ (x : List ℕ). channelSets values 0 (8 + 24 * across) x (8 + 8 * column + 2 * (8 * across)))
     (b ∙ ap (λ (x : List ℕ). channelSets values 1 (8 + 24 * across) x (8 + 8 * column + 8 * across)) a)
 
-pub half-stores : (l : List ℕ) (n half : ℕ) → set (set l n (half % 256)) (n + 1) (half / 256 % 256) ≡ sets l n (lowFirst 2 half)
-unfolding lowFirst
+pub half-stores : (l : List ℕ) (n half : ℕ) → set (set l n (half % 256)) (n + 1) (half / 256 % 256) ≡ sets l n (lowBytes 2 half)
+unfolding lowBytes
 half-stores l n half = let e : n + 1 ≡ suc n = omega arith in rw e
 
-pub head-stores : (width y : ℕ) {size : ℕ} (l l1 l2 : List ℕ) (n : ℕ) → size ≡ 6 * width → l1 ≡ sets l n (lowFirst 4 y) → l2 ≡ sets l1 (n + 4) (lowFirst 4 size)
+pub head-stores : (width y : ℕ) {size : ℕ} (l l1 l2 : List ℕ) (n : ℕ) → size ≡ 6 * width → l1 ≡ sets l n (lowBytes 4 y) → l2 ≡ sets l1 (n + 4) (lowBytes 4 size)
     → l2 ≡ sets l n (headOf width y)
 unfolding headOf
-head-stores width y l l1 l2 n e a b = rw (a, e) at b ∙ sets-append (lowFirst 4 y) (lowFirst 4 (6 * width)) l n (n + 4) (omega (arith, length-low 4 y))
+head-stores width y l l1 l2 n e a b = rw (a, e) at b ∙ sets-append (lowBytes 4 y) (lowBytes 4 (6 * width)) l n (n + 4) (omega (arith, length-low 4 y))
 
 -- ---- the loop over a row of blocks
 

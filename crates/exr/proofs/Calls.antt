@@ -13,7 +13,7 @@ use borrow.Rule.Slice.PartMut.{midOf, putMid}
 use Rattle.laws.proofs.Tests.{cases}
 use Rattle.bcn_spec.specs.Answers.{done, badFormat, shortOutput, blocksMisfit, unevenSize}
 use Rattle.pfm.specs.File.{sizeWritable, blockBytes}
-use Rattle.pfm.proofs.Calls.{Small, small, size-means, bytes-are}
+use Rattle.pfm.proofs.Calls.{Small, small, size-means, bytes-are, WriteKnown, write-known}
 use Rattle.pfm.proofs.Lines.{sets-front}
 use Rattle.text.specs.Text.{Written}
 use Rattle.exr_header.specs.Header.{lineLength, frontLength, frontOf, SizeFits}
@@ -63,56 +63,6 @@ module _ (width height : ℕ) where
       let line : 32 + 96 * (width / 4) ≡ (8 + 6 * width) * 4 = omega arith in
       ap (λ (n : ℕ). n * (height / 4)) line ∙ mul-assoc (8 + 6 * width) 4 (height / 4) ∙ ap (λ (n : ℕ). (8 + 6 * width) * n) h
 
--- ---- the refusals, in their order
-
-module _ (size format width height room : ℕ) where
-  pub write-format : 1 < format → writeRefusal size format width height room ≡ badFormat
-  unfolding writeRefusal
-  write-format f = rw (lt-ltb _ _ f)
-
-  module _ (f : format ≤ 1) where
-    pub write-size : sizeWritable width height ≡ false → writeRefusal size format width height room ≡ unevenSize
-    unfolding writeRefusal
-    write-size s = rw (le-ltb _ _ f, s)
-
-    module _ (s : sizeWritable width height ≡ true) where
-      pub write-blocks : (size ≡ blockBytes width height → ⊥) → writeRefusal size format width height room ≡ blocksMisfit
-      unfolding writeRefusal
-      write-blocks b = rw (le-ltb _ _ f, s, ne-eqb _ _ b)
-
-      module _ (b : size ≡ blockBytes width height) where
-        pub write-room : room < fileLength width height → writeRefusal size format width height room ≡ shortOutput
-        unfolding writeRefusal
-        write-room r = rw (le-ltb _ _ f, s, eq-eqb _ _ b, lt-ltb _ _ r)
-
-        pub write-done : fileLength width height ≤ room → writeRefusal size format width height room ≡ done
-        unfolding writeRefusal
-        write-done r = rw (le-ltb _ _ f, s, eq-eqb _ _ b, le-ltb _ _ r)
-
-  -- what "done" says
-  pub record WriteKnown : Type 0 where
-    pub known : format ≤ 1
-    pub even : sizeWritable width height ≡ true
-    pub bytes : size ≡ blockBytes width height
-    pub fits : fileLength width height ≤ room
-
-  pub write-known : writeRefusal size format width height room ≡ done → WriteKnown
-  write-known z =
-      cases (ltb 1 format)
-      (λ t. absurd (omega (arith, sym (write-format (ltb-true _ _ t)) ∙ z)))
-      (λ t.
-      let f = ltb-false 1 format t in
-      cases (sizeWritable width height)
-      (λ s.
-      cases (eqb size (blockBytes width height))
-      (λ e.
-      let b = eqb-true _ _ e in
-      cases (ltb room (fileLength width height))
-      (λ q. absurd (omega (arith, sym (write-room f s b (ltb-true _ _ q)) ∙ z)))
-      (λ q. record { known = f; even = s; bytes = b; fits = ltb-false _ _ q }))
-      (λ e. absurd (omega (arith, sym (write-blocks f s (eqb-false _ _ e)) ∙ z))))
-      (λ s. absurd (omega (arith, sym (write-size f s) ∙ z))))
-
 -- what that makes sure of for the front and the rows of blocks
 pub record Room (blocks format width height room : ℕ) : Type 0 where
   pub known : format ≤ 1
@@ -125,7 +75,7 @@ pub record Room (blocks format width height room : ℕ) : Type 0 where
 pub room-for : (blocks format width height room : ℕ) → writeRefusal blocks format width height room ≡ done → Room blocks format width height room
 unfolding fileLength
 room-for blocks format width height room z =
-    let w = write-known blocks format width height room z in
+    let w = write-known _ blocks format width height room z in
     let k = small width height (w .even) in
     let m = size-means width height (w .even) in
     record {
@@ -168,8 +118,8 @@ module _ {blocks : List ℕ} {format width height : ℕ} {out after : List ℕ} 
     fine : writeRefusal (length blocks) format width height (length out) ≡ done
     fine = sym write-number ∙ z
 
-    pub done-known : WriteKnown (length blocks) format width height (length out)
-    done-known = write-known _ _ _ _ _ fine
+    pub done-known : WriteKnown (fileLength width height) (length blocks) format width height (length out)
+    done-known = write-known _ _ _ _ _ _ fine
 
     pub done-bytes : r .bytes ≡ fileLength width height
     done-bytes = ap (λ (x : ExrWritten). x .bytes) (w .answers) ∙ rw fine
@@ -223,7 +173,7 @@ module _ (blocks : List ℕ) (format width height : ℕ) (out : List ℕ) where
     unfolding fileIn fileLength
     told-done d m part {at} w len p i =
         let z : writeRefusal (length blocks) format width height (length out) ≡ done = sym e ∙ d in
-        let known = write-known _ _ _ _ _ z in
+        let known = write-known _ _ _ _ _ _ z in
         let l = length-is width height (known .even) i in
         let k = small width height (known .even) in
         let h = frontOf width height in

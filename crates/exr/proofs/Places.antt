@@ -9,7 +9,7 @@ use lib.Seq.{drop-drop, drop-at}
 use Rattle.laws.proofs.Joined.{run-at}
 use Rattle.laws.proofs.Taken.{part-of-part}
 use Rattle.bcn_spec.specs.Answers.{done}
-use Rattle.exr_header.specs.Header.{lowFirst, headerLength, lineLength, frontLength, lineStart, startBytes, tableOf, headerOf, frontOf}
+use Rattle.exr_header.specs.Header.{lowBytes, headerLength, lineLength, frontLength, lineStart, startBytes, tableOf, headerOf, frontOf}
 use Rattle.exr_header.proofs.Numbers.{header-length, front-length-is, start-length}
 use Rattle.exr.specs.declared.ExrWritten.{ExrWritten}
 use Rattle.exr.specs.File.{patternAt, halfAt, channelAt, headOf, valuesAt, lineAt, linesOf, fileIn, PictureWritten}
@@ -82,7 +82,7 @@ module _ (blocks : List ℕ) (format across width height y : ℕ) (hy : y < heig
       ∙ run-at (lineAt blocks format across width) n (length-line blocks format across width) height y [] hy
 
   -- entry y of the table: where line y begins, in 8 bytes
-  pub table-place : take 8 (drop (headerLength + 8 * y) (fileIn blocks format across width height)) ≡ lowFirst 8 (lineStart width height y)
+  pub table-place : take 8 (drop (headerLength + 8 * y) (fileIn blocks format across width height)) ≡ lowBytes 8 (lineStart width height y)
   unfolding fileIn frontOf tableOf startBytes
   table-place =
       let table = tableOf width height in
@@ -96,7 +96,7 @@ module _ (blocks : List ℕ) (format across width height y : ℕ) (hy : y < heig
     -- Channel c of pixel (x, y): the pattern's two bytes.
     pub pixel-place : (channel : ℕ) → channel < 3
         → take 2 (drop (lineStart width height y + (8 + 2 * ((2 - channel) * width + x))) (fileIn blocks format across width height))
-        ≡ lowFirst 2 (patternAt blocks format across channel y x)
+        ≡ lowBytes 2 (patternAt blocks format across channel y x)
     unfolding halfAt lineLength
     pixel-place channel h =
         let file = fileIn blocks format across width height in
@@ -114,7 +114,7 @@ module _ (blocks : List ℕ) (format across width height y : ℕ) (hy : y < heig
 pub pixel-written : {blocks : List ℕ} {format width height : ℕ} {out after : List ℕ} {r : ExrWritten} → PictureWritten blocks format width height out r after
     → r .answer ≡ done → (x y channel : ℕ) → x < width → y < height → channel < 3
     → take 2 (drop (lineStart width height y + (8 + 2 * ((2 - channel) * width + x))) (take (r .bytes) after))
-    ≡ lowFirst 2 (patternAt blocks format (width / 4) channel y x)
+    ≡ lowBytes 2 (patternAt blocks format (width / 4) channel y x)
 pixel-written {blocks} {format} {width} {height} w z x y channel hx hy hc =
     ap (λ (t : List ℕ). take 2 (drop (lineStart width height y + (8 + 2 * ((2 - channel) * width + x))) t)) (written-file w z)
     ∙ pixel-place blocks format (width / 4) width height y hy x hx channel hc

@@ -10,7 +10,7 @@ use Rattle.laws.proofs.Joined.{run-fours, run-length}
 use Rattle.bcn_spec.specs.Bits.{blockAt}
 use Rattle.bc6h_spec.specs.Picture.{isSigned}
 use Rattle.bc6h_spec.specs.Block.{pixelsOf}
-use Rattle.exr_header.specs.Header.{lowFirst, lineLength}
+use Rattle.exr_header.specs.Header.{lowBytes, lineLength}
 use Rattle.exr_header.proofs.Numbers.{length-low}
 use Rattle.exr.specs.File.{patternAt, halfAt, channelAt, headOf, lineAt, linesOf}
 use Rattle.exr.specs.Bands.{quarterOf, cellAt, runAt, bandLine, bandAt, bandOf, bandsOf}
@@ -20,7 +20,7 @@ module _ (blocks : List ℕ) (format across : ℕ) where
   -- pixel i of the four that block k of row of blocks d shows in line 4 d + row
   half-in : (channel d row k i : ℕ) → row < 4 → i < 4
       → halfAt blocks format across channel (4 * d + row) (4 * k + i)
-      ≡ lowFirst 2 (getD (pixelsOf (isSigned format) (blockAt blocks (across * d + k))) (3 * (4 * row + i) + channel) 0)
+      ≡ lowBytes 2 (getD (pixelsOf (isSigned format) (blockAt blocks (across * d + k))) (3 * (4 * row + i) + channel) 0)
   unfolding halfAt patternAt
   half-in channel d row k i hr hi =
       let yd : (4 * d + row) / 4 ≡ d = omega arith in
@@ -38,9 +38,9 @@ module _ (blocks : List ℕ) (format across : ℕ) where
   cell-fours channel d row k h =
       let v = pixelsOf (isSigned format) (blockAt blocks (across * d + k)) in
       let zero-more : (n : ℕ) → n + 0 ≡ n = λ n. omega arith in
-      let first : halfAt blocks format across channel (4 * d + row) (4 * k) ≡ lowFirst 2 (getD v (3 * (4 * row) + channel) 0) =
+      let first : halfAt blocks format across channel (4 * d + row) (4 * k) ≡ lowBytes 2 (getD v (3 * (4 * row) + channel) 0) =
       ap (halfAt blocks format across channel (4 * d + row)) (sym (zero-more (4 * k))) ∙ half-in channel d row k 0 h (omega arith)
-      ∙ ap (λ (n : ℕ). lowFirst 2 (getD v (3 * n + channel) 0)) (zero-more (4 * row)) in
+      ∙ ap (λ (n : ℕ). lowBytes 2 (getD v (3 * n + channel) 0)) (zero-more (4 * row)) in
       rw (first, half-in channel d row k 1 h (omega arith), half-in channel d row k 2 h (omega arith), half-in channel d row k 3 h (omega arith))
 
   -- a channel of a line is a run of cells

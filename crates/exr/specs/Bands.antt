@@ -7,15 +7,15 @@ use Rattle.laws.specs.Made.{made, join}
 use Rattle.bc6h_spec.specs.Picture.{isSigned}
 use Rattle.bc6h_spec.specs.Block.{pixelsOf}
 use Rattle.bcn_spec.specs.Bits.{blockAt}
-use Rattle.exr_header.specs.Header.{lowFirst}
+use Rattle.exr_header.specs.Header.{lowBytes}
 use Rattle.exr.specs.File.{headOf}
 
 -- one channel of the four pixels of a row of a block
 unfoldable pub quarterOf : List ℕ → ℕ → ℕ → List ℕ
 quarterOf values channel row =
-    lowFirst 2 (getD values (3 * (4 * row) + channel) 0)
-    ++ (lowFirst 2 (getD values (3 * (4 * row + 1) + channel) 0)
-    ++ (lowFirst 2 (getD values (3 * (4 * row + 2) + channel) 0) ++ lowFirst 2 (getD values (3 * (4 * row + 3) + channel) 0)))
+    lowBytes 2 (getD values (3 * (4 * row) + channel) 0)
+    ++ (lowBytes 2 (getD values (3 * (4 * row + 1) + channel) 0)
+    ++ (lowBytes 2 (getD values (3 * (4 * row + 2) + channel) 0) ++ lowBytes 2 (getD values (3 * (4 * row + 3) + channel) 0)))
 
 -- four stores, each `stride` bytes behind the one before
 abbrev pub fourSets : List ℕ → ℕ → ℕ → List ℕ → List ℕ → List ℕ → List ℕ → List ℕ

@@ -2,16 +2,15 @@
 use mathlib.Core.Path.{_≡_}
 use mathlib.Core.List.{List, _++_}
 use Prim.Native.Nat.{ℕ, zero, suc, _+_, _*_, _/_, _%_}
-use lib.Dec.{eqb, ltb}
 use lib.ListN.{length, getD, drop}
 use Rattle.laws.specs.Pick.{pick}
 use Rattle.laws.specs.Made.{made, join}
-use Rattle.bcn_spec.specs.Answers.{done, badFormat, shortOutput, blocksMisfit, unevenSize}
+use Rattle.bcn_spec.specs.Answers.{done}
 use Rattle.bcn_spec.specs.Bits.{blockAt}
 use Rattle.bc6h_spec.specs.Picture.{isSigned}
 use Rattle.bc6h_spec.specs.Block.{pixelsOf}
-use Rattle.pfm.specs.File.{sizeWritable, blockBytes}
-use Rattle.exr_header.specs.Header.{lowFirst, frontOf, frontLength, lineLength}
+use Rattle.pfm.specs.File.{sizeWritable, refusalFor}
+use Rattle.exr_header.specs.Header.{lowBytes, frontOf, frontLength, lineLength}
 use Rattle.exr.specs.declared.ExrWritten.{ExrWritten}
 
 -- ---- the file
@@ -23,7 +22,7 @@ patternAt blocks format across channel y x =
 
 -- HALF: the pattern's two bytes, the low one first
 unfoldable pub halfAt : List ℕ → ℕ → ℕ → ℕ → ℕ → ℕ → List ℕ
-halfAt blocks format across channel y x = lowFirst 2 (patternAt blocks format across channel y x)
+halfAt blocks format across channel y x = lowBytes 2 (patternAt blocks format across channel y x)
 
 -- one channel of line y of a picture that is `width` pixels wide, from the left
 unfoldable pub channelAt : List ℕ → ℕ → ℕ → ℕ → ℕ → ℕ → List ℕ
@@ -36,7 +35,7 @@ valuesAt blocks format across width y =
 
 -- Before the values of a line: its number, and how many bytes they have.
 unfoldable pub headOf : ℕ → ℕ → List ℕ
-headOf width y = lowFirst 4 y ++ lowFirst 4 (6 * width)
+headOf width y = lowBytes 4 y ++ lowBytes 4 (6 * width)
 
 unfoldable pub lineAt : List ℕ → ℕ → ℕ → ℕ → ℕ → List ℕ
 lineAt blocks format across width y = headOf width y ++ valuesAt blocks format across width y
@@ -57,13 +56,9 @@ fileLength width height = frontLength height + lineLength width * height
 
 -- ---- the call
 
--- S-92: 1, 16, 15, then 3 for less room than the file takes.
-unfoldable pub writeRefusal : ℕ → ℕ → ℕ → ℕ → ℕ → ℕ
-writeRefusal size format width height room =
-    pick (ltb 1 format) badFormat
-    (pick (sizeWritable width height)
-    (pick (eqb size (blockBytes width height)) (pick (ltb room (fileLength width height)) shortOutput done) blocksMisfit)
-    unevenSize)
+-- S-92: 1, 16, 15, then 3 for less room than the file takes, as of a Portable Float Map.
+abbrev pub writeRefusal : ℕ → ℕ → ℕ → ℕ → ℕ → ℕ
+writeRefusal size format width height room = refusalFor (fileLength width height) size format width height room
 
 abbrev pub writtenAt : ℕ → ℕ → ℕ → ExrWritten
 writtenAt zero width height = record { answer = done; bytes = fileLength width height }

@@ -6,8 +6,7 @@ ghost use Prim.Native.Nat.{_<_, _≤_, _+_, _*_};
 ghost use lib.ListN.{length, getD, drop};
 ghost use lib.Seq.{sets};
 ghost use Rattle.bcn_spec.specs.Bits.{blockSize};
-ghost use Rattle.pfm.specs.File.{sideEven, sizeWritable};
-ghost use Rattle.exr_header.specs.Header.{lowFirst};
+ghost use Rattle.exr_header.specs.Header.{lowBytes};
 ghost use Rattle.exr.specs.Bands.{quarterOf, channelSets, blockSets, headSets, bandAt, bandsOf};
 ghost use Rattle.exr.specs.File.{headOf, lengthOf, writeRefusal, PictureWritten};
 use bc6::block_pixels;
@@ -16,6 +15,7 @@ use bcn_spec::Block;
 use exr_header::front_length;
 use exr_header::put_front;
 use exr_header::put_number;
+use pfm::size_even;
 
 // What the writing call answers: the file's bytes, 0 on a refusal.
 pub struct ExrWritten {
@@ -24,9 +24,6 @@ pub struct ExrWritten {
 }
 
 impl ExrWritten {
-    // The most pixels on a side.
-    pub const LIMIT: u32 = 4096;
-
     pub fn refused(answer: u8) -> Self
         ensures { λ r. ⌜ r ≡ record { answer = answer; bytes = 0 } ⌝ }
     {
@@ -37,7 +34,7 @@ impl ExrWritten {
 // A pattern, its low byte first.
 pub fn put_half(half: u16, out: &mut [u8], at: usize)
     requires { ⌜ at + 2 ≤ length (now out) ⌝ }
-    ensures { λ _. ⌜ now (out .exit) ≡ sets (now (out .entry)) at (lowFirst 2 half) ⌝ }
+    ensures { λ _. ⌜ now (out .exit) ≡ sets (now (out .entry)) at (lowBytes 2 half) ⌝ }
 {
     out[at] = (half % 256) as u8;
     out[at + 1] = (half / 256 % 256) as u8;
@@ -130,27 +127,6 @@ fn put_bands(blocks: &[u8], format: u8, across: usize, down: usize, out: &mut [u
         let at = (32 + 96 * across) * n;
         put_band(blocks, format, first, across, 4 * n, &mut out[at..]);
     }
-}
-
-fn side_even(side: u32) -> bool
-    ensures { λ r. ⌜ r ≡ sideEven side ⌝ }
-{
-    if side < 1 {
-        return false;
-    }
-    if ExrWritten::LIMIT < side {
-        return false;
-    }
-    side % 4 == 0
-}
-
-fn size_even(width: u32, height: u32) -> bool
-    ensures { λ r. ⌜ r ≡ sizeWritable width height ⌝ }
-{
-    if !side_even(width) {
-        return false;
-    }
-    side_even(height)
 }
 
 // The length of the file of a size, 0 where the size is refused.

@@ -13,7 +13,7 @@ use Rattle.dds.specs.Dds.{blocksAlong}
 use Rattle.pfm_bands.specs.Bands.{bandIn, rowsIn}
 use Rattle.pfm_bands.proofs.Runs.{behind, run-pieces}
 use Rattle.pfm_bands.proofs.Pieces.{band-place}
-use Rattle.exr_header.specs.Header.{lowFirst, frontOf}
+use Rattle.exr_header.specs.Header.{lowBytes, frontOf}
 use Rattle.exr.specs.File.{patternAt, halfAt, channelAt, headOf, lineAt, linesOf, fileIn, fileOf}
 use Rattle.exr_bands.specs.Bands.{pictureOf, pieceLine, pieceOf, pieceDown}
 
@@ -25,7 +25,7 @@ band-channel blocks format across width channel d row h w =
     let same : (4 * d + row) % 4 ≡ row % 4 = omega arith in
     ap join (made-same (halfAt (bandIn blocks across d) format across channel row) (halfAt blocks format across channel (4 * d + row)) width
     (λ x l.
-    ap₂ (λ (b : List ℕ) (k : ℕ). lowFirst 2 (getD (pixelsOf (isSigned format) b) (3 * (4 * k + x % 4) + channel) 0))
+    ap₂ (λ (b : List ℕ) (k : ℕ). lowBytes 2 (getD (pixelsOf (isSigned format) b) (3 * (4 * k + x % 4) + channel) 0))
     (band-place blocks across d row x h (omega arith)) (sym same)))
 
 module _ (blocks : List ℕ) (format width height : ℕ) where

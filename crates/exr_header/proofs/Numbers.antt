@@ -11,66 +11,66 @@ use Rattle.laws.specs.Made.{made, join}
 use Rattle.laws.proofs.Joined.{run-more, run-length}
 use Rattle.text.specs.Text.{Written}
 use Rattle.text.proofs.Texts.{sets-append}
-use Rattle.exr_header.specs.Header.{lowFirst, windowOf, startPart, dataPart, displayPart, cornerOf, screenPart, headerOf, headerLength, lineLength, frontLength, lineStart, startBytes, tableOf, frontOf}
+use Rattle.exr_header.specs.Header.{lowBytes, windowOf, startPart, dataPart, displayPart, cornerOf, screenPart, headerOf, headerLength, lineLength, frontLength, lineStart, startBytes, tableOf, frontOf}
 
 -- ---- a number
 
-pub length-low : (size n : ℕ) → length (lowFirst size n) ≡ size
-unfolding lowFirst
+pub length-low : (size n : ℕ) → length (lowBytes size n) ≡ size
+unfolding lowBytes
 length-low zero n = refl
 length-low (suc size) n = ap suc (length-low size (n / 256))
 
 -- read back: the bytes' sum is the number, where the number has no more bytes
-pub two-bytes : (n : ℕ) → n < 65536 → getD (lowFirst 2 n) 0 0 + 256 * getD (lowFirst 2 n) 1 0 ≡ n
-unfolding lowFirst
+pub two-bytes : (n : ℕ) → n < 65536 → getD (lowBytes 2 n) 0 0 + 256 * getD (lowBytes 2 n) 1 0 ≡ n
+unfolding lowBytes
 two-bytes n h = omega arith
 
 -- ---- the loop that stores a number: what is still to be stored
 
-pub number-more : (whole out : List ℕ) (at size k rest : ℕ) → whole ≡ sets out (at + k) (lowFirst (size - k) rest) → k < size
-    → whole ≡ sets (set out (at + k) (rest % 256)) (at + (k + 1)) (lowFirst (size - (k + 1)) (rest / 256))
-unfolding lowFirst
+pub number-more : (whole out : List ℕ) (at size k rest : ℕ) → whole ≡ sets out (at + k) (lowBytes (size - k) rest) → k < size
+    → whole ≡ sets (set out (at + k) (rest % 256)) (at + (k + 1)) (lowBytes (size - (k + 1)) (rest / 256))
+unfolding lowBytes
 number-more whole out at size k rest e h =
     let left : size - k ≡ suc (size - (k + 1)) = omega arith in
     let place : suc (at + k) ≡ at + (k + 1) = omega arith in
-    e ∙ ap (λ (s : ℕ). sets out (at + k) (lowFirst s rest)) left
-    ∙ ap (λ (p : ℕ). sets (set out (at + k) (rest % 256)) p (lowFirst (size - (k + 1)) (rest / 256))) place
+    e ∙ ap (λ (s : ℕ). sets out (at + k) (lowBytes s rest)) left
+    ∙ ap (λ (p : ℕ). sets (set out (at + k) (rest % 256)) p (lowBytes (size - (k + 1)) (rest / 256))) place
 
-pub number-whole : (whole out : List ℕ) (at size k rest : ℕ) → whole ≡ sets out (at + k) (lowFirst (size - k) rest) → size ≤ k → out ≡ whole
-unfolding lowFirst
+pub number-whole : (whole out : List ℕ) (at size k rest : ℕ) → whole ≡ sets out (at + k) (lowBytes (size - k) rest) → size ≤ k → out ≡ whole
+unfolding lowBytes
 number-whole whole out at size k rest e h =
     let none : size - k ≡ 0 = omega arith in
-    sym (e ∙ ap (λ (s : ℕ). sets out (at + k) (lowFirst s rest)) none)
+    sym (e ∙ ap (λ (s : ℕ). sets out (at + k) (lowBytes s rest)) none)
 
-pub number-start : (out : List ℕ) (at size n : ℕ) → sets out at (lowFirst size n) ≡ sets out (at + 0) (lowFirst (size - 0) n)
+pub number-start : (out : List ℕ) (at size n : ℕ) → sets out at (lowBytes size n) ≡ sets out (at + 0) (lowBytes (size - 0) n)
 number-start out at size n =
     let p : at ≡ at + 0 = omega arith in
     let s : size ≡ size - 0 = omega arith in
-    ap₂ (λ (a b : ℕ). sets out a (lowFirst b n)) p s
+    ap₂ (λ (a b : ℕ). sets out a (lowBytes b n)) p s
 
 -- ---- the header
 
 pub header-parts : (width height : ℕ)
     → startPart ++ (dataPart ++ (cornerOf width height ++ (displayPart ++ (cornerOf width height ++ screenPart)))) ≡ headerOf width height
-unfolding headerOf startPart dataPart displayPart cornerOf screenPart windowOf lowFirst
+unfolding headerOf startPart dataPart displayPart cornerOf screenPart windowOf lowBytes
 header-parts width height = refl
 
-pub corner-put : (width height : ℕ) (l l1 l2 : List ℕ) (at : ℕ) → l1 ≡ sets l at (lowFirst 4 (width - 1)) → l2 ≡ sets l1 (at + 4) (lowFirst 4 (height - 1))
+pub corner-put : (width height : ℕ) (l l1 l2 : List ℕ) (at : ℕ) → l1 ≡ sets l at (lowBytes 4 (width - 1)) → l2 ≡ sets l1 (at + 4) (lowBytes 4 (height - 1))
     → l2 ≡ sets l at (cornerOf width height)
 unfolding cornerOf
 corner-put width height l l1 l2 at a b =
-    rw a at b ∙ sets-append (lowFirst 4 (width - 1)) (lowFirst 4 (height - 1)) l at (at + 4) (omega (arith, length-low 4 (width - 1)))
+    rw a at b ∙ sets-append (lowBytes 4 (width - 1)) (lowBytes 4 (height - 1)) l at (at + 4) (omega (arith, length-low 4 (width - 1)))
 
 corner-length : (width height : ℕ) → length (cornerOf width height) ≡ 8
-unfolding cornerOf lowFirst
+unfolding cornerOf lowBytes
 corner-length width height = refl
 
 start-long : length startPart ≡ 83
-unfolding startPart lowFirst
+unfolding startPart lowBytes
 start-long = refl
 
 data-long : length dataPart ≡ 58
-unfolding dataPart lowFirst
+unfolding dataPart lowBytes
 data-long = refl
 
 display-long : length displayPart ≡ 32
@@ -111,12 +111,12 @@ table-start width height l = refl
 
 pub table-more : (width height : ℕ) (l out : List ℕ) (y n : ℕ) → out ≡ sets l headerLength (join (made (startBytes width height) y))
     → n ≡ lineStart width height y
-    → sets out (313 + 8 * y) (lowFirst 8 n) ≡ sets l headerLength (join (made (startBytes width height) (y + 1)))
+    → sets out (313 + 8 * y) (lowBytes 8 n) ≡ sets l headerLength (join (made (startBytes width height) (y + 1)))
 unfolding startBytes
 table-more width height l out y n e h =
     let f = startBytes width height in
     let len : length (join (made f y)) ≡ 8 * y = run-length f 8 (start-length width height) y in
-    ap₂ (λ (t : List ℕ) (x : ℕ). sets t (313 + 8 * y) (lowFirst 8 x)) e h
+    ap₂ (λ (t : List ℕ) (x : ℕ). sets t (313 + 8 * y) (lowBytes 8 x)) e h
     ∙ sets-append (join (made f y)) (f y) l headerLength (313 + 8 * y) (omega arith)
     ∙ ap (sets l headerLength) (sym (run-more f y))
 
@@ -132,7 +132,7 @@ table-length width height = run-length (startBytes width height) 8 (start-length
 -- ---- lengths of the front
 
 pub header-length : (width height : ℕ) → length (headerOf width height) ≡ headerLength
-unfolding headerOf windowOf lowFirst
+unfolding headerOf windowOf lowBytes
 header-length width height = refl
 
 pub front-length-is : (width height : ℕ) → length (frontOf width height) ≡ frontLength height

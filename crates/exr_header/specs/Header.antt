@@ -6,15 +6,15 @@ use lib.ListN.{length}
 use Rattle.laws.specs.Made.{made, join}
 
 -- n as so many bytes, the lowest first: every number of the file is in this order
-unfoldable pub lowFirst : ℕ → ℕ → List ℕ
-lowFirst zero n = []
-lowFirst (suc size) n = n % 256 ∷ lowFirst size (n / 256)
+unfoldable pub lowBytes : ℕ → ℕ → List ℕ
+lowBytes zero n = []
+lowBytes (suc size) n = n % 256 ∷ lowBytes size (n / 256)
 
 -- ---- the header
 
 -- An attribute: its name, its type, the number of bytes of its value, and the value. Name and type each end with a zero byte.
 abbrev pub attribute : List ℕ → List ℕ → List ℕ → List ℕ
-attribute name kind value = name ++ (kind ++ (lowFirst 4 (length value) ++ value))
+attribute name kind value = name ++ (kind ++ (lowBytes 4 (length value) ++ value))
 
 -- four bytes that mark the file, and four of version 2 without flags: one part, scan lines, names of at most 31 bytes
 abbrev pub start : List ℕ
@@ -42,7 +42,7 @@ compression = attribute compressionName compressionName (0 ∷ [])
 
 -- A window of the whole picture: the least x and y, which are 0, and the greatest.
 unfoldable pub windowOf : ℕ → ℕ → List ℕ
-windowOf width height = lowFirst 4 0 ++ (lowFirst 4 0 ++ (lowFirst 4 (width - 1) ++ lowFirst 4 (height - 1)))
+windowOf width height = lowBytes 4 0 ++ (lowBytes 4 0 ++ (lowBytes 4 (width - 1) ++ lowBytes 4 (height - 1)))
 
 -- `box2i`
 abbrev pub boxName : List ℕ
@@ -121,7 +121,7 @@ unfoldable pub lineStart : ℕ → ℕ → ℕ → ℕ
 lineStart width height y = frontLength height + y * lineLength width
 
 unfoldable pub startBytes : ℕ → ℕ → ℕ → List ℕ
-startBytes width height y = lowFirst 8 (lineStart width height y)
+startBytes width height y = lowBytes 8 (lineStart width height y)
 
 unfoldable pub tableOf : ℕ → ℕ → List ℕ
 tableOf width height = join (made (startBytes width height) height)
@@ -148,7 +148,7 @@ abbrev pub windowFront : List ℕ → List ℕ
 windowFront name = name ++ (boxName ++ (16 ∷ 0 ∷ 0 ∷ 0 ∷ 0 ∷ 0 ∷ 0 ∷ 0 ∷ 0 ∷ 0 ∷ 0 ∷ 0 ∷ []))
 
 unfoldable pub cornerOf : ℕ → ℕ → List ℕ
-cornerOf width height = lowFirst 4 (width - 1) ++ lowFirst 4 (height - 1)
+cornerOf width height = lowBytes 4 (width - 1) ++ lowBytes 4 (height - 1)
 
 unfoldable pub dataPart : List ℕ
 dataPart = compression ++ windowFront dataName
@@ -162,16 +162,16 @@ screenPart = lineOrder ++ (pixelAspect ++ (screenCentre ++ (screenWidth ++ (0 �
 -- ---- examples
 
 header-long : length (headerOf 640 480) ≡ headerLength
-unfolding headerOf windowOf lowFirst
+unfolding headerOf windowOf lowBytes
 header-long = refl
 
 -- a picture of 640 by 480 has a window to 639 (0x27F) and 479 (0x1DF)
 window-large : windowOf 640 480 ≡ 0 ∷ 0 ∷ 0 ∷ 0 ∷ 0 ∷ 0 ∷ 0 ∷ 0 ∷ 0x7F ∷ 2 ∷ 0 ∷ 0 ∷ 0xDF ∷ 1 ∷ 0 ∷ 0 ∷ []
-unfolding windowOf lowFirst
+unfolding windowOf lowBytes
 window-large = refl
 
 -- of 4 by 4: the lines begin at 345 (0x159), 377, 409 and 441
 table-small : tableOf 4 4
     ≡ 0x59 ∷ 1 ∷ 0 ∷ 0 ∷ 0 ∷ 0 ∷ 0 ∷ 0 ∷ 0x79 ∷ 1 ∷ 0 ∷ 0 ∷ 0 ∷ 0 ∷ 0 ∷ 0 ∷ 0x99 ∷ 1 ∷ 0 ∷ 0 ∷ 0 ∷ 0 ∷ 0 ∷ 0 ∷ 0xB9 ∷ 1 ∷ 0 ∷ 0 ∷ 0 ∷ 0 ∷ 0 ∷ 0 ∷ []
-unfolding tableOf startBytes lineStart frontLength lineLength lowFirst made
+unfolding tableOf startBytes lineStart frontLength lineLength lowBytes made
 table-small = refl

@@ -5,14 +5,14 @@ ghost use Prim.Native.Nat.{_≤_, _+_};
 ghost use lib.ListN.{length};
 ghost use lib.Seq.{sets};
 ghost use Rattle.text.specs.Text.{Written};
-ghost use Rattle.exr_header.specs.Header.{lowFirst, startPart, dataPart, displayPart, cornerOf, screenPart, headerOf};
+ghost use Rattle.exr_header.specs.Header.{lowBytes, startPart, dataPart, displayPart, cornerOf, screenPart, headerOf};
 ghost use Rattle.exr_header.specs.Header.{headerLength, tableOf, frontOf, frontLength, SizeFits};
 use text::put;
 
 // A number as `size` bytes, the lowest first, at and after `at`.
 pub fn put_number(n: u64, size: usize, out: &mut [u8], at: usize)
     requires { ⌜ at + size ≤ length (now out) ⌝ }
-    ensures { λ _. ⌜ now (out .exit) ≡ sets (now (out .entry)) at (lowFirst size n) ⌝ }
+    ensures { λ _. ⌜ now (out .exit) ≡ sets (now (out .entry)) at (lowBytes size n) ⌝ }
 {
     let mut rest = n;
     for k in 0..size {

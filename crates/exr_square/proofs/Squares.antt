@@ -11,7 +11,7 @@ use Rattle.laws.proofs.Joined.{run-length}
 use Rattle.laws.proofs.Rows.{made-same}
 use Rattle.text.specs.Text.{Written}
 use Rattle.text.proofs.Texts.{then}
-use Rattle.exr_header.specs.Header.{lowFirst, frontOf, frontLength}
+use Rattle.exr_header.specs.Header.{lowBytes, frontOf, frontLength}
 use Rattle.exr_header.proofs.Numbers.{length-low, front-length-is}
 use Rattle.exr.specs.File.{headOf}
 use Rattle.exr.proofs.Bands.{length-head}
@@ -105,7 +105,7 @@ front-end side w = omega (arith, w .next-is, front-length-is side side)
 module _ (values other : List ℕ) (side : ℕ) (e : (i : ℕ) → i < 3 * (side * side) → getD values i 0 ≡ getD other i 0) where
   value-same : (channel y x : ℕ) → channel < 3 → y < side → x < side → valueOf values side channel y x ≡ valueOf other side channel y x
   unfolding valueOf
-  value-same channel y x c hy hx = ap (lowFirst 2) (e (3 * (y * side + x) + channel) (omega (arith, c, pixel-inside side y x hy hx)))
+  value-same channel y x c hy hx = ap (lowBytes 2) (e (3 * (y * side + x) + channel) (omega (arith, c, pixel-inside side y x hy hx)))
 
   channel-same : (channel y : ℕ) → channel < 3 → y < side → channelOf values side channel y ≡ channelOf other side channel y
   unfolding channelOf

@@ -3,12 +3,12 @@ use mathlib.Core.List.{List, _++_}
 use Prim.Native.Nat.{ℕ, _+_, _*_}
 use lib.ListN.{getD}
 use Rattle.laws.specs.Made.{made, join}
-use Rattle.exr_header.specs.Header.{lowFirst, frontOf}
+use Rattle.exr_header.specs.Header.{lowBytes, frontOf}
 use Rattle.exr.specs.File.{headOf}
 
 -- channel 0, 1 or 2 (red, green, blue) of pixel x of line y: the pattern as it is, its low byte first
 unfoldable pub valueOf : List ℕ → ℕ → ℕ → ℕ → ℕ → List ℕ
-valueOf values side channel y x = lowFirst 2 (getD values (3 * (y * side + x) + channel) 0)
+valueOf values side channel y x = lowBytes 2 (getD values (3 * (y * side + x) + channel) 0)
 
 -- one channel of line y, from the left
 unfoldable pub channelOf : List ℕ → ℕ → ℕ → ℕ → List ℕ

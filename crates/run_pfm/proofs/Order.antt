@@ -16,7 +16,7 @@ use Rattle.dds.specs.Dds as dds
 use Rattle.dds.proofs.Headers.{ours-so, size-so}
 use Rattle.dds.proofs.Reading.{head-foreign, head-size, head-done, head-known, head-number, head-is, sized-blocks, sized-done, read-number, read-is, read-known, part-is, part-length}
 use Rattle.pfm.specs.declared.PfmWritten.{PfmWritten}
-use Rattle.pfm.specs.File.{SideEven, sizeWritable, blockBytes, fileLength, writeRefusal, PictureWritten}
+use Rattle.pfm.specs.File.{SideEven, sizeWritable, blockBytes, fileLength, refusalFor, writeRefusal, PictureWritten}
 use Rattle.pfm.proofs.Calls.{size-means}
 use Rattle.run_pfm.specs.Export.{sizeSmall, exportChecks, exportRefusal, Exported}
 
@@ -66,7 +66,7 @@ module _ (file : List ℕ) (room : ℕ) where
       -- what is left is what the writing call refuses
       refused-last : (size : ℕ) → size ≡ dds.blockBytes (widthOf file) (heightOf file) → length file ≡ headerSize + dds.blockBytes (widthOf file) (heightOf file)
           → exportRefusal file room ≡ writeRefusal size (formatOf file) (widthOf file) (heightOf file) room
-      unfolding exportRefusal writeRefusal
+      unfolding exportRefusal refusalFor
       refused-last size b l =
           let f : formatOf file ≤ 1 = ⊎-elim (λ e. omega arith) (λ e. omega arith) (head-known bc6hFirst 1 file h .ours .dxgi) in
           cases (sizeWritable (widthOf file) (heightOf file))

@@ -1,12 +1,12 @@
 -- `exr_header::put_data` meets its contract. Assumes nothing.
 use mathlib.Core.Path.{_≡_}
 use borrow.Author.Needs.{needs}
-use Rattle.exr_header.specs.Header.{lowFirst, dataPart}
+use Rattle.exr_header.specs.Header.{lowBytes, dataPart}
 use Rattle.exr_header.proofs.put_data.Statement.{statement}
 use Rattle.exr_header.proofs.put_data.Tie as tie
 
 returns : tie.Need-returns
-unfolding dataPart lowFirst
+unfolding dataPart lowBytes
 returns c = c .before .before .put .ensures .1 .exit-is
 
 pub put-data-spec : {M : Type 1} → statement M

@@ -1,12 +1,12 @@
 -- `exr_header::put_display` meets its contract. Assumes nothing.
 use mathlib.Core.Path.{_≡_}
 use borrow.Author.Needs.{needs}
-use Rattle.exr_header.specs.Header.{lowFirst, displayPart}
+use Rattle.exr_header.specs.Header.{lowBytes, displayPart}
 use Rattle.exr_header.proofs.put_display.Statement.{statement}
 use Rattle.exr_header.proofs.put_display.Tie as tie
 
 returns : tie.Need-returns
-unfolding displayPart lowFirst
+unfolding displayPart lowBytes
 returns c = c .before .before .put .ensures .1 .exit-is
 
 pub put-display-spec : {M : Type 1} → statement M

@@ -5,14 +5,14 @@ use native.Mathlib.Omega.{arith}
 use lib.ListN.{length, length-set}
 use lib.Seq.{sets}
 use borrow.Author.Needs.{needs}
-use Rattle.exr_header.specs.Header.{lowFirst}
+use Rattle.exr_header.specs.Header.{lowBytes}
 use Rattle.exr_header.proofs.Numbers.{number-start, number-more, number-whole}
 use Rattle.exr_header.proofs.put_number.Statement.{statement}
 use Rattle.exr_header.proofs.put_number.Tie as tie
 
 abbrev Inv-loop : tie.InvT-loop
 Inv-loop n size out₀ at rest₀ k₀ out rest k =
-    (k ≤ size) × (sets out₀ at (lowFirst size n) ≡ sets out (at + k) (lowFirst (size - k) rest)) × (length out ≡ length out₀)
+    (k ≤ size) × (sets out₀ at (lowBytes size n) ≡ sets out (at + k) (lowBytes (size - k) rest)) × (length out ≡ length out₀)
 
 abbrev μ-loop : tie.MeasureT-loop
 μ-loop n size out₀ at rest₀ k₀ out rest k = size - k

@@ -1,12 +1,12 @@
 -- `exr_header::put_screen` meets its contract. Assumes nothing.
 use mathlib.Core.Path.{_≡_}
 use borrow.Author.Needs.{needs}
-use Rattle.exr_header.specs.Header.{lowFirst, screenPart}
+use Rattle.exr_header.specs.Header.{lowBytes, screenPart}
 use Rattle.exr_header.proofs.put_screen.Statement.{statement}
 use Rattle.exr_header.proofs.put_screen.Tie as tie
 
 returns : tie.Need-returns
-unfolding screenPart lowFirst
+unfolding screenPart lowBytes
 returns c = c .before .before .put .ensures .1 .exit-is
 
 pub put-screen-spec : {M : Type 1} → statement M

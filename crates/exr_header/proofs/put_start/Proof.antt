@@ -1,12 +1,12 @@
 -- `exr_header::put_start` meets its contract. Assumes nothing.
 use mathlib.Core.Path.{_≡_}
 use borrow.Author.Needs.{needs}
-use Rattle.exr_header.specs.Header.{lowFirst, startPart}
+use Rattle.exr_header.specs.Header.{lowBytes, startPart}
 use Rattle.exr_header.proofs.put_start.Statement.{statement}
 use Rattle.exr_header.proofs.put_start.Tie as tie
 
 returns : tie.Need-returns
-unfolding startPart lowFirst
+unfolding startPart lowBytes
 returns c = c .before .before .put .ensures .1 .exit-is
 
 pub put-start-spec : {M : Type 1} → statement M

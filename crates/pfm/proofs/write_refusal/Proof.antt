@@ -13,10 +13,10 @@ even : (c : tie.Else2) → sizeWritable (c .before .before .before .args .width)
 even c = sym (c .before .size-even .ensures) ∙ not-false _ (c .if2 .left)
 
 returns : tie.Need-returns
-returns c = sym (write-format _ _ _ _ _ (search needs))
+returns c = sym (write-format _ _ _ _ _ _ (search needs))
 
 returns-2 : tie.Need-returns-2
-returns-2 c = sym (write-size _ _ _ _ _ (search needs) (sym (c .before .size-even .ensures) ∙ not-true _ (c .if2 .taken)))
+returns-2 c = sym (write-size _ _ _ _ _ _ (search needs) (sym (c .before .size-even .ensures) ∙ not-true _ (c .if2 .taken)))
 
 mul-if3 : tie.Need-mul-if3
 mul-if3 c = let k = small _ _ (even c) in record { fits = omega arith }
@@ -25,17 +25,17 @@ mul-if3-2 : tie.Need-mul-if3-2
 mul-if3-2 c = let k = small _ _ (even c) in record { fits = omega arith }
 
 returns-3 : tie.Need-returns-3
-returns-3 c = sym (write-blocks _ _ _ _ _ (search needs) (even (c .before)) (λ e. c .if3 .taken (e ∙ sym (bytes-are _ _))))
+returns-3 c = sym (write-blocks _ _ _ _ _ _ (search needs) (even (c .before)) (λ e. c .if3 .taken (e ∙ sym (bytes-are _ _))))
 
 returns-4 : tie.Need-returns-4
 returns-4 c =
     let s = even (c .before .before .before) in
-    sym (write-room _ _ _ _ _ (search needs) s (c .before .before .if3 .left ∙ bytes-are _ _) (omega (arith, length-is _ _ s (c .before .pfm-length .ensures), c .if4 .taken)))
+    sym (write-room _ _ _ _ _ _ (search needs) s (c .before .before .if3 .left ∙ bytes-are _ _) (omega (arith, length-is _ _ s (c .before .pfm-length .ensures), c .if4 .taken)))
 
 returns-5 : tie.Need-returns-5
 returns-5 c =
     let s = even (c .before .before .before) in
-    sym (write-done _ _ _ _ _ (search needs) s (c .before .before .if3 .left ∙ bytes-are _ _) (omega (arith, length-is _ _ s (c .before .pfm-length .ensures), c .if4 .left)))
+    sym (write-done _ _ _ _ _ _ (search needs) s (c .before .before .if3 .left ∙ bytes-are _ _) (omega (arith, length-is _ _ s (c .before .pfm-length .ensures), c .if4 .left)))
 
 pub write-refusal-spec : {M : Type 1} → statement M
 write-refusal-spec =

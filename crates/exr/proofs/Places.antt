@@ -4,7 +4,7 @@ use mathlib.Core.List.{List, [], _++_, append-nil, append-assoc}
 use Prim.Native.Nat.{ℕ, zero, suc, _+_, _-_, _*_, _/_, _≤_, _<_}
 use native.Mathlib.Nat.{mul-comm, mul-le-mul-right}
 use native.Mathlib.Omega.{arith}
-use lib.ListN.{take, drop}
+use lib.ListN.{length, take, drop}
 use lib.Seq.{drop-drop, drop-at}
 use Rattle.laws.proofs.Joined.{run-at}
 use Rattle.laws.proofs.Taken.{part-of-part}

@@ -4,15 +4,14 @@ use run_streams::Input;
 use run_streams::first_bytes;
 use run_streams::read_input;
 use run_streams::write_text;
-use text_places_audit::PlacesAudit;
 use text_places_audit::put_places_audit;
 
 fn main() {
-    let mut input = [0u8; PlacesAudit::INPUT];
+    let mut input = [0u8; text_places_audit::INPUT];
     let Input::Whole(size) = read_input(&mut input) else {
         return;
     };
-    let mut text = [0u8; PlacesAudit::ROOM];
+    let mut text = [0u8; text_places_audit::ROOM];
     let end = put_places_audit(&mut text, first_bytes(&input, size));
     write_text(&text, end);
 }

@@ -15,7 +15,7 @@ use probe_places::Place;
 use probe_places::PlacedReading;
 use probe_places::placed_record_at;
 use probe_places::tile_at;
-use store_faulty::Form;
+use store_faulty::PLACED;
 use store_faulty::count_faults;
 use store_faulty::mode_of;
 use store_faulty::one_if;
@@ -27,22 +27,16 @@ use text::put_field;
 use text::put_refusal;
 use text_list::put_triple;
 
-pub struct Listing {
-    pub end: usize,
-}
+// The most bytes of a line, and the room for a line a record and one more.
+const LINE: usize = 192;
 
-impl Listing {
-    // The most bytes of a line, and the room for a line a record and one more.
-    const LINE: usize = 192;
+pub const ROOM: usize = (Place::STORE / Place::SIZE + 1) * LINE;
 
-    pub const ROOM: usize = (Form::RECORDS + 1) * Listing::LINE;
+// The byte that asks for the strict listing.
+const STRICT: u8 = 1;
 
-    // The byte that asks for the strict listing.
-    const STRICT: u8 = 1;
-
-    // That byte and one byte more than a store may have: enough to tell that one is too long.
-    pub const INPUT: usize = 1 + Place::STORE + 1;
-}
+// That byte and one byte more than a store may have: enough to tell that one is too long.
+pub const INPUT: usize = 1 + Place::STORE + 1;
 
 // How many records are placed, how many are not, and how many are refused.
 pub struct PlaceCounts {
@@ -85,7 +79,7 @@ fn put_shown(text: &mut [u8], at: usize, store: &[u8], n: usize, place: Place) -
     ensures { λ r. ⌜ Written (now (text .entry)) at (shownRest (now (store .entry)) n) r (now (text .exit)) ⌝ }
 {
     let triple = triple_at(store, n, 15);
-    let mut end = put_field(text, at, mode_of(Form::PLACED, store, n) as u64);
+    let mut end = put_field(text, at, mode_of(PLACED, store, n) as u64);
     end = put_place(text, end, place);
     end = put(text, end, b" ");
     put_triple(text, end, triple[0], triple[1], triple[2])
@@ -151,7 +145,7 @@ fn count_places(store: &[u8]) -> PlaceCounts
         placed += one_if(is_placed(store, n));
         unplaced += one_if(is_unplaced(store, n));
     }
-    let bad = count_faults(Form::PLACED, store).refused;
+    let bad = count_faults(PLACED, store).refused;
     PlaceCounts {
         placed,
         unplaced,
@@ -174,14 +168,14 @@ fn put_counts(text: &mut [u8], at: usize, counts: PlaceCounts) -> usize
 fn listing_refusal(store: &[u8], strict: bool) -> u8
     ensures { λ r. ⌜ r ≡ listingRefusal strict (now (store .entry)) ⌝ }
 {
-    let refusal = store_refusal(Form::PLACED, store);
+    let refusal = store_refusal(PLACED, store);
     if refusal != Answer::DONE {
         return refusal;
     }
     if !strict {
         return Answer::DONE;
     }
-    if count_faults(Form::PLACED, store).damaged > 0 {
+    if count_faults(PLACED, store).damaged > 0 {
         return Answer::RESERVED_BLOCK;
     }
     Answer::DONE
@@ -211,5 +205,5 @@ pub fn put_input(text: &mut [u8], input: &[u8]) -> usize
     if input.len() == 0 {
         return put_listing(text, input, false);
     }
-    put_listing(text, &input[1..], input[0] == Listing::STRICT)
+    put_listing(text, &input[1..], input[0] == STRICT)
 }

@@ -20,7 +20,7 @@ use probe_places::placed_record_at;
 use probe_places::placed_record_block;
 use raw_bytes::same_bytes;
 use store_faulty::FaultCounts;
-use store_faulty::Form;
+use store_faulty::PLACED;
 use store_faulty::count_faults;
 use store_faulty::mode_of;
 use store_faulty::store_refusal;
@@ -31,19 +31,13 @@ use text_audit::put_faults;
 use text_places::put_number;
 use text_places::put_place;
 
-pub struct PlacesAudit {
-    pub end: usize,
-}
+// The most bytes of a line, and the room for a line a record, the columns and the counts.
+const LINE: usize = 256;
 
-impl PlacesAudit {
-    // The most bytes of a line, and the room for a line a record, the columns and the counts.
-    const LINE: usize = 256;
+pub const ROOM: usize = (Place::STORE / Place::SIZE + 2) * LINE;
 
-    pub const ROOM: usize = (Form::RECORDS + 2) * PlacesAudit::LINE;
-
-    // One byte more than a store may have: enough to tell that one is too long.
-    pub const INPUT: usize = Place::STORE + 1;
-}
+// One byte more than a store may have: enough to tell that one is too long.
+pub const INPUT: usize = Place::STORE + 1;
 
 // Record n is record `earlier` once more.
 fn is_repeat(store: &[u8], n: usize, earlier: usize) -> bool
@@ -58,7 +52,7 @@ fn is_repeat(store: &[u8], n: usize, earlier: usize) -> bool
     if again.format != first.format {
         return false;
     }
-    if mode_of(Form::PLACED, store, n) == 0 {
+    if mode_of(PLACED, store, n) == 0 {
         return false;
     }
     same_bytes(
@@ -133,7 +127,7 @@ fn put_copies(text: &mut [u8], at: usize, store: &[u8]) -> usize
         end = put_copy(text, end, store, n, first);
         copies += 1;
     }
-    let faults = count_faults(Form::PLACED, store);
+    let faults = count_faults(PLACED, store);
     put_tally(text, end, faults, copies)
 }
 
@@ -143,7 +137,7 @@ pub fn put_places_audit(text: &mut [u8], store: &[u8]) -> usize
     ensures { λ r. ⌜ r ≤ length (now (text .exit)) ⌝ }
     ensures { λ r. ⌜ Written (now (text .entry)) 0 (auditOf (now (store .entry))) r (now (text .exit)) ⌝ }
 {
-    let refusal = store_refusal(Form::PLACED, store);
+    let refusal = store_refusal(PLACED, store);
     if refusal != Answer::DONE {
         return put_refusal(text, 0, refusal);
     }

@@ -58,6 +58,7 @@ def commands(folder):
     text.write_text("format unsigned\nmode 11\nendpoint 0 red 40 green 34 blue 30\nendpoint 1 red 990 green 860 blue 610\n"
                     + "".join(f"indices {row} 0 0 1 1\n" for row in range(4)))
     (folder / "blocks").write_bytes(five.read_bytes()[148:])
+    (folder / "face.dds").write_bytes(five.read_bytes()[:12] + b"\4\0\0\0" * 2 + five.read_bytes()[20:164])
     (folder / "one").write_bytes(four.read_bytes()[:24])
     return {
         "list": [four], "list --json": ["--json", four], "check": [SAMPLES / "covered.store"], "audit": [SAMPLES / "covered.store"], "infinities": [four],
@@ -66,8 +67,8 @@ def commands(folder):
         "fields": [lamp, "unsigned"], "fields --picture": [lamp, "unsigned", "--picture"], "fields of a store": [four, "0"],
         "block": [text, out], "block --into": [text, "--into", four, "0", out], "block --picture": [text, "--picture"],
         "record take": ["take", four, "0", out], "record put": ["put", four, "0", folder / "one", out],
-        "place": [SAMPLES / "twins.store", out], "unplace": [SAMPLES / "unplaced.places", out],
-        "probe": [probe, "2"], "probe of a face": [probe, "2", "0", out],
+        "place": [SAMPLES / "twins.store", out], "place of a record": [probe, "3", "+Y", "0", "1", out], "unplace": [SAMPLES / "unplaced.places", out],
+        "probe": [probe, "2"], "probe without an edge": [probe], "probe of a face": [probe, "2", "0", out], "probe --make": ["--make", out, *6 * [folder / "face.dds"]],
         "dds": [five], "dds --first-level": ["--first-level", SAMPLES / "levels.dds"], "dds --relabel": ["--relabel", "unsigned", five, out], "dds --blocks": ["--blocks", five, out], "dds --make": ["--make", "5", "3", "signed", folder / "blocks", out], "pfm": [SAMPLES / "eight.dds", out],
         "export": [five, out, "--kind", "exr"], "export as PFM": [five, out, "--kind", "pfm"], "export as PNG": [five, out, "--kind", "png"], "export of a record": [four, "0", out, "--kind", "png"],
         "export of a face": [probe, "--face", "0", out, "--kind", "exr"], "export of BC7": [SAMPLES / "bc7.dds", out, "--kind", "png"],

@@ -56,7 +56,7 @@ def numbers(folder):
     lamp, out = SAMPLES / "lamp.block", folder / "out"
     check("a high record", ["fields", FOUR, "99999999999999"], 1, b"record refused 8\n", "there is no record 99999999999999: it has 4, from 0 on")
     check("a high record to take", ["record", "take", FOUR, "99999999999999", out], 1, b"record refused 8\n", "there is no record 99999999999999")
-    check("a face below 0", ["probe", SAMPLES / "small.probe", "2", "-1", out], 2, b"", "FACE is a number from 0 on in decimal, and not '-1'")
+    check("a face below 0", ["probe", SAMPLES / "small.probe", "2", "-1", out], 2, b"", "FACE is 0 to 5 or one of +X, -X, +Y, -Y, +Z, -Z, and not '-1'")
     check("a face that is none", ["probe", SAMPLES / "small.probe", "2", "6", out], 1, b"store refused 24\n", "refused, 24")
     for side in (2**32, 10**30, 10**5000):
         word = "9" * 5001 if side == 10**5000 else str(side)

@@ -1,6 +1,7 @@
 """Pictures to export, and what each of their rows has to be in each kind of file. The values of some blocks are worked out from the clauses
 (tests/probe/model.py), those of the others are run_pixels's, which other tests hold; the bytes of BC7 are check_bc7's."""
 import math
+import os
 import pathlib
 import random
 import struct
@@ -8,6 +9,8 @@ import subprocess
 import sys
 
 ROOT = pathlib.Path(__file__).resolve().parents[2]
+# The knot that is tried: another one, such as an installed one, where KNOT names it.
+KNOT = pathlib.Path(os.environ.get("KNOT", ROOT / "knot"))
 sys.path[:0] = [str(ROOT / "tests")]
 from dds import model as dds  # noqa: E402
 from probe import model as probe  # noqa: E402

@@ -1,7 +1,7 @@
 -- Mip levels: each has sides in range, the blocks of up to 13 of them have at most 22,369,648 bytes, and a file of one level has the blocks of its
 -- picture. Assumes nothing.
 use mathlib.Core.Path.{_≡_, refl, sym, ap, ap₂, _∙_}
-use Prim.Native.Nat.{ℕ, zero, suc, _+_, _*_, _/_, _^_, _≤_}
+use Prim.Native.Nat.{ℕ, zero, suc, _+_, _/_, _^_, _≤_}
 use native.Mathlib.Nat.{le-refl, le-trans, le-of-eq, le-add-right, add-le-add, mul-le-mul, mul-le-mul-right, zero-add, div-one, div-le-self, div-mul-le-self, le-div-iff-mul-le}
 use native.Mathlib.Numerals.{add-one}
 use native.Mathlib.Omega.{arith}

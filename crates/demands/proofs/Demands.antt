@@ -1,7 +1,7 @@
 -- The demands and the requests' theorems over the calls, each by citing what is proved where its subject is. Assumes nothing.
 use mathlib.Core.Path.{_≡_, refl, sym, ap, _∙_}
 use mathlib.Core.Bool.{Bool}
-use mathlib.Core.List.{List, _++_}
+use mathlib.Core.List.{List}
 use Prim.Native.Nat.{ℕ, zero, suc}
 use lib.ListN.{length, getD, take, drop}
 use lib.Seq.{take-at, drop-at}
@@ -19,8 +19,6 @@ use Rattle.bc6.proofs.Calls as pixels
 use Rattle.bc6_blocks.specs.declared.BlocksPixels.{BlocksPixels}
 use Rattle.bc6_blocks.specs.Run as run
 use Rattle.bc6_blocks.proofs.Calls as runs
-use Rattle.bc7.specs.declared.Bc7Pixels.{Bc7Pixels}
-use Rattle.bc7.specs.Call as bc7
 use Rattle.bc7.proofs.Calls as bc7-calls
 use Rattle.bc7_blocks.specs.declared.Bc7BlocksPixels.{Bc7BlocksPixels}
 use Rattle.bc7_blocks.specs.Run as bc7-run

@@ -1,5 +1,5 @@
 -- The calls that answer a definition's value have one outcome. Assumes nothing.
-use mathlib.Core.Path.{_≡_, sym, _∙_}
+use mathlib.Core.Path.{sym, _∙_}
 use Rattle.demands.specs.Outcomes.{OneAnswer, OneOutcome}
 
 same : {A : Type 0} (value : A) → OneAnswer value

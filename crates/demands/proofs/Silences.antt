@@ -9,31 +9,22 @@ use Rattle.laws.specs.Checks.{leftBy}
 use Rattle.bcn_spec.specs.Answers.{done}
 use Rattle.bc6h_spec.specs.Fields.{noFields, modeOf}
 use Rattle.bc6_numbers.specs.Numbers.{numberAt, numbersOf}
-use Rattle.bc6.specs.declared.Pixels.{Pixels}
 use Rattle.bc6.specs.Call as pixels
-use Rattle.bc6_blocks.specs.declared.BlocksPixels.{BlocksPixels}
 use Rattle.bc6_blocks.specs.Run as run
 use Rattle.bc6_image.specs.declared.FacePixels.{FacePixels}
 use Rattle.bc6_image.specs.Face as face
-use Rattle.bc6_fields.specs.declared.FieldsRead.{FieldsRead}
 use Rattle.bc6_fields.specs.Call as fields
 use Rattle.bc6_writer.specs.Call as writer
 use Rattle.bc6_palette.specs.Call as palette
-use Rattle.bc7.specs.declared.Bc7Pixels.{Bc7Pixels}
 use Rattle.bc7.specs.Call as bc7
-use Rattle.bc7_blocks.specs.declared.Bc7BlocksPixels.{Bc7BlocksPixels}
 use Rattle.bc7_blocks.specs.Run as bc7-run
-use Rattle.store_records.specs.declared.RecordReading.{RecordReading}
 use Rattle.store_records.specs.Store as records
 use Rattle.store_spec.specs.declared.TwinList.{TwinList}
 use Rattle.store_spec.specs.Twins as twins
 use Rattle.store_strict.specs.Strict as strict
-use Rattle.store_clean.specs.declared.Cleaned.{Cleaned}
 use Rattle.store_clean.specs.Clean as clean
 use Rattle.store_receipt.specs.Receipt as receipt
-use Rattle.store_restore.specs.declared.Restored.{Restored}
 use Rattle.store_restore.specs.Restore as restore
-use Rattle.probe_places.specs.declared.PlacedReading.{PlacedReading}
 use Rattle.probe_places.specs.Places.{placesIn}
 use Rattle.probe_places.specs.Readings as placed
 use Rattle.probe_moves.specs.declared.Moved.{Moved}
@@ -44,14 +35,10 @@ use Rattle.probe.specs.declared.ProbePixel.{ProbePixel}
 use Rattle.probe.specs.Probe as probe
 use Rattle.probe_faces.specs.Face as faces
 use Rattle.probe_open.specs.Open as table
-use Rattle.probe_build.specs.declared.Built.{Built}
 use Rattle.probe_build.specs.Building as building
 use Rattle.dds.specs.declared.DdsRead.{DdsRead}
-use Rattle.dds.specs.declared.DdsWritten.{DdsWritten}
 use Rattle.dds.specs.Dds as dds
-use Rattle.pfm.specs.declared.PfmWritten.{PfmWritten}
 use Rattle.pfm.specs.File as pfm
-use Rattle.exr.specs.declared.ExrWritten.{ExrWritten}
 use Rattle.exr.specs.File as exr
 use Rattle.demands.specs.Silence.{Silent, Demand1}
 

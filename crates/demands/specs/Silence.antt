@@ -1,7 +1,7 @@
 -- S-1: a refusal has one number, its counts are zero, and it writes nothing. One statement, and a line for each call that can refuse. Assumes
 -- nothing.
 use mathlib.Core.Path.{_≡_}
-use mathlib.Core.Bool.{Bool, true, false}
+use mathlib.Core.Bool.{true, false}
 use mathlib.Core.List.{List, [], _∷_}
 use Prim.Native.Nat.{ℕ}
 use lib.ListN.{getD}

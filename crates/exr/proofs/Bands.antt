@@ -1,12 +1,11 @@
 -- A row of blocks: the lengths of its parts, and the loop that fills four scan lines. Assumes nothing.
-use mathlib.Core.Path.{_≡_, _∙_, refl, sym, ap, ap₂}
+use mathlib.Core.Path.{_≡_, _∙_, refl, ap, ap₂}
 use mathlib.Core.List.{List, [], _++_, append-assoc}
 use Prim.Native.Nat.{ℕ, suc, _+_, _*_, _/_, _%_, _≤_, _<_}
 use native.Mathlib.Nat.{mul-le-mul, mul-le-mul-left, mul-add}
 use native.Mathlib.Omega.{arith}
 use lib.ListN.{length, getD, set, take, drop, length-append, length-drop}
 use lib.Seq.{sets, drop-drop, length-take-le}
-use Rattle.laws.specs.Made.{made, join}
 use Rattle.laws.proofs.Joined.{run-length, run-room}
 use Rattle.bcn_spec.specs.Bits.{blockAt}
 use Rattle.bc6h_spec.specs.Picture.{isSigned}
@@ -17,7 +16,7 @@ use Rattle.pfm.proofs.Bands.{parts}
 use Rattle.exr_header.specs.Header.{lowBytes}
 use Rattle.exr_header.proofs.Numbers.{length-low}
 use Rattle.exr.specs.File.{headOf}
-use Rattle.exr.specs.Bands.{quarterOf, fourSets, channelSets, blockSets, headSets, cellAt, runAt, bandLine, bandAt, bandOf, bandsOf}
+use Rattle.exr.specs.Bands.{quarterOf, fourSets, channelSets, blockSets, headSets, cellAt, runAt, bandLine, bandAt, bandOf}
 use Rattle.exr.proofs.Lines.{lineUpto, line-start, line-length, line-step, line-end, twelve-sets}
 
 -- ---- lengths

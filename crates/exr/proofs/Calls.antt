@@ -1,19 +1,16 @@
 -- The refusals in their order, and what each return of the writing call shows. Assumes nothing.
 use mathlib.Core.Path.{_≡_, refl, sym, ap, ap₂, _∙_}
-use mathlib.Core.Bool.{Bool, true, false}
+use mathlib.Core.Bool.{true, false}
 use mathlib.Core.List.{List, [], _++_, append-nil, append-assoc}
-use Prim.Native.Nat.{ℕ, zero, suc, _+_, _-_, _*_, _/_, _≤_, _<_}
-use native.Mathlib.Nat.{mul-le-mul, mul-assoc, mul-comm}
+use Prim.Native.Nat.{ℕ, zero, suc, _+_, _-_, _*_, _/_, _≤_}
+use native.Mathlib.Nat.{mul-le-mul, mul-assoc}
 use native.Mathlib.Omega.{arith}
-use lib.Dec.{eqb, ltb}
 use lib.ListN.{length, take, drop, length-append, length-drop, drop-of-length-le}
 use lib.Seq.{take-at, drop-at, take-all, drop-drop}
-use borrow.Author.Tests.{lt-ltb, le-ltb, eq-eqb, ne-eqb, ltb-true, ltb-false, eqb-true, eqb-false}
 use borrow.Rule.Slice.PartMut.{midOf, putMid}
-use Rattle.laws.proofs.Tests.{cases}
-use Rattle.bcn_spec.specs.Answers.{done, badFormat, shortOutput, blocksMisfit, unevenSize}
-use Rattle.pfm.specs.File.{sizeWritable, blockBytes}
-use Rattle.pfm.proofs.Calls.{Small, small, size-means, bytes-are, WriteKnown, write-known}
+use Rattle.bcn_spec.specs.Answers.{done}
+use Rattle.pfm.specs.File.{sizeWritable}
+use Rattle.pfm.proofs.Calls.{small, size-means, bytes-are, WriteKnown, write-known}
 use Rattle.pfm.proofs.Lines.{sets-front}
 use Rattle.text.specs.Text.{Written}
 use Rattle.exr_header.specs.Header.{lineLength, frontLength, frontOf, SizeFits}

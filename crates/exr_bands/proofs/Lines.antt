@@ -1,5 +1,5 @@
 -- Scan lines that are cropped: the stores of one, the loop over them, and what they are. Assumes nothing.
-use mathlib.Core.Path.{_≡_, _∙_, refl, sym, ap, ap₂}
+use mathlib.Core.Path.{_≡_, _∙_, sym, ap, ap₂}
 use mathlib.Core.List.{List, [], _++_, append-nil}
 use Prim.Native.Nat.{ℕ, _+_, _*_, _≤_, _<_}
 use native.Mathlib.Nat.{mul-add, mul-le-mul-left}
@@ -14,7 +14,7 @@ use Rattle.laws.proofs.Taken.{part-of-part}
 use Rattle.pfm_bands.proofs.Runs.{run-take, Filled, fill-end}
 use Rattle.dds.specs.Dds.{blocksAlong}
 use Rattle.exr_header.specs.Header.{lineLength}
-use Rattle.exr.specs.File.{halfAt, channelAt, valuesAt, headOf}
+use Rattle.exr.specs.File.{halfAt, channelAt, headOf}
 use Rattle.exr.specs.Bands.{runAt, bandLine, bandAt}
 use Rattle.exr.proofs.Bands.{length-head}
 use Rattle.exr.proofs.Whole.{channel-run, length-half, length-channel}

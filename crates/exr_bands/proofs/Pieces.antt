@@ -6,7 +6,6 @@ use native.Mathlib.Omega.{arith}
 use lib.ListN.{getD}
 use Rattle.laws.specs.Made.{made, join}
 use Rattle.laws.proofs.Rows.{made-same}
-use Rattle.bcn_spec.specs.Bits.{blockAt}
 use Rattle.bc6h_spec.specs.Picture.{isSigned}
 use Rattle.bc6h_spec.specs.Block.{pixelsOf}
 use Rattle.dds.specs.Dds.{blocksAlong}

@@ -1,12 +1,12 @@
 -- The lengths of a line and of the file, and that only the values of the picture count. Assumes nothing.
-use mathlib.Core.Path.{_≡_, refl, sym, ap, ap₂, _∙_}
+use mathlib.Core.Path.{_≡_, sym, ap, _∙_}
 use mathlib.Core.List.{List, _++_}
 use Prim.Native.Nat.{ℕ, _+_, _*_, _≤_, _<_}
 use native.Mathlib.Nat.{mul-le-mul, mul-le-mul-left, mul-add}
 use native.Mathlib.Omega.{arith}
 use lib.ListN.{length, getD, length-append}
 use lib.Seq.{sets}
-use Rattle.laws.specs.Made.{made, join}
+use Rattle.laws.specs.Made.{join}
 use Rattle.laws.proofs.Joined.{run-length}
 use Rattle.laws.proofs.Rows.{made-same}
 use Rattle.text.specs.Text.{Written}

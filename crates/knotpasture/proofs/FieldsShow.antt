@@ -11,8 +11,7 @@ use Rattle.bc6h_spec.specs.declared.Fields.{Fields}
 use Rattle.bcn_spec.specs.Answers.{done, shortOutput}
 use Rattle.bcn_spec.specs.Bits.{blockSize}
 use Rattle.bc6h_spec.specs.Fields.{modeOf, fieldsOf, Valid}
-use Rattle.bc6h_spec.specs.Picture.{valueCount, isSigned, picture}
-use Rattle.bc6h_spec.specs.Block.{pixelsOf}
+use Rattle.bc6h_spec.specs.Picture.{valueCount}
 use Rattle.bc6h_spec.proofs.Pixel.{record-shows}
 use Rattle.bc6h_spec.proofs.Reading.{fields-valid}
 use Rattle.bc6_fields.specs.declared.FieldsRead.{FieldsRead}

@@ -1,9 +1,9 @@
 -- The pieces of the rows of blocks, one after the other, are the file. Assumes nothing.
-use mathlib.Core.Path.{_≡_, _∙_, refl, sym, ap, ap₂}
+use mathlib.Core.Path.{_≡_, _∙_, sym, ap, ap₂}
 use mathlib.Core.List.{List, _++_}
 use Prim.Native.Nat.{ℕ, _+_, _-_, _*_, _/_, _%_, _≤_, _<_, min}
 use native.Mathlib.Omega.{arith}
-use lib.ListN.{length, take, drop}
+use lib.ListN.{take, drop}
 use Rattle.laws.specs.Made.{made, join}
 use Rattle.laws.proofs.Rows.{made-same}
 use Rattle.bcn_spec.specs.Bits.{blockAt}

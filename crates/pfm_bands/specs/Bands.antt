@@ -2,7 +2,7 @@
 use mathlib.Core.Path.{_≡_}
 use mathlib.Core.List.{List, _++_}
 use Prim.Native.Nat.{ℕ, _+_, _-_, _*_, _≤_, min}
-use lib.ListN.{length, take, drop}
+use lib.ListN.{take, drop}
 use Rattle.laws.specs.Made.{made, join}
 use Rattle.bcn_spec.specs.Bits.{blockSize}
 use Rattle.dds.specs.Dds.{blocksAlong}

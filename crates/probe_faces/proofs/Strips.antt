@@ -1,9 +1,9 @@
 -- The values of a strip are those of four rows of the face. Assumes nothing.
 use mathlib.Core.Path.{_≡_, _∙_, refl, sym, ap}
 use mathlib.Core.List.{List, [], _++_, append-nil}
-use Prim.Native.Nat.{ℕ, zero, suc, _+_, _*_, _/_, _%_, _≤_, _<_}
+use Prim.Native.Nat.{ℕ, zero, suc, _+_, _*_, _/_, _%_, _<_}
 use native.Mathlib.Omega.{arith}
-use lib.ListN.{length, getD, take, drop, length-take, length-drop}
+use lib.ListN.{length, getD, drop}
 use Rattle.laws.specs.Made.{made, join}
 use Rattle.laws.proofs.Rows.{length-made, getD-made, made-same, made-each}
 use Rattle.probe.specs.Probe.{placeOf, recordFor, shownIn, tripleOf, tripleAt, tripleFor}

@@ -1,5 +1,5 @@
 -- A pixel by the table: which check refuses it, and that a table which opening left gives what the probe gives. Assumes nothing.
-use mathlib.Core.Path.{_≡_, refl, sym, _∙_, ap, ap₂}
+use mathlib.Core.Path.{_≡_, refl, sym, _∙_, ap}
 use mathlib.Core.Bool.{true, false}
 use mathlib.Core.List.{List}
 use Prim.Native.Nat.{ℕ, zero, suc, _+_, _-_, _*_, _/_, _%_, _≤_, _<_}
@@ -13,7 +13,7 @@ use Rattle.laws.proofs.Tests.{cases}
 use Rattle.bcn_spec.specs.Answers.{done, badFormat, shortOutput, noRecord, badEdge, emptyPlace}
 use Rattle.probe_places.specs.declared.Fault.{Fault}
 use Rattle.probe_places.specs.Faults.{orNext}
-use Rattle.probe_places.specs.Places.{faceCount, placesIn, formatIn}
+use Rattle.probe_places.specs.Places.{placesIn, formatIn}
 use Rattle.probe.specs.declared.ProbePixel.{ProbePixel}
 use Rattle.probe.specs.Probe.{edgeLimit, placeOf, placeCount, placeNumber, IsProbe, InRange, probeFault, questionRefusal, tripleAt, tripleFor, probeShown, probeRefused, probedAt, Asked}
 use Rattle.probe.specs.Held.{Held, RecordOf}

@@ -13,9 +13,8 @@ use Rattle.laws.proofs.Tests.{cases}
 use Rattle.bcn_spec.specs.Answers.{done, shortOutput}
 use Rattle.probe_places.specs.declared.Fault.{Fault}
 use Rattle.probe_places.specs.Faults.{noFault, faultAlone}
-use Rattle.probe_places.specs.Places.{placesIn}
 use Rattle.probe.specs.Probe.{placeCount, probeFault}
-use Rattle.probe.specs.Held.{Held, Checked}
+use Rattle.probe.specs.Held.{Checked}
 use Rattle.probe_open.specs.Open.{openFault, Opened}
 
 -- ---- the copy

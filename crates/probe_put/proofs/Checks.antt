@@ -1,6 +1,5 @@
 -- Which check refuses a place for a record. Assumes nothing.
-use mathlib.Core.Path.{_≡_, refl, sym, _∙_, ap}
-use mathlib.Core.Bool.{true, false}
+use mathlib.Core.Path.{_≡_, sym, _∙_, ap}
 use mathlib.Core.List.{List}
 use Prim.Native.Nat.{ℕ, _+_, _*_, _/_, _%_, _≤_, _<_}
 use native.Mathlib.Omega.{arith}
@@ -9,12 +8,12 @@ use lib.ListN.{length}
 use borrow.Author.Tests.{lt-ltb, le-ltb, eq-eqb, ne-eqb, ltb-true, ltb-false, eqb-true, eqb-false}
 use Rattle.laws.proofs.Tests.{cases, below-at}
 use Rattle.laws.proofs.Search.{holds, is-true}
-use Rattle.bcn_spec.specs.Answers.{done, badFormat, spareByte, badPlace, noRecord, longStore, unevenStore, shortOutput}
+use Rattle.bcn_spec.specs.Answers.{done, badPlace, noRecord, longStore, unevenStore, shortOutput}
 use Rattle.probe_places.specs.declared.Fault.{Fault}
 use Rattle.probe_places.specs.declared.Place.{Place}
-use Rattle.probe_places.specs.Faults.{faultAlone, wholeFirst}
+use Rattle.probe_places.specs.Faults.{faultAlone}
 use Rattle.probe_places.specs.Places.{placeSize, placeLimit, placesIn, byteAt, formatIn, zeroByte, restZero, placeRefusal, placeRecordRefusal}
-use Rattle.probe_places.proofs.Faults.{whole-done, whole-passes}
+use Rattle.probe_places.proofs.Faults.{whole-done}
 use Rattle.probe_moves.specs.Moves.{sizeRefusal}
 use Rattle.probe_moves.proofs.Checks.{sized, enough}
 use Rattle.probe_put.specs.Put.{putSizes, headRefusal, recordFault, puttingFault}

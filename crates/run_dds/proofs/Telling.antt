@@ -1,11 +1,9 @@
 -- What is told of a file that was read as BC6H and as BC7. Assumes nothing.
-use mathlib.Core.Path.{_≡_, refl, sym, ap, ap₂, _∙_}
-use mathlib.Core.Bool.{Bool, true, false}
+use mathlib.Core.Path.{_≡_, refl, ap, ap₂, _∙_}
 use mathlib.Core.List.{List}
 use Prim.Native.Nat.{ℕ, zero, suc, _+_, _≤_}
 use lib.Dec.{eqb}
 use borrow.Author.Tests.{eq-eqb, ne-eqb}
-use Rattle.laws.specs.Pick.{pick}
 use Rattle.laws.proofs.Tests.{picks}
 use Rattle.bcn_spec.specs.Answers.{done, foreignHeader}
 use Rattle.dds.specs.declared.DdsRead.{DdsRead}

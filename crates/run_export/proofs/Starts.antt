@@ -1,18 +1,18 @@
 -- Wishes, what fits, and what each call leaves at the start of the lent bytes. Assumes nothing.
-use mathlib.Core.Path.{_≡_, refl, sym, ap, _∙_}
-use mathlib.Core.Bool.{Bool, true}
+use mathlib.Core.Path.{_≡_, sym, ap, _∙_}
+use mathlib.Core.Bool.{true}
 use mathlib.Core.List.{List, _++_}
-use Prim.Native.Nat.{ℕ, zero, _+_, _-_, _*_, _≤_, _<_, min}
+use Prim.Native.Nat.{ℕ, _+_, _-_, _*_, _≤_, _<_}
 use native.Mathlib.Nat.{mul-le-mul}
 use native.Mathlib.Omega.{arith}
-use lib.Dec.{leb, eqb}
+use lib.Dec.{leb}
 use lib.ListN.{length, take, drop, length-append}
 use lib.Seq.{sets, take-at}
 use borrow.Author.Tests.{leb-true, eq-eqb, ne-eqb}
 use Rattle.laws.specs.Pick.{both}
 use Rattle.laws.proofs.Tests.{both-true}
 use Rattle.text.specs.Text.{Written}
-use Rattle.dds.specs.Dds.{SizeOurs, sizeOurs, blocksAlong}
+use Rattle.dds.specs.Dds.{sizeOurs, blocksAlong}
 use Rattle.dds.proofs.Headers.{size-means}
 use Rattle.pfm_header.specs.Header.{headerOf, headerLength, HeaderPut}
 use Rattle.pfm_header.proofs.Text.{length-header}

@@ -1,9 +1,9 @@
 -- An input with a head before its bytes, and an output within the bytes that were lent. Assumes nothing.
 use mathlib.Core.Path.{_≡_, refl}
 use mathlib.Core.List.{List, []}
-use Prim.Native.Nat.{ℕ, _+_, _-_, _≤_, _<_}
+use Prim.Native.Nat.{ℕ, _+_, _-_, _≤_}
 use native.Mathlib.Omega.{arith}
-use lib.ListN.{length, getD, take, drop, length-drop}
+use lib.ListN.{length, take, drop, length-drop}
 use lib.Seq.{take-all, getD-take}
 use Rattle.raw_bytes.specs.Bytes.{lowFirst}
 use Rattle.raw_bytes.proofs.Bytes.{bytes-same}

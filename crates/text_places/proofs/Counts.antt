@@ -1,6 +1,6 @@
 -- Which records have a place, and how many. Assumes nothing.
-use mathlib.Core.Path.{_≡_, refl, sym}
-use mathlib.Core.Bool.{Bool, true, false, not}
+use mathlib.Core.Path.{_≡_, refl}
+use mathlib.Core.Bool.{Bool, false, not}
 use mathlib.Core.List.{List}
 use Prim.Native.Nat.{ℕ, _+_, _≤_}
 use native.Mathlib.Omega.{arith}
@@ -17,7 +17,6 @@ use Rattle.probe_places.proofs.Readings.{unrefused, record-is}
 use Rattle.store_faulty.specs.declared.FaultCounts.{FaultCounts}
 use Rattle.store_faulty.specs.Faulty.{formOf, howMany, countsOf}
 use Rattle.store_faulty.proofs.Forms.{more}
-use Rattle.text_places.specs.declared.PlaceCounts.{PlaceCounts}
 use Rattle.text_places.specs.Lines.{isPlaced, isUnplaced, placeCounts}
 
 -- ---- a record

@@ -1,5 +1,5 @@
 -- Laws of `repeats` over any form of a record: what each test gives, and that the computing definitions are what the words say. Assumes nothing.
-use mathlib.Core.Path.{_≡_, refl, sym, _∙_, ap, ap₂}
+use mathlib.Core.Path.{_≡_, refl, sym, _∙_, ap₂}
 use mathlib.Core.Bool.{Bool, true, false, not}
 use mathlib.Core.List.{List}
 use Prim.Native.Nat.{ℕ, _≤_, _<_}
@@ -7,15 +7,15 @@ use native.Mathlib.Omega.{arith}
 use lib.Dec.{eqb}
 use borrow.Author.Tests.{eq-eqb, ne-eqb, eqb-true, eqb-false, lt-ltb, le-ltb, ltb-true, not-true}
 use Rattle.laws.specs.Every.{same}
-use Rattle.laws.proofs.Tests.{cases, both-true}
+use Rattle.laws.proofs.Tests.{both-true}
 use Rattle.laws.proofs.Firsts.{first-passes, first-least}
-use Rattle.laws.proofs.Sameness.{true-false, not-so, same-so, same-means}
+use Rattle.laws.proofs.Sameness.{not-so, same-so, same-means}
 use Rattle.bcn_spec.specs.Answers.{done}
 use Rattle.bc6h_spec.specs.Fields.{modeOf}
 use Rattle.store_clean.specs.Clean as clean
-use Rattle.store_faulty.specs.Faulty.{RecordForm, plainForm}
+use Rattle.store_faulty.specs.Faulty.{RecordForm}
 use Rattle.text_places_audit.specs.Copies.{Repeats, repeats, firstIn, isCopy}
-use Rattle.text_places_audit.specs.Theorems.{Beside, CopiesBeside, AllTold, AsCleaned}
+use Rattle.text_places_audit.specs.Theorems.{CopiesBeside, AllTold, AsCleaned}
 
 -- ---- one test after the other
 

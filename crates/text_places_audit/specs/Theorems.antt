@@ -1,6 +1,6 @@
 -- S-104: what the audit of a store of records with a place promises of its copies. Assumes nothing.
 use mathlib.Core.Path.{_≡_}
-use mathlib.Core.Bool.{Bool, true, false}
+use mathlib.Core.Bool.{true, false}
 use mathlib.Core.List.{List}
 use Prim.Native.Nat.{ℕ, _<_}
 use Rattle.store_clean.specs.Clean.{firstOf}

@@ -1,18 +1,16 @@
 -- The values of a face that was painted: none is a NaN, and its file is that of the face. Assumes nothing.
 use mathlib.Core.Path.{_≡_, refl, sym, ap, _∙_}
 use mathlib.Core.List.{List, _++_}
-use Prim.Native.Nat.{ℕ, zero, suc, _+_, _-_, _*_, _/_, _%_, _≤_, _<_}
+use Prim.Native.Nat.{ℕ, _+_, _-_, _*_, _/_, _%_, _≤_, _<_}
 use native.Mathlib.Nat.{mul-assoc, mul-comm, mod-lt, div-lt-iff-lt-mul, div-add-mod'}
 use native.Mathlib.Omega.{arith}
-use lib.Dec.{lit≤}
-use lib.ListN.{length, getD, take, drop, replicate, length-take, length-drop, List·getD-append}
+use lib.ListN.{length, getD, drop, replicate, length-take, length-drop, List·getD-append}
 use Rattle.laws.proofs.Rows.{getD-made}
 use Rattle.bcn_spec.specs.Answers.{done}
 use Rattle.bc6h_spec.specs.Picture.{isSigned}
 use Rattle.bc6h_spec.specs.Block.{pixelsOf}
 use Rattle.bc6.specs.Call.{refusalOf, answerAt, valuesAt, Painted}
 use Rattle.bc6_blocks.proofs.Decoded.{decoded}
-use Rattle.pfm_floats.specs.declared.Rgb.{Rgb}
 use Rattle.pfm_floats.specs.Bytes.{Numbers}
 use Rattle.pfm.specs.File.{colourAt}
 use Rattle.pfm.specs.Bands.{coloursOf, noColour}

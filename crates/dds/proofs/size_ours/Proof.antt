@@ -1,5 +1,4 @@
 -- `dds::size_ours` meets its contract. Assumes nothing.
-use mathlib.Core.Path.{refl}
 use Rattle.laws.proofs.Tests.{and-both}
 use Rattle.dds.specs.Dds.{sizeOurs}
 use Rattle.dds.proofs.size_ours.Statement.{statement}

@@ -4,7 +4,7 @@ use mathlib.Core.Bool.{true}
 use native.Mathlib.Omega.{arith}
 use borrow.Author.Tests.{not-true, not-false}
 use borrow.Author.Needs.{needs}
-use Rattle.dds.specs.Dds.{sizeOurs, blockBytes}
+use Rattle.dds.specs.Dds.{sizeOurs}
 use Rattle.dds.proofs.Headers.{size-means, bytes-most}
 use Rattle.dds.proofs.Writing.{write-format, write-size, write-blocks, write-room, write-done}
 use Rattle.dds.proofs.write_refusal.Statement.{statement}

@@ -1,9 +1,8 @@
 -- `exr::exr_write` meets its contract. Assumes nothing.
-use mathlib.Core.Path.{_≡_, sym, _∙_}
+use mathlib.Core.Path.{sym, _∙_}
 use native.Mathlib.Omega.{arith}
 use lib.ListN.{length, length-take, length-drop}
 use borrow.Author.Needs.{needs}
-use Rattle.exr_header.specs.Header.{frontLength}
 use Rattle.exr.proofs.Calls.{Room, room-for, told-refused, told-done, front-end}
 use Rattle.exr.proofs.exr_write.Statement.{statement}
 use Rattle.exr.proofs.exr_write.Tie as tie

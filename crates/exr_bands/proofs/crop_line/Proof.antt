@@ -1,5 +1,4 @@
 -- `exr_bands::crop_line` meets its contract. Assumes nothing.
-use native.Mathlib.Omega.{arith}
 use borrow.Author.Needs.{needs}
 use Rattle.exr_bands.proofs.Lines.{line-stores}
 use Rattle.exr_bands.proofs.crop_line.Statement.{statement}

@@ -1,5 +1,4 @@
 -- `exr_header::put_data` meets its contract. Assumes nothing.
-use mathlib.Core.Path.{_≡_}
 use borrow.Author.Needs.{needs}
 use Rattle.exr_header.specs.Header.{lowBytes, dataPart}
 use Rattle.exr_header.proofs.put_data.Statement.{statement}

@@ -1,5 +1,4 @@
 -- `exr_header::put_screen` meets its contract. Assumes nothing.
-use mathlib.Core.Path.{_≡_}
 use borrow.Author.Needs.{needs}
 use Rattle.exr_header.specs.Header.{lowBytes, screenPart}
 use Rattle.exr_header.proofs.put_screen.Statement.{statement}

@@ -1,5 +1,5 @@
 -- `run_dds::count_rest` meets its contract: each turn reads a byte at least. Assumes nothing.
-use Prim.Native.Nat.{_+_, _-_, _≤_}
+use Prim.Native.Nat.{_-_, _≤_}
 use borrow.Author.Needs.{needs}
 use Rattle.run_dds.proofs.count_rest.Statement.{statement}
 use Rattle.run_dds.proofs.count_rest.Tie as tie

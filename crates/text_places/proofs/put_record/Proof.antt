@@ -1,4 +1,4 @@
-use mathlib.Core.Path.{_∙_, ap}
+use mathlib.Core.Path.{_∙_}
 use Rattle.probe_places.proofs.Readings.{unrefused, refused}
 use Rattle.text_places.proofs.Lines as lines
 use borrow.Author.Needs.{needs}

@@ -1,7 +1,3 @@
-use mathlib.Core.Path.{_≡_}
-use Prim.Native.Nat.{_≤_, _<_}
-use native.Mathlib.Omega.{arith}
-use Rattle.probe_places.proofs.Readings.{known}
 use Rattle.text_places.proofs.Lines as lines
 use borrow.Author.Needs.{needs}
 use Rattle.text_places.proofs.put_shown.Statement.{statement}

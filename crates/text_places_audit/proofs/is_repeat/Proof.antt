@@ -1,4 +1,3 @@
-use mathlib.Core.Path.{sym, _∙_}
 use Rattle.probe_places.proofs.Readings.{unrefused, refused}
 use Rattle.store_faulty.specs.Faulty.{placedForm}
 use Rattle.text_places.proofs.Lines.{readable}

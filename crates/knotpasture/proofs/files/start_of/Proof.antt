@@ -1,4 +1,3 @@
-use borrow.Author.Needs.{needs}
 use Rattle.knotpasture.proofs.FileWords.{start-none, start-some}
 use Rattle.knotpasture.proofs.files.start_of.Statement.{statement}
 use Rattle.knotpasture.proofs.files.start_of.Tie as tie

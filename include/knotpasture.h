@@ -31,7 +31,7 @@ extern "C" {
 #endif
 
 /* The version of this header: three numbers, of which the first is that of the shared library's name. */
-#define KNOT_VERSION "1.0.0"
+#define KNOT_VERSION "1.1.0"
 
 /* The numbers of an answer, their names and their meaning. The tables of Python, Rust, JavaScript and docs/CALLS.md are written from this one
  * by tools/make-refusals. 26 to 28 are answers of commands, not of calls.

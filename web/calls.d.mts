@@ -1,7 +1,7 @@
 // Written by tools/web-calls from include/knotpasture.h and python/knotpasture/words.py: edit those, and run it again.
 
 /** The version of the header that the calls are from. */
-export declare const VERSION: "1.0.0";
+export declare const VERSION: "1.1.0";
 export declare const UNSIGNED: 0;
 export declare const SIGNED: 1;
 export declare const KEPT: 0;

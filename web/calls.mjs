@@ -1,6 +1,6 @@
 // Written by tools/web-calls from include/knotpasture.h and python/knotpasture/words.py: edit those, and run it again.
 
-export const VERSION = "1.0.0";
+export const VERSION = "1.1.0";
 export const UNSIGNED = 0;
 export const SIGNED = 1;
 export const KEPT = 0;

@@ -28,7 +28,7 @@ from . import _library
 from .survey import survey
 from .words import WORDS
 
-__version__ = "1.0.0"
+__version__ = "1.1.0"
 
 BLOCK_SIZE, VALUES, FIELDS, BC7_BYTES = 16, 48, 32, 64
 RECORD_SIZE, STORE_LIMIT, SCRATCH_VALUES, RECEIPT_ENTRY = 24, 48_000, 49, 8

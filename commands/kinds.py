@@ -74,12 +74,6 @@ def signature_of(data):
     return None
 
 
-def better_than(own, data):
-    """The other reading of a file, where it fits better."""
-    other = Reading(data, PLACED if own.form == PLAIN else PLAIN)
-    return other if other.fits_better(own) else None
-
-
 def looks_like(data, form):
     """What a file that is given as a store of `form` looks like instead, in words; None where it may well be that store."""
     own = Reading(data, form)
@@ -87,7 +81,8 @@ def looks_like(data, form):
         return None
     if signed := signature_of(data):
         return signed
-    if other := better_than(own, data):
+    other = Reading(data, PLACED if form == PLAIN else PLAIN)
+    if other.fits_better(own):
         return store_in_words(other.form, other.records)
     return f"no store at all: {own.refused:,} of its {own.records:,} records are refused" if own.mostly_refused() else None
 
@@ -111,9 +106,8 @@ def form_asked(asked):
 
 
 def form_to_show(data):
-    """The form in which a file is shown: that of records with a place where `looks_like` finds such a store, else that of 24-byte records."""
-    plain = Reading(data, PLAIN)
-    return PLACED if plain.has_refused() and not signature_of(data) and better_than(plain, data) else PLAIN
+    """The form in which a file is listed and audited: the likelier one, and that of 24-byte records for a file with a header."""
+    return PLAIN if signature_of(data) else likelier_reading(data).form
 
 
 def to_change(path, form, as_store):

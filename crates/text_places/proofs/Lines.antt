@@ -39,8 +39,8 @@ module _ (p : Place) where
 -- ---- a record that is not refused
 
 module _ (store : List ℕ) (n : ℕ) where
-  pub in-format : Readable store n → (n < placesIn store) × (formatIn store n ≤ 1) × (15 < 16)
-  in-format u = let k = known store n u in (k .below, fine store n (k .unrefused) .small, omega arith)
+  pub in-format : (pixel : ℕ) → pixel < 16 → Readable store n → (n < placesIn store) × (formatIn store n ≤ 1) × (pixel < 16)
+  in-format pixel h u = let k = known store n u in (k .below, fine store n (k .unrefused) .small, h)
 
   pub readable : Readable store n → formOf 32 .refusal store n ≡ done
   unfolding formOf

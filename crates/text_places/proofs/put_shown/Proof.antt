@@ -1,10 +1,11 @@
+use native.Mathlib.Omega.{arith}
 use Rattle.text_places.proofs.Lines as lines
 use borrow.Author.Needs.{needs}
 use Rattle.text_places.proofs.put_shown.Statement.{statement}
 use Rattle.text_places.proofs.put_shown.Tie as tie
 
 triple-at-requires : tie.Need-triple-at-requires
-triple-at-requires c κs = lines.in-format (c .before .before .args .store .now) (c .before .before .args .n) (c .before .before .pre .1 .0)
+triple-at-requires c κs = lines.in-format (c .before .before .args .store .now) (c .before .before .args .n) _ (omega arith) (c .before .before .pre .1 .0)
 
 mode-of-requires : tie.Need-mode-of-requires
 mode-of-requires c κs = lines.readable (c .before .before .before .before .args .store .now) (c .before .before .before .before .args .n) (c .before .before .before .before .pre .1 .0)

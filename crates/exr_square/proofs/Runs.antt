@@ -20,7 +20,7 @@ module _ (f : ℕ → List ℕ) where
         → exit ≡ sets out₀ at (join (made f (k + 1)))
     one-put out₀ out exit at k e w =
         w ∙ ap (λ (l : List ℕ). sets l (at + size * k) (f k)) e
-        ∙ sets-append (join (made f k)) (f k) out₀ at (at + size * k) (ap (λ (n : ℕ). at + n) (sym (run-length f size each k)))
+        ∙ sets-append (join (made f k)) (f k) out₀ at (at + size * k) (ap (λ (n : ℕ). at + n) (run-length f size each k))
         ∙ ap (sets out₀ at) (sym (run-more f k))
 
     pub all-put : (out₀ out : List ℕ) (at count k : ℕ) → out ≡ sets out₀ at (join (made f k)) → k ≤ count → count ≤ k

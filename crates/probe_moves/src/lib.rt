@@ -15,6 +15,7 @@ use probe_places::place_at;
 use probe_places::place_record_refusal;
 use store_records::Record;
 use store_records::record_at;
+use store_records::record_count;
 
 // What a move answers: its number, how many records were moved, and the number of the first faulty record where a record is why none was.
 pub struct Moved {
@@ -51,7 +52,7 @@ impl Moved {
 fn first_old_fault(old: &[u8]) -> Fault
     ensures { λ r. ⌜ r ≡ firstFault (recordRefusal (now (old .entry))) (recordsIn (now (old .entry))) ⌝ }
 {
-    let count = old.len() / Record::SIZE;
+    let count = record_count(old);
     for n in 0..count {
         let refusal = record_at(old, n).number();
         if refusal != Answer::DONE {
@@ -74,7 +75,7 @@ fn placing_fault(old: &[u8], room: usize) -> Fault
     if old.len() % Record::SIZE != 0 {
         return Fault::alone(Answer::UNEVEN_STORE);
     }
-    if room < old.len() / Record::SIZE * Place::SIZE {
+    if room < record_count(old) * Place::SIZE {
         return Fault::alone(Answer::SHORT_OUTPUT);
     }
     first_old_fault(old)
@@ -103,7 +104,7 @@ fn place_records(old: &[u8], out: &mut [u8])
     requires { ⌜ recordsIn (now old) * placeSize ≤ length (now out) ⌝ }
     ensures { λ _. ⌜ now (out .exit) ≡ placedStore (now (old .entry)) ++ drop (recordsIn (now (old .entry)) * placeSize) (now (out .entry)) ⌝ }
 {
-    let size = old.len() / Record::SIZE * Place::SIZE;
+    let size = record_count(old) * Place::SIZE;
     for j in 0..size {
         out[j] = placed_byte(old, j);
     }
@@ -118,7 +119,7 @@ pub fn place_store(old: &[u8], out: &mut [u8]) -> Moved
         return Moved::refused(fault);
     }
     place_records(old, out);
-    Moved::done(old.len() / Record::SIZE)
+    Moved::done(record_count(old))
 }
 
 // ---- new to old

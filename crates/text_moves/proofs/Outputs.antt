@@ -91,12 +91,12 @@ module _ (old out after : List ℕ) {r : Moved} (room : length out ≡ 1 + place
   pub placed-refused : (r .answer ≡ done → ⊥) → Put out (placedOutput old) 1 (set (putMid 1 (length out - 1) out after) 0 (r .answer))
   placed-refused n = fitting (omega arith) (said (written-refused out after d (omega arith) n) lent)
 
-  pub placed-done : r .answer ≡ done
-      → Put out (placedOutput old) (1 + recordsIn old * placeSize) (set (putMid 1 (length out - 1) out after) 0 (r .answer))
-  placed-done z =
+  pub placed-done : {count : ℕ} → count ≡ recordsIn old → r .answer ≡ done
+      → Put out (placedOutput old) (1 + count * placeSize) (set (putMid 1 (length out - 1) out after) 0 (r .answer))
+  placed-done q z =
       let p = place-done d z .enough-room in
       let l : length (midOf 1 (length out - 1) out) ≡ placeLimit = part-length out room in
-      fitting (omega arith) (said (written-done out after d z (placed-length old) (omega arith)) lent)
+      rw q (fitting (omega arith) (said (written-done out after d z (placed-length old) (omega arith)) lent))
 
 module _ (new out after : List ℕ) {r : Moved} (room : length out ≡ 1 + storeLimit) (d : UnplacedStore new (midOf 1 (length out - 1) out) r after) where
   lent-back : movedOutput (unplacingRefusal new (length (midOf 1 (length out - 1) out))) (oldStore new) ≡ unplacedOutput new

@@ -16,6 +16,7 @@ use raw_bytes::u16_at;
 use raw_bytes::u32_at;
 use raw_bytes::u32_to_usize;
 use store_records::Record;
+use store_records::record_count;
 
 // The answer, and the largest store that is moved.
 pub const PLACED: usize = 1 + Place::STORE;
@@ -39,7 +40,7 @@ pub fn put_placed(store: &[u8], out: &mut [u8]) -> usize
     if placed.answer != Answer::DONE {
         return 1;
     }
-    1 + store.len() / Record::SIZE * Place::SIZE
+    1 + record_count(store) * Place::SIZE
 }
 
 // What run_unplace writes of a store.

@@ -31,6 +31,7 @@ place-records-spec =
     (tie.spec
     Inv-loop
     μ-loop
+    (λ c κs. search needs)
     (λ c. search needs)
     loop-holds
     (λ c κs. search needs)

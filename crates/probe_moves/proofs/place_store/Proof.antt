@@ -1,3 +1,5 @@
+use mathlib.Core.Path.{ap, _∙_}
+use Rattle.probe_moves.specs.Moves.{movedAt}
 use Rattle.probe_moves.proofs.Moving.{place-room, moved-refused, moved-done, placed-length}
 use borrow.Author.Needs.{needs}
 use Rattle.probe_moves.proofs.place_store.Statement.{statement}
@@ -10,7 +12,7 @@ place-records-requires : tie.Need-place-records-requires
 place-records-requires c κs = place-room _ _ (c .before .before .before .placing-fault .ensures) (c .before .if1 .left)
 
 returns-2 : tie.Need-returns-2
-returns-2 c = let w = c .before .before .before in moved-done _ _ _ (w .before .before .before .before .placing-fault .ensures) _ (w .before .before .if1 .left) (c .done .ensures) (placed-length _) (w .place-records .ensures)
+returns-2 c = let w = c .before .before .before .before in moved-done _ _ _ (w .before .before .before .before .placing-fault .ensures) _ (w .before .before .if1 .left) (c .done .ensures ∙ ap (movedAt 0 0) (c .before .record-count .ensures)) (placed-length _) (w .place-records .ensures)
 
 pub place-store-spec : {M : Type 1} → statement M
 place-store-spec =
@@ -20,6 +22,7 @@ place-store-spec =
     (λ c κs. search needs)
     returns
     place-records-requires
+    (λ c κs. search needs)
     (λ c κs. search needs)
     (λ c. search needs)
     returns-2)

@@ -29,6 +29,7 @@ placing-fault-spec =
     returns
     (λ c κs. search needs)
     returns-2
+    (λ c κs. search needs)
     (λ c. search needs)
     (λ c κs. search needs)
     returns-3

@@ -4,16 +4,18 @@ ghost use mathlib.Core.Path.{_≡_};
 ghost use mathlib.Core.List.{_++_};
 ghost use Prim.Native.Nat.{_/_, _<_, _≤_};
 ghost use lib.ListN.{length, drop};
-ghost use Rattle.probe_places.specs.Places.{faceCount, placesIn, formatIn};
-ghost use Rattle.probe.specs.Probe.{edgeLimit, placeCount, questionRefusal, tripleAt, probeRefused};
+ghost use Rattle.probe_places.specs.Places.{faceCount};
+ghost use Rattle.probe.specs.Probe.{edgeLimit, placeCount};
 ghost use Rattle.probe_open.specs.Open.{Opened, holderRefusal, holderAt, TablePixel};
-use bc6h_spec::Picture;
 use bcn_spec::Answer;
 use probe::ProbePixel;
 use probe::check_places;
-use probe::show_block;
+use probe::number_at;
+use probe::question_refusal;
+use probe::triple_at;
 use probe_places::Fault;
 use probe_places::Place;
+use raw_bytes::u16_to_usize;
 
 fn copy_table(holders: &[u16], table: &mut [u16])
     requires { ⌜ (length (now holders) ≡ placeCount) × (placeCount ≤ length (now table)) ⌝ }
@@ -40,12 +42,6 @@ pub fn probe_open(store: &[u8], edge: usize, table: &mut [u16]) -> Fault
     Fault::none()
 }
 
-fn wide(value: u16) -> usize
-    ensures { λ r. ⌜ (r ≡ value) × (r < 65536) ⌝ }
-{
-    value as usize
-}
-
 // Why a holder of the table shows nothing: no record, a record past the store, a format that is none.
 fn holder_refusal(store: &[u8], holder: usize) -> u8
     ensures { λ r. ⌜ r ≡ holderRefusal (now (store .entry)) holder ⌝ }
@@ -62,51 +58,12 @@ fn holder_refusal(store: &[u8], holder: usize) -> u8
     Answer::DONE
 }
 
-fn refused(answer: u8) -> ProbePixel
-    ensures { λ r. ⌜ r ≡ probeRefused answer 0 ⌝ }
-{
-    ProbePixel {
-        answer,
-        faulty: 0,
-        r: 0,
-        g: 0,
-        b: 0,
-    }
-}
-
-// Why a question is refused, whatever the table and the store.
-fn question_refusal(edge: usize, face: usize, x: usize, y: usize) -> u8
-    ensures { λ r. ⌜ r ≡ questionRefusal edge face x y ⌝ }
-{
-    if face >= ProbePixel::FACES {
-        return Answer::NO_PIXEL;
-    }
-    if x / 4 >= edge {
-        return Answer::NO_PIXEL;
-    }
-    if y / 4 >= edge {
-        return Answer::NO_PIXEL;
-    }
-    Answer::DONE
-}
-
 // The holder of the place of a pixel.
 fn holder_at(table: &[u16], edge: usize, face: usize, x: usize, y: usize) -> usize
     requires { ⌜ (placeCount ≤ length (now table)) × (edge ≤ edgeLimit) × (face < faceCount) × (x / 4 < edge) × (y / 4 < edge) ⌝ }
     ensures { λ r. ⌜ r ≡ holderAt (now (table .entry)) face x y ⌝ }
 {
-    wide(table[face * 256 + y / 4 * 16 + x / 4])
-}
-
-// A pixel's three values, of the block of record n.
-fn triple_at(store: &[u8], n: usize, pixel: usize) -> [u16; 3]
-    requires { ⌜ (n < placesIn (now store)) × (formatIn (now store) n ≤ 1) × (pixel < 16) ⌝ }
-    ensures { λ r. ⌜ r ≡ tripleAt (now (store .entry)) n pixel ⌝ }
-{
-    let mut values = [0u16; Picture::VALUES];
-    show_block(store, n, &mut values);
-    let at = 3 * pixel;
-    [values[at], values[at + 1], values[at + 2]]
+    u16_to_usize(table[number_at(face, x / 4, y / 4)])
 }
 
 // The pixel of a probe by face, x and y, where `table` is what opening it left.
@@ -121,22 +78,22 @@ pub fn probe_pixel_in(
     ensures { λ r. ⌜ TablePixel (now (store .entry)) (now (table .entry)) edge face x y r ⌝ }
 {
     if edge == 0 {
-        return refused(Answer::BAD_EDGE);
+        return ProbePixel::refused(Answer::BAD_EDGE, 0);
     }
     if edge > ProbePixel::EDGE {
-        return refused(Answer::BAD_EDGE);
+        return ProbePixel::refused(Answer::BAD_EDGE, 0);
     }
     let question = question_refusal(edge, face, x, y);
     if question != Answer::DONE {
-        return refused(question);
+        return ProbePixel::refused(question, 0);
     }
     if table.len() < ProbePixel::PLACES {
-        return refused(Answer::SHORT_OUTPUT);
+        return ProbePixel::refused(Answer::SHORT_OUTPUT, 0);
     }
     let holder = holder_at(table, edge, face, x, y);
     let refusal = holder_refusal(store, holder);
     if refusal != Answer::DONE {
-        return refused(refusal);
+        return ProbePixel::refused(refusal, 0);
     }
     let triple = triple_at(store, holder - 1, 4 * (y % 4) + x % 4);
     ProbePixel {

@@ -2,7 +2,6 @@
 use borrow.Author.Needs.{needs}
 use mathlib.Core.Path.{ap, _∙_}
 use Prim.Native.Nat.{ℕ}
-use native.Mathlib.Omega.{arith}
 use lib.ListN.{getD}
 use Rattle.probe_open.proofs.holder_at.Statement.{statement}
 use Rattle.probe_open.proofs.holder_at.Tie as tie

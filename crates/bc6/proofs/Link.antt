@@ -39,7 +39,7 @@ use Rattle.bcn_data.proofs.Fixups.{fixup-range}
 use Rattle.bc6_runs.proofs.Partition.{partition-at}
 use Rattle.bc6_endpoints.specs.Ends.{wordOf}
 use Rattle.bc6_runs.specs.Ends.{placesOf}
-use Rattle.bc6_paint.specs.Values.{endIn, digit, shadeOf, valueOf, oneValue, twoValue, PaintedAs}
+use Rattle.bc6_paint.specs.Values.{endIn, packedAt, shadeOf, paintedValue, oneValue, twoValue, PaintedAs}
 use Rattle.bc6_paint.proofs.Points.{worked-out}
 use Rattle.bc6_paint.proofs.Link.{painted-as}
 use Rattle.bc6.specs.Shown.{partitionIn, Picked, OnePicked}
@@ -71,8 +71,8 @@ module _ (s : Bool) (f : Fields) (v : Valid f) where
 
   module _ (ends : ℕ → ℕ → ℕ) (indices : ℕ) where
     one-shown : twoRegions (f .mode) ≡ false → ((c e : ℕ) → c < 3 → e < 2 → ends e c ≡ word e c)
-        → ((k : ℕ) → k < 16 → digit 4 indices k ≡ indexOf f k) → (j : ℕ) → j < 48 → oneValue s ends indices j ≡ value s f j
-    unfolding valueOf value regionOf
+        → ((k : ℕ) → k < 16 → packedAt 4 indices k ≡ indexOf f k) → (j : ℕ) → j < 48 → oneValue s ends indices j ≡ value s f j
+    unfolding paintedValue value regionOf
     one-shown t et ei j h =
         let w : weights16 ≡ weights (f .mode) = rw t refl in
         let c = j % 3 in
@@ -82,9 +82,9 @@ module _ (s : Bool) (f : Fields) (v : Valid f) where
         ∙ ap (λ (r : ℕ). palette s f r c (indexOf f (j / 3))) (sym (rw t refl))
 
     two-shown : twoRegions (f .mode) ≡ true → ((c e : ℕ) → c < 3 → e < 4 → ends e c ≡ word e c)
-        → ((k : ℕ) → k < 16 → digit 3 indices k ≡ indexOf f k) → (map : ℕ) → map ≡ mapOf (f .partition) → (j : ℕ) → j < 48
+        → ((k : ℕ) → k < 16 → packedAt 3 indices k ≡ indexOf f k) → (map : ℕ) → map ≡ mapOf (f .partition) → (j : ℕ) → j < 48
         → twoValue s ends map indices j ≡ value s f j
-    unfolding valueOf value regionOf
+    unfolding paintedValue value regionOf
     two-shown t et ei map em j h =
         let w : weights8 ≡ weights (f .mode) = rw t refl in
         let c = j % 3 in
@@ -205,7 +205,7 @@ two-picked n q rest map x eq em er ex =
     record {
       regions = ap (λ (m : Subset2Map). m .«subset_indexes») told;
       index = λ k h.
-          ap (λ (y : Indexes). digit 3 (y .uncompressed) k) ex
+          ap (λ (y : Indexes). packedAt 3 (y .uncompressed) k) ex
           ∙ index-read 3 (lit≤ tt) (0 ∷ map .«fixup_index_2» ∷ []) (zero-le, (lit< tt, (fix .0, (omega (arith, fix .1), tt)))) rest k h
           ∙ ap (λ (y : ℕ). indexIn 3 (0 ∷ map .«fixup_index_2» ∷ []) y k) er
           ∙ ap (λ (m : Subset2Map). indexIn 3 (0 ∷ m .«fixup_index_2» ∷ []) (n / 2 ^ 82) k) told;
@@ -215,7 +215,7 @@ pub one-picked : (n rest : ℕ) (x : Indexes) → rest ≡ n / 2 ^ 65 → x ≡ 
 one-picked n rest x er ex =
     record {
       index = λ k h.
-          ap (λ (y : Indexes). digit 4 (y .uncompressed) k) ex
+          ap (λ (y : Indexes). packedAt 4 (y .uncompressed) k) ex
           ∙ index-read 4 (lit≤ tt) (0 ∷ []) (zero-le, (lit< tt, tt)) rest k h
           ∙ ap (λ (y : ℕ). indexIn 4 (0 ∷ []) y k) er;
     }

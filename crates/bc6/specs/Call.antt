@@ -5,7 +5,7 @@ use mathlib.Core.List.{List, [], _∷_, _++_}
 use Prim.Native.Nat.{ℕ, zero, suc}
 use lib.Dec.{eqb, ltb}
 use lib.ListN.{length, drop}
-use Rattle.laws.specs.Checks.{firstMet}
+use Rattle.laws.specs.Checks.{firstMet, ifDone}
 use Rattle.bcn_spec.specs.Answers.{done, badFormat, blockNot16, shortOutput}
 use Rattle.bcn_spec.specs.Bits.{blockSize}
 use Rattle.bc6h_spec.specs.Fields.{modeOf}
@@ -25,8 +25,7 @@ answerAt (suc n) block format = record { answer = suc n; mode = 0; infinite = 0 
 
 -- S-30: done writes exactly the first 48 values; a refusal writes nothing.
 abbrev pub valuesAt : ℕ → List ℕ → ℕ → List ℕ → List ℕ
-valuesAt zero block format out = pixelsOf (isSigned format) block ++ drop valueCount out
-valuesAt (suc n) block format out = out
+valuesAt number block format out = ifDone number (pixelsOf (isSigned format) block ++ drop valueCount out) out
 
 -- S-31: the statement of the call: its answer r, and the lent values `after`.
 pub record Painted (block : List ℕ) (format : ℕ) (out : List ℕ) (r : Pixels) (after : List ℕ) : Type 0 where

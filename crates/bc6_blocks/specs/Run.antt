@@ -5,7 +5,7 @@ use mathlib.Core.List.{List, [], _∷_, _++_}
 use Prim.Native.Nat.{ℕ, zero, suc, _*_, _/_, _%_}
 use lib.Dec.{eqb, ltb}
 use lib.ListN.{length, drop}
-use Rattle.laws.specs.Checks.{firstMet}
+use Rattle.laws.specs.Checks.{firstMet, ifDone}
 use Rattle.laws.specs.Made.{made, countOf, join}
 use Rattle.bcn_spec.specs.Answers.{done, badFormat, shortOutput, unevenBlocks}
 use Rattle.bcn_spec.specs.Bits.{blockSize, blocksIn, blockAt}
@@ -36,8 +36,7 @@ runAnswer (suc n) blocks format = record { answer = suc n; blocks = 0; infinite 
 
 -- S-30, S-32: a refusal writes nothing, not even the first block.
 abbrev pub runValues : ℕ → List ℕ → ℕ → List ℕ → List ℕ
-runValues zero blocks format out = runOf (isSigned format) blocks (blocksIn blocks) ++ drop (valueCount * blocksIn blocks) out
-runValues (suc n) blocks format out = out
+runValues number blocks format out = ifDone number (runOf (isSigned format) blocks (blocksIn blocks) ++ drop (valueCount * blocksIn blocks) out) out
 
 -- S-32: the statement of the call: its answer r, and the lent values `after`.
 pub record RunPainted (blocks : List ℕ) (format : ℕ) (out : List ℕ) (r : BlocksPixels) (after : List ℕ) : Type 0 where

@@ -18,7 +18,7 @@ use Rattle.bc6h_spec.proofs.Widths.{known, first-fits, other-fits}
 use Rattle.bc6h_spec.proofs.Shown.{endpoint-in}
 use Rattle.bc6_mode.specs.declared.ModeBits.{ModeBits}
 use Rattle.bc6_colour.specs.declared.Colour.{Colour}
-use Rattle.bc6_mode.specs.Modes.{bitsOf}
+use Rattle.bc6_mode.specs.Modes.{bitsFor}
 use Rattle.bc6_colour.specs.Colours.{endOf, OfBits}
 
 -- a number of at most 16 bits
@@ -30,9 +30,9 @@ wider false p z h r = let l : 2 ^ p ≤ 2 ^ 16 = pow-mono {j = 16} h in record {
 pub colour-is : {x y : Colour} → x .r ≡ y .r → x .g ≡ y .g → x .b ≡ y .b → x ≡ y
 colour-is r g b = λ i. record { r = r i; g = g i; b = b i }
 
-module _ (s : Bool) (f : Fields) (v : Valid f) (bits : ModeBits) (told : bits ≡ bitsOf (f .mode)) where
+module _ (s : Bool) (f : Fields) (v : Valid f) (bits : ModeBits) (told : bits ≡ bitsFor (f .mode)) where
   pub a0-is : bits .a0 ≡ precision (f .mode)
-  unfolding bitsOf
+  unfolding bitsFor
   a0-is = ap (λ (b : ModeBits). b .a0) told
 
   a0-some : 0 < bits .a0
@@ -81,7 +81,7 @@ module _ (s : Bool) (f : Fields) (v : Valid f) (bits : ModeBits) (told : bits �
 
     pub other-is : (first z : ℤ) → first ≡ endpoint s f 0 c → z ≡ otherEnd s (bits .transformed) (bits .a0) w first (getD (f .endpoints) j 0)
         → z ≡ endpoint s f e c
-    unfolding endpoint bitsOf
+    unfolding endpoint bitsFor
     other-is first z ef ez =
         let ne : e ≡ 0 → ⊥ = λ q. omega arith in
         ez ∙ (λ i. otherEnd s (told i .transformed) (told i .a0) (ew i) (ef i) (getD (f .endpoints) (ej i) 0)) ∙ rw (ne-eqb e 0 ne) refl

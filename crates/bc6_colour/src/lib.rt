@@ -13,7 +13,7 @@ ghost use Rattle.laws.specs.Ranges.{Below, Within, InBits};
 ghost use Rattle.bc6h_spec.specs.Fields.{Valid};
 ghost use Rattle.bc6h_spec.specs.Half.{transform, unquantizeU, unquantizeM, unquantized};
 ghost use Rattle.bc6h_spec.specs.Picture.{firstEnd, delta, otherEnd};
-ghost use Rattle.bc6_mode.specs.Modes.{bitsOf};
+ghost use Rattle.bc6_mode.specs.Modes.{bitsFor};
 ghost use Rattle.bc6_colour.specs.Colours.{endOf, unquantizedOf, OfBits};
 
 // The first endpoint `a` is added to the delta `d`, `bits` bits are kept, and in signed format the sign is extended again.
@@ -143,7 +143,7 @@ pub struct Colour {
 impl Colour {
     // The first endpoint of a block.
     pub fn first(f: Fields, bits: ModeBits, signed: bool) -> Self
-        requires { ⌜ Valid f × (bits ≡ bitsOf (f .mode)) ⌝ }
+        requires { ⌜ Valid f × (bits ≡ bitsFor (f .mode)) ⌝ }
         ensures { λ r. ⌜ r ≡ endOf signed f 0 ⌝ }
     {
         let ends = f.endpoints;
@@ -157,7 +157,7 @@ impl Colour {
 
     // Endpoint e of a block, where `self` is the first.
     pub fn other(self, f: Fields, e: usize, bits: ModeBits, signed: bool) -> Self
-        requires { ⌜ (Valid f × (bits ≡ bitsOf (f .mode))) × ((self ≡ endOf signed f 0) × (1 ≤ e) × (e < 4)) ⌝ }
+        requires { ⌜ (Valid f × (bits ≡ bitsFor (f .mode))) × ((self ≡ endOf signed f 0) × (1 ≤ e) × (e < 4)) ⌝ }
         ensures { λ r. ⌜ r ≡ endOf signed f e ⌝ }
     {
         let ends = f.endpoints;

@@ -17,7 +17,7 @@ use Rattle.laws.proofs.Below.{below-four}
 use Rattle.bc6h_spec.specs.Half.{signExtend, transform, unquantized, unquantizeU}
 use Rattle.bc6h_spec.specs.Picture.{delta}
 use Rattle.bc6h_spec.proofs.Ranges.{delta-within, transformed-in}
-use Rattle.bc6_endpoints.specs.Ends.{wholeOf, movedOf, endOf, endFrom, endAt, storedIn, Apart, Channel, ChannelEnds, Whole, WholeEnds}
+use Rattle.bc6_endpoints.specs.Ends.{wholeOf, movedOf, endOf, endFrom, endAt, storedIn, Apart, Channel, ChannelEnds, StoredWhole, WholeEnds}
 use Rattle.bc6_endpoints.proofs.Adding.{moved-is, unmoved, from-zero}
 
 -- ---- numbers of a few bits
@@ -136,7 +136,7 @@ module _ {p w : ℕ} {n : List ℤ} (k : Channel p w n) where
 
 -- ---- a channel that is stored whole
 
-module _ {p : ℕ} {n : List ℤ} (k : Whole p n) where
+module _ {p : ℕ} {n : List ℤ} (k : StoredWhole p n) where
   each : (e : ℕ) → e < 4 → Below (2 ^ p) (endAt n e)
   each = below-four (λ e. Below (2 ^ p) (endAt n e)) (k .first) (k .second) (k .third) (k .fourth)
 

@@ -64,7 +64,7 @@ pub record ChannelEnds (signed : Bool) (p w : ℕ) (n r : List ℤ) : Type 0 whe
   pub each : (e : ℕ) → e < 4 → endAt r e ≡ endFrom signed p w (storedIn n) e
 
 -- S-17, S-19, S-20: all of p bits, stored whole
-pub record Whole (p : ℕ) (n : List ℤ) : Type 0 where
+pub record StoredWhole (p : ℕ) (n : List ℤ) : Type 0 where
   pub narrow : Narrow p p
   pub first : Below (2 ^ p) (endAt n 0)
   pub second : Below (2 ^ p) (endAt n 1)

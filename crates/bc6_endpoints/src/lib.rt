@@ -10,7 +10,7 @@ ghost use mathlib.Core.Path.{_≡_};
 ghost use mathlib.Core.Bool.{true, false};
 ghost use Prim.Native.Nat.{_^_};
 ghost use Rattle.laws.specs.Ranges.{Below};
-ghost use Rattle.bc6_endpoints.specs.Ends.{endAt, endOf, Apart, Channel, ChannelEnds, Whole, WholeEnds, Sixteen};
+ghost use Rattle.bc6_endpoints.specs.Ends.{endAt, endOf, Apart, Channel, ChannelEnds, StoredWhole, WholeEnds, Sixteen};
 
 // The end, in unsigned format, that is stored as a difference of `width` bits from `base`, which has p bits.
 fn end_unsigned(base: i32, x: i32, width: u8, p: u8) -> i32
@@ -56,7 +56,7 @@ pub fn moved_signed(n: [i32; 4], width: u8, p: u8) -> [i32; 4]
 
 // A channel whose ends are all stored whole, which is a difference from 0, in unsigned format.
 pub fn whole_unsigned(n: [i32; 4], p: u8) -> [i32; 4]
-    requires { ⌜ Whole p n ⌝ }
+    requires { ⌜ StoredWhole p n ⌝ }
     ensures { λ r. ⌜ WholeEnds false p n r ⌝ }
 {
     [
@@ -69,7 +69,7 @@ pub fn whole_unsigned(n: [i32; 4], p: u8) -> [i32; 4]
 
 // The same in signed format.
 pub fn whole_signed(n: [i32; 4], p: u8) -> [i32; 4]
-    requires { ⌜ Whole p n ⌝ }
+    requires { ⌜ StoredWhole p n ⌝ }
     ensures { λ r. ⌜ WholeEnds true p n r ⌝ }
 {
     [

@@ -16,19 +16,19 @@ use Rattle.laws.proofs.Num.{minus, read, abs-below}
 use Rattle.bc6h_spec.specs.Half.{signExtend, keep, isLowest}
 use Rattle.bc6h_spec.specs.Picture.{firstEnd}
 use Rattle.bc6h_spec.proofs.Ranges.{first-in}
-use Rattle.bc6_half.specs.Halves.{numberAt}
+use Rattle.bc6_half.specs.Halves.{signedNumber}
 
 -- the number of a word
-pub number-in : (s : Bool) (u : ℕ) → u < 65536 → InBits s 16 (numberAt s u)
-unfolding numberAt firstEnd
+pub number-in : (s : Bool) (u : ℕ) → u < 65536 → InBits s 16 (signedNumber s u)
+unfolding signedNumber firstEnd
 number-in s u h = first-in s 16 u (lit< tt) h
 
 below : (n : ℕ) → n < 65536 → n % 65536 ≡ n
 below n h = mod-eq-of-lt h
 
 -- the number of its own word
-pub number-kept : (s : Bool) (z : ℤ) → InBits s 16 z → numberAt s (keep 16 z) ≡ z
-unfolding numberAt keep signExtend
+pub number-kept : (s : Bool) (z : ℤ) → InBits s 16 z → signedNumber s (keep 16 z) ≡ z
+unfolding signedNumber keep signExtend
 number-kept true (pos n) r = let l : n < 32768 = r .inside in rw (below n (omega arith), lt-ltb n 32768 l) refl
 number-kept true (negsuc n) r =
     let l : n < 32768 = r .inside in

@@ -10,8 +10,8 @@ use Rattle.bc6h_spec.specs.Half.{signExtend, minusInfinity, finished, isLowest}
 use Rattle.bc6_half.specs.declared.Half.{Half}
 
 -- S-17: the number that 16 bits stand for: in signed format in two's complement
-unfoldable pub numberAt : Bool → ℕ → ℤ
-numberAt signed u = pick signed (signExtend 16 u) (pos u)
+unfoldable pub signedNumber : Bool → ℕ → ℤ
+signedNumber signed u = pick signed (signExtend 16 u) (pos u)
 
 -- S-26: the pattern of a number, and whether the number was −32768.
 unfoldable pub halfOf : Bool → ℤ → Half

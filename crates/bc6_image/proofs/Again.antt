@@ -17,7 +17,7 @@ use Rattle.bc6_blocks.specs.Run.{shownAt, runOf, runRefusal, RunPainted}
 use Rattle.bc6_blocks.proofs.Runs.{length-run, run-at}
 use Rattle.bc6_blocks.proofs.Calls.{done-when}
 use Rattle.bc6_image.specs.declared.FacePixels.{FacePixels}
-use Rattle.bc6_image.specs.Face.{laneOf, laneAt, FaceShown, faceRefusal, ImagePainted}
+use Rattle.bc6_image.specs.Face.{laneOf, laneAt, FaceShown, imageRefusal, ImagePainted}
 use Rattle.bc6_image.specs.Stores.{Fitting}
 use Rattle.bc6_image.proofs.Places.{shown-is}
 use Rattle.bc6_image.proofs.Calls.{known}
@@ -58,7 +58,7 @@ module _ (signed : Bool) (blocks : List ℕ) (n : ℕ) (out : List ℕ) (room : 
 
 module _ {blocks : List ℕ} {n format : ℕ} {out : List ℕ} {r : FacePixels} {s : BlocksPixels} {after run : List ℕ}
     (p : ImagePainted false blocks 1 n format out 12 r after) (q : RunPainted blocks format out s run)
-    (z : faceRefusal false (length blocks) format 1 n 12 (length out) ≡ done) where
+    (z : imageRefusal false (length blocks) format 1 n 12 (length out) ≡ done) where
   fits : Fitting false 1 n 12 (length blocks) (length out)
   fits = known false (length blocks) format 1 n 12 (length out) z .fits
 

@@ -24,7 +24,7 @@ use Rattle.bc6_blocks.specs.declared.BlocksPixels.{BlocksPixels}
 use Rattle.bc6_blocks.specs.Run.{runRefusal, runAnswer, RunPainted}
 use Rattle.bc6_blocks.proofs.Calls.{block-by-block}
 use Rattle.bc6_image.specs.declared.FacePixels.{FacePixels}
-use Rattle.bc6_image.specs.Face.{lanes, opaque, laneOf, laneAt, rowSize, FaceShown, faceIn, roomy, faceRefusal, faceAnswer, ImagePainted}
+use Rattle.bc6_image.specs.Face.{lanes, opaque, laneOf, laneAt, rowSize, FaceShown, imageIn, roomy, imageRefusal, imageAnswer, ImagePainted}
 use Rattle.bc6_image.specs.Stores.{FaceWritten, Fitting}
 use Rattle.bc6_image.proofs.Places.{lanes-low, put-shown, shown-is, is-shown}
 
@@ -79,13 +79,13 @@ sides size (suc w) (suc h) e n =
     record { wide = omega arith; high = omega arith; some-width = omega arith; some-height = omega arith }
 
 module _ (alpha : Bool) (size format width height pitch room : ℕ) where
-  pub refused-format : 1 < format → badFormat ≡ faceRefusal alpha size format width height pitch room
-  unfolding faceRefusal
+  pub refused-format : 1 < format → badFormat ≡ imageRefusal alpha size format width height pitch room
+  unfolding imageRefusal
   refused-format f = rw (lt-ltb _ _ f)
 
   module _ (f : format ≤ 1) where
-    pub refused-blocks : eqb size (blockSize * (width * height)) ≡ false → blocksMisfit ≡ faceRefusal alpha size format width height pitch room
-    unfolding faceRefusal
+    pub refused-blocks : eqb size (blockSize * (width * height)) ≡ false → blocksMisfit ≡ imageRefusal alpha size format width height pitch room
+    unfolding imageRefusal
     refused-blocks b = rw (le-ltb _ _ f, b)
 
     module _ (b : eqb size (blockSize * (width * height)) ≡ true) where
@@ -93,11 +93,11 @@ module _ (alpha : Bool) (size format width height pitch room : ℕ) where
       bytes = eqb-true size (16 * (width * height)) b
 
       by-room : {number : ℕ} (t : Bool) → roomy alpha width height pitch room ≡ t → number ≡ firstMet ((not t, shortOutput) ∷ [])
-          → number ≡ faceRefusal alpha size format width height pitch room
-      unfolding faceRefusal
+          → number ≡ imageRefusal alpha size format width height pitch room
+      unfolding imageRefusal
       by-room t r e = rw (le-ltb _ _ f, b, r) e
 
-      pub done-empty : size ≡ 0 → done ≡ faceRefusal alpha size format width height pitch room
+      pub done-empty : size ≡ 0 → done ≡ imageRefusal alpha size format width height pitch room
       unfolding roomy
       done-empty z = by-room true (let s = bytes in let n : width * height ≡ 0 = omega arith in rw (eq-eqb _ _ n)) refl
 
@@ -105,16 +105,16 @@ module _ (alpha : Bool) (size format width height pitch room : ℕ) where
         some : eqb (width * height) 0 ≡ false
         some = ne-eqb (width * height) 0 (λ e. n (let s = bytes in omega arith))
 
-        pub refused-pitch : pitch < rowSize alpha width → shortOutput ≡ faceRefusal alpha size format width height pitch room
+        pub refused-pitch : pitch < rowSize alpha width → shortOutput ≡ imageRefusal alpha size format width height pitch room
         unfolding roomy
         refused-pitch p = by-room false (rw (some, lt-leb (rowSize alpha width) pitch p)) refl
 
         module _ (p : rowSize alpha width ≤ pitch) where
-          refused-room : room < pitch * (4 * height - 1) + rowSize alpha width → shortOutput ≡ faceRefusal alpha size format width height pitch room
+          refused-room : room < pitch * (4 * height - 1) + rowSize alpha width → shortOutput ≡ imageRefusal alpha size format width height pitch room
           unfolding roomy
           refused-room r = by-room false (rw (some, le-leb (rowSize alpha width) pitch p, lt-leb (pitch * (4 * height - 1) + rowSize alpha width) room r)) refl
 
-          pub refused-row : room < rowSize alpha width → shortOutput ≡ faceRefusal alpha size format width height pitch room
+          pub refused-row : room < rowSize alpha width → shortOutput ≡ imageRefusal alpha size format width height pitch room
           refused-row r = refused-room (omega arith)
 
           pub positive : 0 < pitch
@@ -125,7 +125,7 @@ module _ (alpha : Bool) (size format width height pitch room : ℕ) where
               omega arith
 
           module _ (r : rowSize alpha width ≤ room) where
-            pub refused-last : (room - rowSize alpha width) / pitch < 4 * height - 1 → shortOutput ≡ faceRefusal alpha size format width height pitch room
+            pub refused-last : (room - rowSize alpha width) / pitch < 4 * height - 1 → shortOutput ≡ imageRefusal alpha size format width height pitch room
             refused-last l =
                 refused-room
                 (cases (ltb room (pitch * (4 * height - 1) + rowSize alpha width))
@@ -136,7 +136,7 @@ module _ (alpha : Bool) (size format width height pitch room : ℕ) where
                 let k : 4 * height - 1 ≤ (room - rowSize alpha width) / pitch = le-div-iff-mul-le {k = pitch} positive .1 (omega arith) in
                 absurd (omega arith)))
 
-            pub done-room : 4 * height - 1 ≤ (room - rowSize alpha width) / pitch → done ≡ faceRefusal alpha size format width height pitch room
+            pub done-room : 4 * height - 1 ≤ (room - rowSize alpha width) / pitch → done ≡ imageRefusal alpha size format width height pitch room
             unfolding roomy
             done-room l =
                 let k : (4 * height - 1) * pitch ≤ room - rowSize alpha width = le-div-iff-mul-le {k = pitch} positive .0 l in
@@ -149,8 +149,8 @@ module _ (alpha : Bool) (size format width height pitch room : ℕ) where
     pub format-known : format ≤ 1
     pub fits : Fitting alpha width height pitch size room
 
-  pub known : faceRefusal alpha size format width height pitch room ≡ done → Known
-  unfolding faceRefusal roomy
+  pub known : imageRefusal alpha size format width height pitch room ≡ done → Known
+  unfolding imageRefusal roomy
   known z =
       let none = none-met ((ltb 1 format, badFormat) ∷ (not (eqb size (blockSize * (width * height))), blocksMisfit) ∷ (not (roomy alpha width height pitch room), shortOutput) ∷ []) tt z in
       let parts = parted (not-false (roomy alpha width height pitch room) (none .1 .1 .0)) in
@@ -177,10 +177,10 @@ module _ {alpha : Bool} {blocks : List ℕ} {width height format : ℕ} {out : L
   one-outcome q = (p .answers ∙ sym (q .answers), p .holds ∙ sym (q .holds))
 
   -- a refusal leaves every lent value as it was, and counts none
-  pub silent : {n : ℕ} → faceRefusal alpha (length blocks) format width height pitch (length out) ≡ suc n → (after ≡ out) × (r .infinite ≡ 0)
+  pub silent : {n : ℕ} → imageRefusal alpha (length blocks) format width height pitch (length out) ≡ suc n → (after ≡ out) × (r .infinite ≡ 0)
   silent z = (p .holds ∙ rw z, ap (λ (x : FacePixels). x .infinite) (p .answers) ∙ rw z)
 
-  module _ (z : faceRefusal alpha (length blocks) format width height pitch (length out) ≡ done) where
+  module _ (z : imageRefusal alpha (length blocks) format width height pitch (length out) ≡ done) where
     fits : Fitting alpha width height pitch (length blocks) (length out)
     fits = known alpha (length blocks) format width height pitch (length out) z .fits
 
@@ -230,7 +230,7 @@ module _ {alpha : Bool} {blocks : List ℕ} {width height format : ℕ} {out : L
     pub counted-as-run : {lent : List ℕ} {s : BlocksPixels} {run : List ℕ} → RunPainted blocks format lent s run → runRefusal format (length blocks) (length lent) ≡ done
         → r .infinite ≡ s .infinite
     counted-as-run {s = s} q d =
-        let face : r ≡ faceAnswer done blocks format = rw z at (p .answers) in
+        let face : r ≡ imageAnswer done blocks format = rw z at (p .answers) in
         let run : s ≡ runAnswer done blocks format = rw d at (q .answers) in
         ap (λ (x : FacePixels). x .infinite) face ∙ sym (ap (λ (x : BlocksPixels). x .infinite) run)
 
@@ -238,12 +238,12 @@ module _ {alpha : Bool} {blocks : List ℕ} {width height format : ℕ} {out : L
 
 module _ {blocks : List ℕ} {width height format : ℕ} {out lent : List ℕ} {pitch step : ℕ} {r s : FacePixels} {after left : List ℕ}
     (p : ImagePainted false blocks width height format out pitch r after) (q : ImagePainted true blocks width height format lent step s left)
-    (z : faceRefusal false (length blocks) format width height pitch (length out) ≡ done)
-    (d : faceRefusal true (length blocks) format width height step (length lent) ≡ done) where
+    (z : imageRefusal false (length blocks) format width height pitch (length out) ≡ done)
+    (d : imageRefusal true (length blocks) format width height step (length lent) ≡ done) where
   pub same-answer : r ≡ s
   same-answer =
-      let face : r ≡ faceAnswer done blocks format = rw z at (p .answers) in
-      let other : s ≡ faceAnswer done blocks format = rw d at (q .answers) in
+      let face : r ≡ imageAnswer done blocks format = rw z at (p .answers) in
+      let other : s ≡ imageAnswer done blocks format = rw d at (q .answers) in
       face ∙ sym other
 
   pub same-colours : (x y c : ℕ) → x < 4 * width → y < 4 * height → c < 3 → getD left (step * y + (4 * x + c)) 0 ≡ getD after (pitch * y + (3 * x + c)) 0
@@ -256,11 +256,11 @@ module _ {blocks : List ℕ} {width height format : ℕ} {out lent : List ℕ} {
 -- ---- what each return shows
 
 module _ (alpha : Bool) (blocks : List ℕ) (width height format : ℕ) (out : List ℕ) (pitch : ℕ) {number : ℕ}
-    (e : number ≡ faceRefusal alpha (length blocks) format width height pitch (length out)) where
+    (e : number ≡ imageRefusal alpha (length blocks) format width height pitch (length out)) where
   pub painted-refused : {r : FacePixels} → (number ≡ done → ⊥) → r ≡ record { answer = number; infinite = 0 } → ImagePainted alpha blocks width height format out pitch r out
-  painted-refused {r} n a = go (faceRefusal alpha (length blocks) format width height pitch (length out)) refl
+  painted-refused {r} n a = go (imageRefusal alpha (length blocks) format width height pitch (length out)) refl
     where
-      go : (k : ℕ) → faceRefusal alpha (length blocks) format width height pitch (length out) ≡ k → ImagePainted alpha blocks width height format out pitch r out
+      go : (k : ℕ) → imageRefusal alpha (length blocks) format width height pitch (length out) ≡ k → ImagePainted alpha blocks width height format out pitch r out
       go zero z = absurd (n (e ∙ z))
       go (suc k) z = record { answers = a ∙ ap (λ (m : ℕ). record { answer = m; infinite = 0 }) (e ∙ z) ∙ rw z refl; holds = rw z refl }
 
@@ -271,10 +271,10 @@ module _ (alpha : Bool) (blocks : List ℕ) (width height format : ℕ) (out : L
     pub painted-done : {infinite : ℕ} {after : List ℕ} → FaceWritten (isSigned format) alpha blocks width pitch (blocksIn blocks) out infinite after
         → ImagePainted alpha blocks width height format out pitch (record { answer = number; infinite = infinite }) after
     painted-done {infinite} {after} w =
-        let z : faceRefusal alpha (length blocks) format width height pitch (length out) ≡ done = sym e ∙ n in
+        let z : imageRefusal alpha (length blocks) format width height pitch (length out) ≡ done = sym e ∙ n in
         let fits = known-done .fits in
         let count : blocksIn blocks ≡ width * height = (let b : length blocks ≡ 16 * (width * height) = fits .bytes in omega arith) in
-        let here : after ≡ faceIn (isSigned format) alpha blocks width height pitch out =
+        let here : after ≡ imageIn (isSigned format) alpha blocks width height pitch out =
         (rw count at (w .holds)) ∙ shown-is (isSigned format) alpha blocks width height pitch out fits (put-shown (isSigned format) alpha blocks width height pitch out fits) in
         record {
           answers = rw z (rw n (ap (λ (k : ℕ). record { answer = done; infinite = k }) (w .counts)));

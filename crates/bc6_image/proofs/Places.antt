@@ -16,8 +16,8 @@ use Rattle.laws.proofs.Joined.{run-length, run-value}
 use Rattle.laws.specs.Made.{made, countOf, join}
 use Rattle.bc6h_spec.specs.Half.{minusInfinity}
 use Rattle.bc6_blocks.specs.Run.{shownAt, runOf}
-use Rattle.bc6_image.specs.Face.{lanes, opaque, laneOf, laneAt, rowSize, FaceShown, inFace, valueAt, faceIn}
-use Rattle.bc6_image.specs.Stores.{scattered, pixelOf, pixelIn, rowOf, plainValue, pixelPlace, blockPut, corner, placeAt, cellAt, facePut, FaceWritten, Fitting}
+use Rattle.bc6_image.specs.Face.{lanes, opaque, laneOf, laneAt, rowSize, FaceShown, inFace, imageValue, imageIn}
+use Rattle.bc6_image.specs.Stores.{storedCells, pixelOf, pixelIn, blockRow, plainValue, pixelPlace, blockPut, corner, placeAt, cellAt, facePut, FaceWritten, Fitting}
 use Rattle.bc6_image.proofs.Scatter.{sets-made, sets-run, scattered-length, scattered-on, scattered-run, scattered-miss, scattered-hit}
 
 -- ---- rows of one length: which row, and where in it
@@ -76,17 +76,17 @@ unfolding pixelIn
 length-in alpha values row j = length-pixel alpha values (4 * row + j)
 
 -- without alpha they stand one behind the other in the block
-pub plain-row : (values : List ℕ) (row : ℕ) → made (plainValue values row) 12 ≡ rowOf false values row
+pub plain-row : (values : List ℕ) (row : ℕ) → made (plainValue values row) 12 ≡ blockRow false values row
 unfolding plainValue pixelIn laneOf
-plain-row values row = sym (made-each (plainValue values row) (rowOf false values row) 12 (run-length (pixelIn false values row) 3 (length-in false values row) 4) value)
+plain-row values row = sym (made-each (plainValue values row) (blockRow false values row) 12 (run-length (pixelIn false values row) 3 (length-in false values row) 4) value)
   where
-    value : (x : ℕ) → x < 12 → getD (rowOf false values row) x 0 ≡ plainValue values row x
+    value : (x : ℕ) → x < 12 → getD (blockRow false values row) x 0 ≡ plainValue values row x
     value x h =
         let here : 3 * (x / 3) + x % 3 ≡ x = omega arith in
         let there : 3 * (4 * row + x / 3) + x % 3 ≡ 12 * row + x = omega arith in
         let low : x % 3 < 3 = omega arith in
-        ap (λ (l : List ℕ). getD l x 0) (sym (append-nil (rowOf false values row)))
-        ∙ ap (λ (k : ℕ). getD (rowOf false values row ++ []) k 0) (sym here)
+        ap (λ (l : List ℕ). getD l x 0) (sym (append-nil (blockRow false values row)))
+        ∙ ap (λ (k : ℕ). getD (blockRow false values row ++ []) k 0) (sym here)
         ∙ run-value (pixelIn false values row) 3 (length-in false values row) 4 (x / 3) (x % 3) [] (omega arith) low
         ∙ pixel-lane false values (4 * row + x / 3) (x % 3) low
         ∙ rw (lt-ltb (x % 3) 3 low, there)
@@ -103,7 +103,7 @@ module _ (values : List ℕ) (row : ℕ) (out : List ℕ) (at : ℕ) where
   unfolding plainValue
   plain-step x e = ap (λ (l : List ℕ). set l (at + x) (plainValue values row x)) e ∙ sets-made (plainValue values row) out at x
 
-  pub plain-end : {after : List ℕ} (x : ℕ) → after ≡ sets out at (made (plainValue values row) x) → x ≤ 12 → 12 ≤ x → after ≡ sets out at (rowOf false values row)
+  pub plain-end : {after : List ℕ} (x : ℕ) → after ≡ sets out at (made (plainValue values row) x) → x ≤ 12 → 12 ≤ x → after ≡ sets out at (blockRow false values row)
   plain-end x e h l = let same : x ≡ 12 = omega arith in rw same at e ∙ ap (sets out at) (plain-row values row)
 
   pub opaque-start : out ≡ sets out at (join (made (pixelIn true values row) 0))
@@ -115,7 +115,7 @@ module _ (values : List ℕ) (row : ℕ) (out : List ℕ) (at : ℕ) where
   unfolding pixelIn
   opaque-step x e s = s ∙ ap (λ (l : List ℕ). sets l (at + 4 * x) (pixelIn true values row x)) e ∙ sets-run (pixelIn true values row) 4 (length-in true values row) out at x
 
-  pub opaque-end : {after : List ℕ} (x : ℕ) → after ≡ sets out at (join (made (pixelIn true values row) x)) → x ≤ 4 → 4 ≤ x → after ≡ sets out at (rowOf true values row)
+  pub opaque-end : {after : List ℕ} (x : ℕ) → after ≡ sets out at (join (made (pixelIn true values row) x)) → x ≤ 4 → 4 ≤ x → after ≡ sets out at (blockRow true values row)
   opaque-end x e h l = let same : x ≡ 4 = omega arith in rw same at e
 
 length-cell : (signed alpha : Bool) (blocks : List ℕ) (q : ℕ) → length (cellAt signed alpha blocks q) ≡ lanes alpha
@@ -300,34 +300,34 @@ module _ (signed alpha : Bool) (blocks : List ℕ) (width height pitch : ℕ) (o
   }
 
   -- the face in words, and nothing else, is the face as it is computed
-  pub shown-is : {after : List ℕ} → FaceShown signed alpha blocks width height pitch out after → after ≡ faceIn signed alpha blocks width height pitch out
-  unfolding faceIn valueAt
-  shown-is {after} s = made-each (valueAt signed alpha blocks width height pitch out) after (length out) (s .long) (λ i h. cases (inFace alpha width height pitch i) (inside i h) (outside i h))
+  pub shown-is : {after : List ℕ} → FaceShown signed alpha blocks width height pitch out after → after ≡ imageIn signed alpha blocks width height pitch out
+  unfolding imageIn imageValue
+  shown-is {after} s = made-each (imageValue signed alpha blocks width height pitch out) after (length out) (s .long) (λ i h. cases (inFace alpha width height pitch i) (inside i h) (outside i h))
     where
-      inside : (i : ℕ) → i < length out → inFace alpha width height pitch i ≡ true → getD after i 0 ≡ valueAt signed alpha blocks width height pitch out i
+      inside : (i : ℕ) → i < length out → inFace alpha width height pitch i ≡ true → getD after i 0 ≡ imageValue signed alpha blocks width height pitch out i
       inside i h t =
           let p = face-told alpha width height pitch i t in
           ap (λ (k : ℕ). getD after k 0) (p .whole) ∙ s .pixel (i % pitch / lanes alpha) (i / pitch) (i % pitch % lanes alpha) (p .across) (p .down) (p .lane) ∙ rw t
 
-      outside : (i : ℕ) → i < length out → inFace alpha width height pitch i ≡ false → getD after i 0 ≡ valueAt signed alpha blocks width height pitch out i
+      outside : (i : ℕ) → i < length out → inFace alpha width height pitch i ≡ false → getD after i 0 ≡ imageValue signed alpha blocks width height pitch out i
       outside i h f =
           s .rest i h (λ x y c hx hy hc e.
           true-false (sym (in-face alpha width height pitch (fits .pitched (some-block alpha width height pitch x y hx hy)) x y c hx hy hc) ∙ ap (inFace alpha width height pitch) (sym e) ∙ f))
           ∙ rw f
 
   -- and the other way round
-  pub is-shown : FaceShown signed alpha blocks width height pitch out (faceIn signed alpha blocks width height pitch out)
-  unfolding faceIn valueAt
+  pub is-shown : FaceShown signed alpha blocks width height pitch out (imageIn signed alpha blocks width height pitch out)
+  unfolding imageIn imageValue
   is-shown = record {
-    long = length-made (valueAt signed alpha blocks width height pitch out) (length out);
+    long = length-made (imageValue signed alpha blocks width height pitch out) (length out);
     pixel = λ x y c hx hy hc.
         let some = some-block alpha width height pitch x y hx hy in
         let wide = fits .pitched some in
-        getD-made (valueAt signed alpha blocks width height pitch out) (length out) (pitch * y + (lanes alpha * x + c)) 0
+        getD-made (imageValue signed alpha blocks width height pitch out) (length out) (pitch * y + (lanes alpha * x + c)) 0
         (in-room alpha width height pitch (length out) (fits .enough some) x y c hx hy hc)
         ∙ rw (in-face alpha width height pitch wide x y c hx hy hc, x-told alpha width pitch wide x y c hx hc, y-told alpha width pitch wide x y c hx hc, c-told alpha width pitch wide x y c hx hc);
     rest = λ i h off.
-        getD-made (valueAt signed alpha blocks width height pitch out) (length out) i 0 h
+        getD-made (imageValue signed alpha blocks width height pitch out) (length out) i 0 h
         ∙ rw (not-so (inFace alpha width height pitch i) (λ t.
         let p = face-told alpha width height pitch i t in
         off (i % pitch / lanes alpha) (i / pitch) (i % pitch % lanes alpha) (p .across) (p .down) (p .lane) (p .whole)));
@@ -339,25 +339,25 @@ pub row-room : (pitch row : ℕ) → row < 4 → pitch * row ≤ pitch * 3
 row-room pitch row h = mul-le-mul-left pitch (omega arith)
 
 module _ (alpha : Bool) (pitch : ℕ) (values : List ℕ) (at : ℕ) (out : List ℕ) where
-  pub block-start : out ≡ scattered (pixelPlace alpha pitch at) (pixelOf alpha values) (4 * 0) out
-  unfolding scattered
+  pub block-start : out ≡ storedCells (pixelPlace alpha pitch at) (pixelOf alpha values) (4 * 0) out
+  unfolding storedCells
   block-start = refl
 
-  pub block-step : {lent after : List ℕ} (row : ℕ) → lent ≡ scattered (pixelPlace alpha pitch at) (pixelOf alpha values) (4 * row) out
-      → after ≡ sets lent (at + pitch * row) (rowOf alpha values row)
-      → after ≡ scattered (pixelPlace alpha pitch at) (pixelOf alpha values) (4 * (row + 1)) out
+  pub block-step : {lent after : List ℕ} (row : ℕ) → lent ≡ storedCells (pixelPlace alpha pitch at) (pixelOf alpha values) (4 * row) out
+      → after ≡ sets lent (at + pitch * row) (blockRow alpha values row)
+      → after ≡ storedCells (pixelPlace alpha pitch at) (pixelOf alpha values) (4 * (row + 1)) out
   unfolding pixelPlace pixelIn
   block-step row e s =
       let more : 4 * row + 4 ≡ 4 * (row + 1) = omega arith in
-      s ∙ ap (λ (l : List ℕ). sets l (at + pitch * row) (rowOf alpha values row)) e
+      s ∙ ap (λ (l : List ℕ). sets l (at + pitch * row) (blockRow alpha values row)) e
       ∙ scattered-run (pixelPlace alpha pitch at) (pixelOf alpha values) (pixelIn alpha values row) (lanes alpha) (at + pitch * row) (4 * row) (length-in alpha values row) out 4
       place-in (λ j h. refl)
-      ∙ ap (λ (k : ℕ). scattered (pixelPlace alpha pitch at) (pixelOf alpha values) k out) more
+      ∙ ap (λ (k : ℕ). storedCells (pixelPlace alpha pitch at) (pixelOf alpha values) k out) more
     where
       place-in : (j : ℕ) → j < 4 → at + pitch * row + lanes alpha * j ≡ pixelPlace alpha pitch at (4 * row + j)
       place-in j h = rw (row-div 4 row j h, row-mod 4 row j h) (omega arith)
 
-  pub block-end : {after : List ℕ} (row : ℕ) → after ≡ scattered (pixelPlace alpha pitch at) (pixelOf alpha values) (4 * row) out → row ≤ 4 → 4 ≤ row
+  pub block-end : {after : List ℕ} (row : ℕ) → after ≡ storedCells (pixelPlace alpha pitch at) (pixelOf alpha values) (4 * row) out → row ≤ 4 → 4 ≤ row
       → after ≡ blockPut alpha pitch values at out
   block-end row e h l = let same : row ≡ 4 = omega arith in rw same at e
 
@@ -365,7 +365,7 @@ module _ (alpha : Bool) (pitch : ℕ) (values : List ℕ) (at : ℕ) (out : List
 
 module _ (signed alpha : Bool) (blocks : List ℕ) (width pitch : ℕ) (out : List ℕ) where
   pub put-start : out ≡ facePut signed alpha blocks width pitch 0 out
-  unfolding scattered
+  unfolding storedCells
   put-start = refl
 
   pub put-step : (n : ℕ) {lent values after : List ℕ} {step : ℕ} → lent ≡ facePut signed alpha blocks width pitch n out → values ≡ shownAt signed blocks n → step ≡ lanes alpha
@@ -377,7 +377,7 @@ module _ (signed alpha : Bool) (blocks : List ℕ) (width pitch : ℕ) (out : Li
       ∙ ap₂ (λ (l v : List ℕ). blockPut alpha pitch v (corner alpha width pitch n) l) e v
       ∙ scattered-on (placeAt alpha width pitch) (pixelPlace alpha pitch (corner alpha width pitch n)) (cellAt signed alpha blocks) (pixelOf alpha (shownAt signed blocks n)) (16 * n) out 16
       (λ j h. place-in j h) (λ j h. cell-in j h)
-      ∙ ap (λ (k : ℕ). scattered (placeAt alpha width pitch) (cellAt signed alpha blocks) k out) more
+      ∙ ap (λ (k : ℕ). storedCells (placeAt alpha width pitch) (cellAt signed alpha blocks) k out) more
     where
       place-in : (j : ℕ) → j < 16 → pixelPlace alpha pitch (corner alpha width pitch n) j ≡ placeAt alpha width pitch (16 * n + j)
       place-in j h = rw (row-div 16 n j h, row-mod 16 n j h)

@@ -6,7 +6,7 @@ use Prim.Native.Nat.{ℕ, zero, suc, _+_, _-_, _*_, _/_, _%_, _<_}
 use lib.Dec.{eqb, leb, ltb}
 use lib.ListN.{length, getD}
 use Rattle.laws.specs.Pick.{pick, both, either}
-use Rattle.laws.specs.Checks.{firstMet}
+use Rattle.laws.specs.Checks.{firstMet, ifDone}
 use Rattle.laws.specs.Made.{made}
 use Rattle.bcn_spec.specs.Answers.{done, badFormat, shortOutput, blocksMisfit}
 use Rattle.bcn_spec.specs.Bits.{blockSize, blockAt}
@@ -52,14 +52,14 @@ pub record FaceShown (signed alpha : Bool) (blocks : List ℕ) (width height pit
 unfoldable pub inFace : Bool → ℕ → ℕ → ℕ → ℕ → Bool
 inFace alpha width height pitch i = both (ltb (i / pitch) (4 * height)) (ltb (i % pitch) (rowSize alpha width))
 
-unfoldable pub valueAt : Bool → Bool → List ℕ → ℕ → ℕ → ℕ → List ℕ → ℕ → ℕ
-valueAt signed alpha blocks width height pitch out i =
+unfoldable pub imageValue : Bool → Bool → List ℕ → ℕ → ℕ → ℕ → List ℕ → ℕ → ℕ
+imageValue signed alpha blocks width height pitch out i =
     pick (inFace alpha width height pitch i)
     (laneAt signed blocks width (i % pitch / lanes alpha) (i / pitch) (i % pitch % lanes alpha))
     (getD out i 0)
 
-unfoldable pub faceIn : Bool → Bool → List ℕ → ℕ → ℕ → ℕ → List ℕ → List ℕ
-faceIn signed alpha blocks width height pitch out = made (valueAt signed alpha blocks width height pitch out) (length out)
+unfoldable pub imageIn : Bool → Bool → List ℕ → ℕ → ℕ → ℕ → List ℕ → List ℕ
+imageIn signed alpha blocks width height pitch out = made (imageValue signed alpha blocks width height pitch out) (length out)
 
 -- ---- the call
 
@@ -70,21 +70,20 @@ roomy alpha width height pitch room =
     (both (leb (rowSize alpha width) pitch) (leb (pitch * (4 * height - 1) + rowSize alpha width) room))
 
 -- 1, then 15, then 3
-unfoldable pub faceRefusal : Bool → ℕ → ℕ → ℕ → ℕ → ℕ → ℕ → ℕ
-faceRefusal alpha size format width height pitch room =
+unfoldable pub imageRefusal : Bool → ℕ → ℕ → ℕ → ℕ → ℕ → ℕ → ℕ
+imageRefusal alpha size format width height pitch room =
     firstMet ((ltb 1 format, badFormat) ∷ (not (eqb size (blockSize * (width * height))), blocksMisfit) ∷ (not (roomy alpha width height pitch room), shortOutput) ∷ [])
 
 -- how many values are minus infinity, as the call over a run of the same blocks counts them; a refusal counts none
-abbrev pub faceAnswer : ℕ → List ℕ → ℕ → FacePixels
-faceAnswer zero blocks format = record { answer = done; infinite = runInfinities format blocks }
-faceAnswer (suc n) blocks format = record { answer = suc n; infinite = 0 }
+abbrev pub imageAnswer : ℕ → List ℕ → ℕ → FacePixels
+imageAnswer zero blocks format = record { answer = done; infinite = runInfinities format blocks }
+imageAnswer (suc n) blocks format = record { answer = suc n; infinite = 0 }
 
 -- a refusal writes nothing
-abbrev pub faceValues : ℕ → Bool → List ℕ → ℕ → ℕ → ℕ → ℕ → List ℕ → List ℕ
-faceValues zero alpha blocks format width height pitch out = faceIn (isSigned format) alpha blocks width height pitch out
-faceValues (suc n) alpha blocks format width height pitch out = out
+abbrev pub imageValues : ℕ → Bool → List ℕ → ℕ → ℕ → ℕ → ℕ → List ℕ → List ℕ
+imageValues number alpha blocks format width height pitch out = ifDone number (imageIn (isSigned format) alpha blocks width height pitch out) out
 
 -- The statement of the calls: the answer r, and the lent values `after`.
 pub record ImagePainted (alpha : Bool) (blocks : List ℕ) (width height format : ℕ) (out : List ℕ) (pitch : ℕ) (r : FacePixels) (after : List ℕ) : Type 0 where
-  pub answers : r ≡ faceAnswer (faceRefusal alpha (length blocks) format width height pitch (length out)) blocks format
-  pub holds : after ≡ faceValues (faceRefusal alpha (length blocks) format width height pitch (length out)) alpha blocks format width height pitch out
+  pub answers : r ≡ imageAnswer (imageRefusal alpha (length blocks) format width height pitch (length out)) blocks format
+  pub holds : after ≡ imageValues (imageRefusal alpha (length blocks) format width height pitch (length out)) alpha blocks format width height pitch out

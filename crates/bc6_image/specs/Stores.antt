@@ -13,9 +13,9 @@ use Rattle.bc6_blocks.specs.Run.{shownAt, runOf}
 use Rattle.bc6_image.specs.Face.{lanes, opaque, rowSize}
 
 -- the first n of a row of lists, each stored from its own place on
-unfoldable pub scattered : (ℕ → ℕ) → (ℕ → List ℕ) → ℕ → List ℕ → List ℕ
-scattered place cell zero out = out
-scattered place cell (suc n) out = sets (scattered place cell n out) (place n) (cell n)
+unfoldable pub storedCells : (ℕ → ℕ) → (ℕ → List ℕ) → ℕ → List ℕ → List ℕ
+storedCells place cell zero out = out
+storedCells place cell (suc n) out = sets (storedCells place cell n out) (place n) (cell n)
 
 -- pixel k of a block
 unfoldable pub pixelOf : Bool → List ℕ → ℕ → List ℕ
@@ -25,8 +25,8 @@ pixelOf alpha values k = getD values (3 * k) 0 ∷ getD values (3 * k + 1) 0 ∷
 unfoldable pub pixelIn : Bool → List ℕ → ℕ → ℕ → List ℕ
 pixelIn alpha values row j = pixelOf alpha values (4 * row + j)
 
-abbrev pub rowOf : Bool → List ℕ → ℕ → List ℕ
-rowOf alpha values row = join (made (pixelIn alpha values row) 4)
+abbrev pub blockRow : Bool → List ℕ → ℕ → List ℕ
+blockRow alpha values row = join (made (pixelIn alpha values row) 4)
 
 -- value x of a row without alpha
 unfoldable pub plainValue : List ℕ → ℕ → ℕ → ℕ
@@ -37,7 +37,7 @@ unfoldable pub pixelPlace : Bool → ℕ → ℕ → ℕ → ℕ
 pixelPlace alpha pitch at k = at + (pitch * (k / 4) + lanes alpha * (k % 4))
 
 abbrev pub blockPut : Bool → ℕ → List ℕ → ℕ → List ℕ → List ℕ
-blockPut alpha pitch values at out = scattered (pixelPlace alpha pitch at) (pixelOf alpha values) 16 out
+blockPut alpha pitch values at out = storedCells (pixelPlace alpha pitch at) (pixelOf alpha values) 16 out
 
 -- where block n stands
 abbrev pub corner : Bool → ℕ → ℕ → ℕ → ℕ
@@ -52,7 +52,7 @@ cellAt signed alpha blocks q = pixelOf alpha (shownAt signed blocks (q / 16)) (q
 
 -- the first n blocks
 abbrev pub facePut : Bool → Bool → List ℕ → ℕ → ℕ → ℕ → List ℕ → List ℕ
-facePut signed alpha blocks width pitch n out = scattered (placeAt alpha width pitch) (cellAt signed alpha blocks) (16 * n) out
+facePut signed alpha blocks width pitch n out = storedCells (placeAt alpha width pitch) (cellAt signed alpha blocks) (16 * n) out
 
 -- All blocks of a face, painted; and how many values of them are minus infinity.
 pub record FaceWritten (signed alpha : Bool) (blocks : List ℕ) (width pitch count : ℕ) (out : List ℕ) (infinite : ℕ) (after : List ℕ) : Type 0 where

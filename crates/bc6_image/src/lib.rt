@@ -11,8 +11,8 @@ ghost use lib.Seq.{sets};
 ghost use Rattle.bcn_spec.specs.Bits.{blockSize};
 ghost use Rattle.bc6h_spec.specs.Picture.{isSigned};
 ghost use Rattle.bcn_spec.specs.Bits.{blocksIn};
-ghost use Rattle.bc6_image.specs.Face.{lanes, faceRefusal, ImagePainted};
-ghost use Rattle.bc6_image.specs.Stores.{pixelOf, rowOf, blockPut, FaceWritten, Fitting};
+ghost use Rattle.bc6_image.specs.Face.{lanes, imageRefusal, ImagePainted};
+ghost use Rattle.bc6_image.specs.Stores.{pixelOf, blockRow, blockPut, FaceWritten, Fitting};
 
 // What the calls over a face answer: how many values are minus infinity, 0 on a refusal.
 pub struct FacePixels {
@@ -47,7 +47,7 @@ fn lanes_of(alpha: bool) -> usize
 // Row `row` of a block's pixels without alpha, twelve values.
 fn put_plain_row(values: &[u16; 48], row: usize, out: &mut [u16], at: usize)
     requires { ⌜ (row < 4) × (at + 12 ≤ length (now out)) ⌝ }
-    ensures { λ _. ⌜ now (out .exit) ≡ sets (now (out .entry)) at (rowOf false (now (values .entry)) row) ⌝ }
+    ensures { λ _. ⌜ now (out .exit) ≡ sets (now (out .entry)) at (blockRow false (now (values .entry)) row) ⌝ }
 {
     for x in 0..12usize {
         out[at + x] = values[12 * row + x];
@@ -68,7 +68,7 @@ fn put_opaque(values: &[u16; 48], k: usize, out: &mut [u16], at: usize)
 // Row `row` of a block's pixels with alpha, sixteen values.
 fn put_opaque_row(values: &[u16; 48], row: usize, out: &mut [u16], at: usize)
     requires { ⌜ (row < 4) × (at + 16 ≤ length (now out)) ⌝ }
-    ensures { λ _. ⌜ now (out .exit) ≡ sets (now (out .entry)) at (rowOf true (now (values .entry)) row) ⌝ }
+    ensures { λ _. ⌜ now (out .exit) ≡ sets (now (out .entry)) at (blockRow true (now (values .entry)) row) ⌝ }
 {
     for x in 0..4usize {
         let place = at + 4 * x;
@@ -79,7 +79,7 @@ fn put_opaque_row(values: &[u16; 48], row: usize, out: &mut [u16], at: usize)
 // Row `row` of a block's pixels. Each of its values is stored next to the one before it, so that the compiler stores several at once.
 fn put_row(values: &[u16; 48], row: usize, alpha: bool, out: &mut [u16], at: usize)
     requires { ⌜ (row < 4) × (at + lanes alpha * 4 ≤ length (now out)) ⌝ }
-    ensures { λ _. ⌜ now (out .exit) ≡ sets (now (out .entry)) at (rowOf alpha (now (values .entry)) row) ⌝ }
+    ensures { λ _. ⌜ now (out .exit) ≡ sets (now (out .entry)) at (blockRow alpha (now (values .entry)) row) ⌝ }
 {
     if alpha {
         put_opaque_row(values, row, out, at);
@@ -154,7 +154,7 @@ fn face_refusal(
     pitch: usize,
     room: usize,
 ) -> u8
-    ensures { λ r. ⌜ r ≡ faceRefusal alpha size format width height pitch room ⌝ }
+    ensures { λ r. ⌜ r ≡ imageRefusal alpha size format width height pitch room ⌝ }
 {
     if 1 < format {
         return Answer::BAD_FORMAT;

@@ -10,6 +10,6 @@ pub record ModesOf (low2 word : ℕ) : Type 0 where
   pub each : (high3 : ℕ) → high3 < 8 → word / 2 ^ (4 * high3) % 2 ^ 4 ≡ modeIn (4 * high3 + low2)
 
 -- S-16 to S-18: the precision of a mode, its own widths, and whether it is transformed
-unfoldable pub bitsOf : ℕ → ModeBits
-bitsOf mode =
+unfoldable pub bitsFor : ℕ → ModeBits
+bitsFor mode =
     record { a0 = precision mode; r = ownWidth mode 0; g = ownWidth mode 1; b = ownWidth mode 2; transformed = transformed mode }

@@ -4,7 +4,7 @@ ghost use mathlib.Core.Path.{_≡_};
 ghost use Prim.Native.Nat.{_≤_, _<_};
 ghost use Rattle.bcn_util.specs.Stream.{number};
 ghost use Rattle.bc6h_spec.specs.Fields.{modeIn};
-ghost use Rattle.bc6_mode.specs.Modes.{ModesOf, bitsOf};
+ghost use Rattle.bc6_mode.specs.Modes.{ModesOf, bitsFor};
 
 // The modes of the eight codes that end in two given bits, four bits a mode: of the code 000 above them lowest, of 111 highest.
 fn modes_of(low2: u64) -> u64
@@ -56,7 +56,7 @@ impl ModeBits {
 
     pub fn of(mode: u8) -> Self
         requires { ⌜ (1 ≤ mode) × (mode ≤ 14) ⌝ }
-        ensures { λ s. ⌜ s ≡ bitsOf mode ⌝ }
+        ensures { λ s. ⌜ s ≡ bitsFor mode ⌝ }
     {
         match mode {
             1 => ModeBits::new(10, 5, 5, 5, true),

@@ -7,12 +7,12 @@ use lib.Bits.{bitAnd, bitOr, bitXor, and-comm, and-le-l, and-mask, and-zero-l, o
 use lib.Dec.{eqb, eqb→eq}
 use Rattle.laws.specs.Pick.{pick}
 use Rattle.laws.proofs.Tests.{below-at}
-use Rattle.bc6_paint.specs.Values.{maskOf, selected}
+use Rattle.bc6_paint.specs.Values.{regionMask, selected}
 
 -- ---- the mask of a region
 
-pub mask-is : (b : ℕ) → b < 2 → b * 0xFFFF ≡ maskOf (eqb b 1)
-mask-is b h = eqb→eq _ _ (below-at (λ b. eqb (b * 0xFFFF) (maskOf (eqb b 1))) 2 b tt h)
+pub mask-is : (b : ℕ) → b < 2 → b * 0xFFFF ≡ regionMask (eqb b 1)
+mask-is b h = eqb→eq _ _ (below-at (λ b. eqb (b * 0xFFFF) (regionMask (eqb b 1))) 2 b tt h)
 
 -- all bits, and none
 all : (a : ℕ) → a < 65536 → bitAnd a 0xFFFF ≡ a
@@ -22,7 +22,7 @@ none : (a : ℕ) → bitAnd a 0 ≡ 0
 none a = and-comm a 0 ∙ and-zero-l a
 
 -- all ones select the other number, zeros the number itself
-pub selected-is : (t : Bool) (a c : ℕ) → a < 65536 → c < 65536 → selected (maskOf t) a c ≡ pick t c a
+pub selected-is : (t : Bool) (a c : ℕ) → a < 65536 → c < 65536 → selected (regionMask t) a c ≡ pick t c a
 selected-is true a c ha hc = ap₂ bitOr (none a) (all c hc)
 selected-is false a c ha hc = ap₂ bitOr (all a ha) (none c) ∙ or-zero-r a
 

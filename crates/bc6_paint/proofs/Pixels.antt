@@ -16,7 +16,7 @@ use Rattle.laws.specs.Made.{made, countOf}
 use Rattle.laws.proofs.Rows.{made-none, made-store}
 use Rattle.laws.proofs.Counts.{count-append, count-last}
 use Rattle.bc6h_spec.specs.Half.{minusInfinity}
-use Rattle.bc6_paint.specs.Values.{heldAt, channelOf, endIn, digit, maskOf, TurnOf, shadeOf, selected, shadeIn, valueOf, counted, PaintedAs}
+use Rattle.bc6_paint.specs.Values.{heldAt, channelOf, endIn, packedAt, regionMask, TurnOf, shadeOf, selected, shadeIn, paintedValue, counted, PaintedAs}
 use Rattle.bc6_paint.specs.declared.Turn.{Turn}
 use Rattle.bc6_paint.specs.declared.Ends.{Ends}
 use Rattle.bc6_paint.proofs.Chosen.{selected-is}
@@ -153,7 +153,7 @@ module _ {f : ℕ → ℕ} {k : ℕ} {x y : ℕ → ℕ} (v : Shades f k x y) wh
 -- ---- a pixel's weight and region
 
 -- eight numbers of so many bits are a word's low half, and eight its high half
-digit-low : (b n k : ℕ) → k < 8 → digit b (n % 2 ^ (b * 8)) k ≡ digit b n k
+digit-low : (b n k : ℕ) → k < 8 → packedAt b (n % 2 ^ (b * 8)) k ≡ packedAt b n k
 digit-low b n k h =
     let j = b * (7 - k) in
     let whole : 7 - k + 1 + k ≡ 8 = omega arith in
@@ -162,27 +162,27 @@ digit-low b n k h =
     ∙ ap (λ (m : ℕ). m % 2 ^ b) (field n (j + b) (b * k))
     ∙ mod-mod-pow (n / 2 ^ (b * k)) j b
 
-digit-high : (b n k : ℕ) → digit b (n / 2 ^ (b * 8)) k ≡ digit b n (8 + k)
+digit-high : (b n k : ℕ) → packedAt b (n / 2 ^ (b * 8)) k ≡ packedAt b n (8 + k)
 digit-high b n k =
     ap (λ (m : ℕ). m % 2 ^ b) (shr-shr n (b * 8) (b * k)) ∙ ap (λ (m : ℕ). n / 2 ^ m % 2 ^ b) (sym (mul-add b 8 k))
 
 -- a weight by an index of the low half, of the high half, and of a high half that is kept by itself
-module _ (ws : List ℕ) (b word half k i w : ℕ) (ei : i ≡ digit b half k) (ew : w ≡ getD ws i 0) where
-  weighed : (n : ℕ) → digit b half k ≡ n → w ≡ getD ws n 0
+module _ (ws : List ℕ) (b word half k i w : ℕ) (ei : i ≡ packedAt b half k) (ew : w ≡ getD ws i 0) where
+  weighed : (n : ℕ) → packedAt b half k ≡ n → w ≡ getD ws n 0
   weighed n e = ew ∙ ap (λ (m : ℕ). getD ws m 0) (ei ∙ e)
 
-  pub weight-low : half ≡ word % 2 ^ (b * 8) → k < 8 → w ≡ getD ws (digit b word k) 0
-  weight-low e l = weighed _ (ap (λ (n : ℕ). digit b n k) e ∙ digit-low b word k l)
+  pub weight-low : half ≡ word % 2 ^ (b * 8) → k < 8 → w ≡ getD ws (packedAt b word k) 0
+  weight-low e l = weighed _ (ap (λ (n : ℕ). packedAt b n k) e ∙ digit-low b word k l)
 
-  pub weight-high : half ≡ word / 2 ^ (b * 8) → w ≡ getD ws (digit b word (8 + k)) 0
-  weight-high e = weighed _ (ap (λ (n : ℕ). digit b n k) e ∙ digit-high b word k)
+  pub weight-high : half ≡ word / 2 ^ (b * 8) → w ≡ getD ws (packedAt b word (8 + k)) 0
+  weight-high e = weighed _ (ap (λ (n : ℕ). packedAt b n k) e ∙ digit-high b word k)
 
-  pub weight-upper : half ≡ word / 2 ^ (b * 8) % 2 ^ (b * 8) → k < 8 → w ≡ getD ws (digit b word (8 + k)) 0
-  weight-upper e l = weighed _ (ap (λ (n : ℕ). digit b n k) e ∙ digit-low b (word / 2 ^ (b * 8)) k l ∙ digit-high b word k)
+  pub weight-upper : half ≡ word / 2 ^ (b * 8) % 2 ^ (b * 8) → k < 8 → w ≡ getD ws (packedAt b word (8 + k)) 0
+  weight-upper e l = weighed _ (ap (λ (n : ℕ). packedAt b n k) e ∙ digit-low b (word / 2 ^ (b * 8)) k l ∙ digit-high b word k)
 
 -- the map's high half, for the pixels from 8 on
-pub mask-above : (map k : ℕ) → maskOf (eqb (bit (map / 2 ^ 8) k) 1) ≡ maskOf (eqb (bit map (8 + k)) 1)
-mask-above map k = ap (λ (n : ℕ). maskOf (eqb (n % 2) 1)) (shr-shr map 8 k)
+pub mask-above : (map k : ℕ) → regionMask (eqb (bit (map / 2 ^ 8) k) 1) ≡ regionMask (eqb (bit map (8 + k)) 1)
+mask-above map k = ap (λ (n : ℕ). regionMask (eqb (n % 2) 1)) (shr-shr map 8 k)
 
 -- ---- the values of a turn
 
@@ -192,13 +192,13 @@ valueAt s ends mask w c = shadeIn s (channelOf ends c) mask w
 
 module _ (s : Bool) (ends : Ends) (second : ℕ → Bool) (weight : ℕ → ℕ) where
   -- channel c of pixel k
-  value-is : (j k c mask w : ℕ) → j ≡ 3 * k + c → c < 3 → mask ≡ maskOf (second k) → w ≡ weight k → valueAt s ends mask w c ≡ valueOf s (endIn ends) second weight j
-  unfolding shadeIn valueOf
+  value-is : (j k c mask w : ℕ) → j ≡ 3 * k + c → c < 3 → mask ≡ regionMask (second k) → w ≡ weight k → valueAt s ends mask w c ≡ paintedValue s (endIn ends) second weight j
+  unfolding shadeIn paintedValue
   value-is j k c mask w e h em ew =
       let pixel : k ≡ j / 3 = omega arith in
       let channel : c ≡ j % 3 = omega arith in
       let l = channelOf ends c in
-      let end : (e g : ℕ) → selected (maskOf (second k)) (heldAt l e) (heldAt l g) ≡ pick (second k) (heldAt l g) (heldAt l e) =
+      let end : (e g : ℕ) → selected (regionMask (second k)) (heldAt l e) (heldAt l g) ≡ pick (second k) (heldAt l g) (heldAt l e) =
       λ e g. selected-is (second k) (heldAt l e) (heldAt l g) (held-lt l e) (held-lt l g) in
       (λ i. valueAt s ends (em i) (ew i) c)
       ∙ (λ i. shadeOf s (end 0 2 i) (end 1 3 i) (weight k))
@@ -207,7 +207,7 @@ module _ (s : Bool) (ends : Ends) (second : ℕ → Bool) (weight : ℕ → ℕ)
       shadeOf s (pick t (endIn ends 2 (channel i)) (endIn ends 0 (channel i))) (pick t (endIn ends 3 (channel i)) (endIn ends 1 (channel i))) (weight (pixel i)))
 
   pub shades-of : {k : ℕ} {t : Turn} → TurnOf second weight k t
-      → Shades (valueOf s (endIn ends) second weight) k (valueAt s ends (t .second) (t .w)) (valueAt s ends (t .second8) (t .w8))
+      → Shades (paintedValue s (endIn ends) second weight) k (valueAt s ends (t .second) (t .w)) (valueAt s ends (t .second8) (t .w8))
   shades-of {k} {t} e =
       record {
         low = λ c h. value-is (3 * k + c) k c (t .second) (t .w) refl h (e .region) (e .weighs);

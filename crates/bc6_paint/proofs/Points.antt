@@ -17,7 +17,7 @@ use Rattle.laws.proofs.Elements.{element-is}
 use Rattle.bc6h_spec.specs.Half.{keep, interpolated, finished}
 use Rattle.bc6h_spec.proofs.Ranges.{interpolated-in, in-16, keep-lt}
 use Rattle.bc6_half.specs.declared.Half.{Half}
-use Rattle.bc6_half.specs.Halves.{numberAt, halfOf, marked}
+use Rattle.bc6_half.specs.Halves.{signedNumber, halfOf, marked}
 use Rattle.bc6_half.proofs.Words.{number-in, number-kept}
 use Rattle.bc6_half.proofs.Told.{half-marked}
 use Rattle.bc6_paint.specs.Values.{heldAt, pointOf, shadeOf, selected, shadeIn, counted}
@@ -25,17 +25,17 @@ use Rattle.bc6_paint.proofs.Chosen.{selected-lt}
 
 module _ (s : Bool) (a b w : ℕ) (ha : a < 65536) (hb : b < 65536) (hw : w ≤ 64) where
   -- what interpolating asks of two numbers
-  pub ends-within : (x y : ℤ) → x ≡ numberAt s a → y ≡ numberAt s b → (Within 65536 x × Within 65536 y) × (w ≤ 64)
+  pub ends-within : (x y : ℤ) → x ≡ signedNumber s a → y ≡ signedNumber s b → (Within 65536 x × Within 65536 y) × (w ≤ 64)
   ends-within x y ex ey =
       ((subst (Within 65536) (sym ex) (in-16 s (number-in s a ha)), subst (Within 65536) (sym ey) (in-16 s (number-in s b hb))), hw)
 
-  pub point-is : (x y z : ℤ) → x ≡ numberAt s a → y ≡ numberAt s b → z ≡ interpolated x y (pos w) → z ≡ pointOf s a b w
+  pub point-is : (x y z : ℤ) → x ≡ signedNumber s a → y ≡ signedNumber s b → z ≡ interpolated x y (pos w) → z ≡ pointOf s a b w
   unfolding pointOf
   point-is x y z ex ey ez = ez ∙ (λ i. interpolated (ex i) (ey i) (pos w))
 
   pub point-in : InBits s 16 (pointOf s a b w)
   unfolding pointOf
-  point-in = interpolated-in s (numberAt s a) (numberAt s b) (pos w) (record { nonneg = tt; below = omega arith }) (number-in s a ha) (number-in s b hb)
+  point-in = interpolated-in s (signedNumber s a) (signedNumber s b) (pos w) (record { nonneg = tt; below = omega arith }) (number-in s a ha) (number-in s b hb)
 
   -- the half-float of it: its pattern is the value, and it tells whether the value is minus infinity
   pub half-is : (z : ℤ) (h : Half) → z ≡ pointOf s a b w → h ≡ halfOf s z → h ≡ marked (shadeOf s a b w)

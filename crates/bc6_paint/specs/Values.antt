@@ -12,7 +12,7 @@ use Rattle.laws.specs.Bit.{bit}
 use Rattle.laws.specs.Made.{countOf}
 use Rattle.bc6h_spec.specs.Half.{keep, minusInfinity, interpolated, finished}
 use Rattle.bcn_spec.specs.Weights.{weights8, weights16}
-use Rattle.bc6_half.specs.Halves.{numberAt}
+use Rattle.bc6_half.specs.Halves.{signedNumber}
 use Rattle.bc6_paint.specs.declared.Turn.{Turn}
 use Rattle.bc6_paint.specs.declared.Ends.{Ends}
 
@@ -33,29 +33,29 @@ endIn r e c = heldAt (channelOf r c) e
 -- ---- what a pixel has: whether it lies in region 1, and its weight
 
 -- S-13, S-22: number k of those in a word, of so many bits each
-abbrev pub digit : ℕ → ℕ → ℕ → ℕ
-digit bits word k = word / 2 ^ (bits * k) % 2 ^ bits
+abbrev pub packedAt : ℕ → ℕ → ℕ → ℕ
+packedAt bits word k = word / 2 ^ (bits * k) % 2 ^ bits
 
 abbrev pub oneSecond : ℕ → Bool
 oneSecond k = false
 
 abbrev pub oneWeight : ℕ → ℕ → ℕ
-oneWeight word k = getD weights16 (digit 4 word k) 0
+oneWeight word k = getD weights16 (packedAt 4 word k) 0
 
 abbrev pub twoSecond : ℕ → ℕ → Bool
 twoSecond map k = eqb (bit map k) 1
 
 abbrev pub twoWeight : ℕ → ℕ → ℕ
-twoWeight word k = getD weights8 (digit 3 word k) 0
+twoWeight word k = getD weights8 (packedAt 3 word k) 0
 
 -- S-12: a region as a mask of 16 bits
-abbrev pub maskOf : Bool → ℕ
-maskOf second = pick second 0xFFFF 0
+abbrev pub regionMask : Bool → ℕ
+regionMask second = pick second 0xFFFF 0
 
 -- S-12, S-22: pixels k and 8 + k
 pub record TurnOf (second : ℕ → Bool) (weight : ℕ → ℕ) (k : ℕ) (t : Turn) : Type 0 where
-  pub region : t .second ≡ maskOf (second k)
-  pub region8 : t .second8 ≡ maskOf (second (8 + k))
+  pub region : t .second ≡ regionMask (second k)
+  pub region8 : t .second8 ≡ regionMask (second (8 + k))
   pub weighs : t .w ≡ weight k
   pub weighs8 : t .w8 ≡ weight (8 + k)
   pub most : t .w ≤ 64
@@ -65,7 +65,7 @@ pub record TurnOf (second : ℕ → Bool) (weight : ℕ → ℕ) (k : ℕ) (t : 
 
 -- S-21: the number at weight w
 unfoldable pub pointOf : Bool → ℕ → ℕ → ℕ → ℤ
-pointOf signed a b w = interpolated (numberAt signed a) (numberAt signed b) (pos w)
+pointOf signed a b w = interpolated (signedNumber signed a) (signedNumber signed b) (pos w)
 
 -- S-23, S-24: its pattern
 unfoldable pub shadeOf : Bool → ℕ → ℕ → ℕ → ℕ
@@ -74,18 +74,18 @@ shadeOf signed a b w = finished signed (pointOf signed a b w)
 -- ---- a block's values
 
 -- S-27: value j: between endpoints 0 and 1 in region 0, between 2 and 3 in region 1
-unfoldable pub valueOf : Bool → (ℕ → ℕ → ℕ) → (ℕ → Bool) → (ℕ → ℕ) → ℕ → ℕ
-valueOf signed ends second weight j =
+unfoldable pub paintedValue : Bool → (ℕ → ℕ → ℕ) → (ℕ → Bool) → (ℕ → ℕ) → ℕ → ℕ
+paintedValue signed ends second weight j =
     let t = second (j / 3) in
     let c = j % 3 in
     shadeOf signed (pick t (ends 2 c) (ends 0 c)) (pick t (ends 3 c) (ends 1 c)) (weight (j / 3))
 
 -- of a block of one region, all of it region 0, and of one of two
 abbrev pub oneValue : Bool → (ℕ → ℕ → ℕ) → ℕ → ℕ → ℕ
-oneValue signed ends word = valueOf signed ends oneSecond (oneWeight word)
+oneValue signed ends word = paintedValue signed ends oneSecond (oneWeight word)
 
 abbrev pub twoValue : Bool → (ℕ → ℕ → ℕ) → ℕ → ℕ → ℕ → ℕ
-twoValue signed ends map word = valueOf signed ends (twoSecond map) (twoWeight word)
+twoValue signed ends map word = paintedValue signed ends (twoSecond map) (twoWeight word)
 
 -- ---- two values are stored, one 24 behind the other
 
@@ -98,8 +98,8 @@ unfoldable pub shadeIn : Bool → List ℤ → ℕ → ℕ → ℕ
 shadeIn signed ends mask w =
     shadeOf signed (selected mask (heldAt ends 0) (heldAt ends 2)) (selected mask (heldAt ends 1) (heldAt ends 3)) w
 
-abbrev pub pairAt : Bool → Turn → List ℤ → ℕ → List ℕ → List ℕ
-pairAt signed t ends at out = set (set out at (shadeIn signed ends (t .second) (t .w))) (at + 24) (shadeIn signed ends (t .second8) (t .w8))
+abbrev pub pairPainted : Bool → Turn → List ℤ → ℕ → List ℕ → List ℕ
+pairPainted signed t ends at out = set (set out at (shadeIn signed ends (t .second) (t .w))) (at + 24) (shadeIn signed ends (t .second8) (t .w8))
 
 -- S-26: 1 for minus infinity
 abbrev pub counted : ℕ → ℕ
@@ -107,12 +107,12 @@ counted value = pick (eqb value minusInfinity) 1 0
 
 -- the two in unsigned format
 pub record PairStored (t : Turn) (ends : List ℤ) (at : ℕ) (out after : List ℕ) : Type 0 where
-  pub holds : after ≡ pairAt false t ends at out
+  pub holds : after ≡ pairPainted false t ends at out
   pub long : length after ≡ length out
 
 -- the two in signed format, and how many of them are minus infinity
 pub record PairCounted (t : Turn) (ends : List ℤ) (at : ℕ) (out : List ℕ) (infinite : ℕ) (after : List ℕ) : Type 0 where
-  pub holds : after ≡ pairAt true t ends at out
+  pub holds : after ≡ pairPainted true t ends at out
   pub long : length after ≡ length out
   pub counts : infinite ≡ counted (shadeIn true ends (t .second) (t .w)) + counted (shadeIn true ends (t .second8) (t .w8))
   pub few : infinite ≤ 2

@@ -17,7 +17,7 @@ ghost use lib.Dec.{eqb};
 ghost use lib.IntN.{pos};
 ghost use lib.ListN.{length};
 ghost use Rattle.laws.specs.Bit.{bit};
-ghost use Rattle.bc6_paint.specs.Values.{digit, oneSecond, oneWeight, twoSecond, twoWeight, maskOf, TurnOf, pointOf, selected, PairStored, PairCounted};
+ghost use Rattle.bc6_paint.specs.Values.{packedAt, oneSecond, oneWeight, twoSecond, twoWeight, regionMask, TurnOf, pointOf, selected, PairStored, PairCounted};
 
 // A block's ends, unquantised: of two regions four a channel, of one region the first two.
 pub struct Ends {
@@ -56,14 +56,14 @@ fn high_32(word: u64) -> u32
 
 fn index_3(word: u32, k: usize) -> u16
     requires { ⌜ k < 8 ⌝ }
-    ensures { λ r. ⌜ (r ≡ digit 3 word k) × (r < 8) ⌝ }
+    ensures { λ r. ⌜ (r ≡ packedAt 3 word k) × (r < 8) ⌝ }
 {
     ((word >> (3 * k)) % 8) as u16
 }
 
 fn index_4(word: u32, k: usize) -> u16
     requires { ⌜ k < 8 ⌝ }
-    ensures { λ r. ⌜ (r ≡ digit 4 word k) × (r < 16) ⌝ }
+    ensures { λ r. ⌜ (r ≡ packedAt 4 word k) × (r < 16) ⌝ }
 {
     ((word >> (4 * k)) % 16) as u16
 }
@@ -71,7 +71,7 @@ fn index_4(word: u32, k: usize) -> u16
 // All ones for a pixel of region 1, else 0.
 fn region_mask(map: u16, pixel: usize) -> u16
     requires { ⌜ pixel < 16 ⌝ }
-    ensures { λ r. ⌜ r ≡ maskOf (eqb (bit map pixel) 1) ⌝ }
+    ensures { λ r. ⌜ r ≡ regionMask (eqb (bit map pixel) 1) ⌝ }
 {
     ((map >> pixel) % 2) * 0xFFFF
 }

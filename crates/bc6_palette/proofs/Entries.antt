@@ -8,7 +8,7 @@ use Rattle.bc6h_spec.proofs.Ranges.{unquantized-in}
 use Rattle.bc6_half.specs.declared.Half.{Half}
 use Rattle.bc6_colour.specs.declared.Colour.{Colour}
 use Rattle.bc6_colour.specs.Colours.{unquantizedOf, OfBits}
-use Rattle.bc6_palette.specs.Palettes.{tripleOf, entryOf}
+use Rattle.bc6_palette.specs.Palettes.{blendOf, paletteEntry}
 
 pub ready : (s : Bool) (p : ℕ) (c : Colour) → p ≤ 16 → OfBits s p c → OfBits s 16 (unquantizedOf s p c)
 unfolding unquantizedOf
@@ -24,6 +24,6 @@ pub between-asks : (s : Bool) (p : ℕ) (c₁ c₂ a b : Colour) → p ≤ 16 �
     → a ≡ unquantizedOf s p c₁ → b ≡ unquantizedOf s p c₂ → OfBits s 16 a × OfBits s 16 b
 between-asks s p c₁ c₂ a b h r ea eb = (rw ea (ready s p c₁ h (r .0)), rw eb (ready s p c₂ h (r .1)))
 
-pub entry-is : (s : Bool) (a b : Colour) (w : ℕ) (ws : List ℕ) (x : List Half) (i : ℕ) → x ≡ tripleOf s a b w → w ≡ getD ws i 0 → x ≡ entryOf s a b ws i
-unfolding entryOf
-entry-is s a b w ws x i e ew = e ∙ ap (tripleOf s a b) ew
+pub entry-is : (s : Bool) (a b : Colour) (w : ℕ) (ws : List ℕ) (x : List Half) (i : ℕ) → x ≡ blendOf s a b w → w ≡ getD ws i 0 → x ≡ paletteEntry s a b ws i
+unfolding paletteEntry
+entry-is s a b w ws x i e ew = e ∙ ap (blendOf s a b) ew

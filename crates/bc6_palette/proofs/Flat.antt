@@ -23,35 +23,35 @@ use Rattle.bc6_half.specs.declared.Half.{Half}
 use Rattle.bc6_colour.specs.declared.Colour.{Colour}
 use Rattle.bc6_half.specs.Halves.{marked}
 use Rattle.bc6_colour.specs.Colours.{endOf, unquantizedOf}
-use Rattle.bc6_palette.specs.Palettes.{tripleOf, entryOf}
-use Rattle.bc6_palette.specs.Triples.{tripleAt, inTriples, noHalf, halfAt, valueAt, flat, IndicesBelow, onePixel, twoPixel}
+use Rattle.bc6_palette.specs.Palettes.{blendOf, paletteEntry}
+use Rattle.bc6_palette.specs.Triples.{markedTriple, inTriples, noHalf, tripleHalf, tripleValue, flat, IndicesBelow, onePixel, twoPixel}
 
 -- ---- values from triples
 
-channel : (values : List ℕ) (k c : ℕ) → c < 3 → getD (tripleAt values k) c noHalf ≡ marked (getD values (3 * k + c) 0)
-unfolding tripleAt
+channel : (values : List ℕ) (k c : ℕ) → c < 3 → getD (markedTriple values k) c noHalf ≡ marked (getD values (3 * k + c) 0)
+unfolding markedTriple
 channel values k zero h = let e : 3 * k ≡ 3 * k + 0 = omega arith in ap (λ (j : ℕ). marked (getD values j 0)) e
 channel values k (suc zero) h = refl
 channel values k (suc (suc zero)) h = refl
 channel values k (suc (suc (suc c))) h = absurd (omega arith)
 
-half-triples : (values : List ℕ) (j : ℕ) → j < 48 → halfAt (inTriples values) j ≡ marked (getD values j 0)
-unfolding inTriples halfAt
+half-triples : (values : List ℕ) (j : ℕ) → j < 48 → tripleHalf (inTriples values) j ≡ marked (getD values j 0)
+unfolding inTriples tripleHalf
 half-triples values j lt =
     let back : 3 * (j / 3) + j % 3 ≡ j = omega arith in
-    ap (λ (t : List Half). getD t (j % 3) noHalf) (getD-made (tripleAt values) 16 (j / 3) [] (omega arith))
+    ap (λ (t : List Half). getD t (j % 3) noHalf) (getD-made (markedTriple values) 16 (j / 3) [] (omega arith))
     ∙ channel values (j / 3) (j % 3) (mod-lt j (lit< tt))
     ∙ ap (λ (n : ℕ). marked (getD values n 0)) back
 
-value-triples : (values : List ℕ) (j : ℕ) → j < 48 → valueAt (inTriples values) j ≡ getD values j 0
-unfolding valueAt marked
+value-triples : (values : List ℕ) (j : ℕ) → j < 48 → tripleValue (inTriples values) j ≡ getD values j 0
+unfolding tripleValue marked
 value-triples values j lt = ap (λ (h : Half). h .pattern) (half-triples values j lt)
 
 -- the triples of 48 values, laid out flat, are the values
 pub flat-triples : (values : List ℕ) → length values ≡ 48 → flat (inTriples values) ≡ values
 unfolding flat
 flat-triples values h =
-    sym (made-each (valueAt (inTriples values)) values 48 h (λ j lt. sym (value-triples values j lt)))
+    sym (made-each (tripleValue (inTriples values)) values 48 h (λ j lt. sym (value-triples values j lt)))
 
 -- ---- the triples of a picture
 
@@ -63,15 +63,15 @@ shown s f r i = marked (palette s f r 0 i) ∷ marked (palette s f r 1 i) ∷ ma
 unfoldable colours : Bool → Fields → ℕ → List ℕ → ℕ → List Half
 colours s f r ws =
     let p = precision (f .mode) in
-    entryOf s (unquantizedOf s p (endOf s f (2 * r))) (unquantizedOf s p (endOf s f (2 * r + 1))) ws
+    paletteEntry s (unquantizedOf s p (endOf s f (2 * r))) (unquantizedOf s p (endOf s f (2 * r + 1))) ws
 
 colours-are : (s : Bool) (f : Fields) (r i : ℕ) (ws : List ℕ) → ws ≡ weights (f .mode) → colours s f r ws i ≡ shown s f r i
-unfolding colours entryOf tripleOf unquantizedOf endOf palette between shown
+unfolding colours paletteEntry blendOf unquantizedOf endOf palette between shown
 colours-are s f r i ws e = rw e refl
 
 triple-shown : (s : Bool) (f : Fields) (k : ℕ) → k < 16
-    → tripleAt (pictureAs s f) k ≡ shown s f (regionOf (f .mode) (f .partition) k) (indexOf f k)
-unfolding tripleAt shown
+    → markedTriple (pictureAs s f) k ≡ shown s f (regionOf (f .mode) (f .partition) k) (indexOf f k)
+unfolding markedTriple shown
 triple-shown s f k h =
     let zero-at : 3 * k ≡ 3 * k + 0 = omega arith in
     let r = ap (λ (j : ℕ). getD (pictureAs s f) j 0) zero-at ∙ pixel-shows s f k 0 h (lit< tt) in
@@ -92,7 +92,7 @@ module _ (s : Bool) (f : Fields) (v : Valid f) where
   unfolding inTriples onePixel regionOf
   one-shown t =
       let ws : weights16 ≡ weights (f .mode) = sym (ap (λ (b : Bool). pick b weights8 weights16) t) in
-      made-same (onePixel (made (colours s f 0 weights16) 16) (f .indices)) (tripleAt (pictureAs s f)) 16
+      made-same (onePixel (made (colours s f 0 weights16) 16) (f .indices)) (markedTriple (pictureAs s f)) 16
       (λ k h.
       getD-made (colours s f 0 weights16) 16 (indexOf f k) [] (indices-16 s f v t k h)
       ∙ colours-are s f 0 (indexOf f k) weights16 ws
@@ -111,7 +111,7 @@ module _ (s : Bool) (f : Fields) (v : Valid f) where
   two-shown t =
       let ws : weights8 ≡ weights (f .mode) = sym (ap (λ (b : Bool). pick b weights8 weights16) t) in
       let map = mapOf (f .partition) in
-      made-same (twoPixel (made (colours s f 0 weights8) 8) (made (colours s f 1 weights8) 8) map (f .indices)) (tripleAt (pictureAs s f)) 16
+      made-same (twoPixel (made (colours s f 0 weights8) 8) (made (colours s f 1 weights8) 8) map (f .indices)) (markedTriple (pictureAs s f)) 16
       (λ k h.
       by-region (indexOf f k) (bit map k) (indices-8 s f v t k h) (mod-lt _ (lit< tt)) ws
       ∙ ap (λ (b : Bool). shown s f (pick b (bit map k) 0) (indexOf f k)) (sym t)
@@ -120,22 +120,22 @@ module _ (s : Bool) (f : Fields) (v : Valid f) where
   -- what the code paints, of its endpoints and its bits
   module _ (p : ℕ) (a b : Colour) (ep : p ≡ precision (f .mode)) (ea : a ≡ endOf s f 0) (eb : b ≡ endOf s f 1) where
     pub one-painted : (palette q : List (List Half)) → twoRegions (f .mode) ≡ false
-        → palette ≡ made (entryOf s (unquantizedOf s p a) (unquantizedOf s p b) weights16) 16
+        → palette ≡ made (paletteEntry s (unquantizedOf s p a) (unquantizedOf s p b) weights16) 16
         → q ≡ made (onePixel palette (f .indices)) 16 → q ≡ inTriples (pictureAs s f)
     unfolding colours
     one-painted palette q t e eq =
         eq
         ∙ ap (λ (l : List (List Half)). made (onePixel l (f .indices)) 16) e
-        ∙ (λ i. made (onePixel (made (entryOf s (unquantizedOf s (ep i) (ea i)) (unquantizedOf s (ep i) (eb i)) weights16) 16) (f .indices)) 16)
+        ∙ (λ i. made (onePixel (made (paletteEntry s (unquantizedOf s (ep i) (ea i)) (unquantizedOf s (ep i) (eb i)) weights16) 16) (f .indices)) 16)
         ∙ one-shown t
 
     pub two-painted : (c d : Colour) (p₀ p₁ q : List (List Half)) (map : ℕ) → twoRegions (f .mode) ≡ true → c ≡ endOf s f 2 → d ≡ endOf s f 3
-        → p₀ ≡ made (entryOf s (unquantizedOf s p a) (unquantizedOf s p b) weights8) 8
-        → p₁ ≡ made (entryOf s (unquantizedOf s p c) (unquantizedOf s p d) weights8) 8
+        → p₀ ≡ made (paletteEntry s (unquantizedOf s p a) (unquantizedOf s p b) weights8) 8
+        → p₁ ≡ made (paletteEntry s (unquantizedOf s p c) (unquantizedOf s p d) weights8) 8
         → map ≡ mapOf (f .partition) → q ≡ made (twoPixel p₀ p₁ map (f .indices)) 16 → q ≡ inTriples (pictureAs s f)
     unfolding colours
     two-painted c d p₀ p₁ q map t ec ed e₀ e₁ em eq =
         eq
         ∙ (λ i. made (twoPixel (e₀ i) (e₁ i) (em i) (f .indices)) 16)
-        ∙ (λ i. made (twoPixel (made (entryOf s (unquantizedOf s (ep i) (ea i)) (unquantizedOf s (ep i) (eb i)) weights8) 8) (made (entryOf s (unquantizedOf s (ep i) (ec i)) (unquantizedOf s (ep i) (ed i)) weights8) 8) (mapOf (f .partition)) (f .indices)) 16)
+        ∙ (λ i. made (twoPixel (made (paletteEntry s (unquantizedOf s (ep i) (ea i)) (unquantizedOf s (ep i) (eb i)) weights8) 8) (made (paletteEntry s (unquantizedOf s (ep i) (ec i)) (unquantizedOf s (ep i) (ed i)) weights8) 8) (mapOf (f .partition)) (f .indices)) 16)
         ∙ two-shown t

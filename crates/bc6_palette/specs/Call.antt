@@ -2,10 +2,10 @@
 use mathlib.Core.Path.{_≡_}
 use mathlib.Core.Bool.{not}
 use mathlib.Core.List.{List, [], _∷_, _++_}
-use Prim.Native.Nat.{ℕ, zero, suc}
+use Prim.Native.Nat.{ℕ}
 use lib.Dec.{ltb}
 use lib.ListN.{length, drop}
-use Rattle.laws.specs.Checks.{firstMet}
+use Rattle.laws.specs.Checks.{firstMet, ifDone}
 use Rattle.bc6h_spec.specs.declared.Fields.{Fields}
 use Rattle.bcn_spec.specs.Answers.{badFormat, shortOutput, invalidFields}
 use Rattle.bc6h_spec.specs.Picture.{valueCount, picture}
@@ -18,8 +18,7 @@ refusalOf f room =
 
 -- S-30: done writes exactly the first 48 values; a refusal writes nothing.
 abbrev pub valuesAt : ℕ → Fields → List ℕ → List ℕ
-valuesAt zero f lent = picture f ++ drop valueCount lent
-valuesAt (suc n) f lent = lent
+valuesAt number f lent = ifDone number (picture f ++ drop valueCount lent) lent
 
 -- S-38: the whole outcome of the call
 pub record FieldsShown (f : Fields) (lent : List ℕ) (r : ℕ) (after : List ℕ) : Type 0 where

@@ -10,13 +10,13 @@ use Rattle.bc6_colour.specs.declared.Colour.{Colour}
 use Rattle.bc6_half.specs.Halves.{marked}
 
 -- the patterns at a weight between two colours that are unquantised, each with whether it is minus infinity
-unfoldable pub tripleOf : Bool → Colour → Colour → ℕ → List Half
-tripleOf signed a b w =
+unfoldable pub blendOf : Bool → Colour → Colour → ℕ → List Half
+blendOf signed a b w =
     marked (finished signed (interpolated (a .r) (b .r) (pos w)))
     ∷ marked (finished signed (interpolated (a .g) (b .g) (pos w)))
     ∷ marked (finished signed (interpolated (a .b) (b .b) (pos w)))
     ∷ []
 
 -- entry i of the palette between them
-unfoldable pub entryOf : Bool → Colour → Colour → List ℕ → ℕ → List Half
-entryOf signed a b weights i = tripleOf signed a b (getD weights i 0)
+unfoldable pub paletteEntry : Bool → Colour → Colour → List ℕ → ℕ → List Half
+paletteEntry signed a b weights i = blendOf signed a b (getD weights i 0)

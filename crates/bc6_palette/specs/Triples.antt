@@ -12,26 +12,26 @@ use Rattle.bc6_half.specs.declared.Half.{Half}
 use Rattle.bc6_half.specs.Halves.{marked}
 
 -- the values of pixel k: red, green, blue, each with whether it is minus infinity
-unfoldable pub tripleAt : List ℕ → ℕ → List Half
-tripleAt values k = marked (getD values (3 * k) 0) ∷ marked (getD values (3 * k + 1) 0) ∷ marked (getD values (3 * k + 2) 0) ∷ []
+unfoldable pub markedTriple : List ℕ → ℕ → List Half
+markedTriple values k = marked (getD values (3 * k) 0) ∷ marked (getD values (3 * k + 1) 0) ∷ marked (getD values (3 * k + 2) 0) ∷ []
 
 -- the values, three by three
 unfoldable pub inTriples : List ℕ → List (List Half)
-inTriples values = made (tripleAt values) 16
+inTriples values = made (markedTriple values) 16
 
 abbrev pub noHalf : Half
 noHalf = record { pattern = 0; infinite = false }
 
 -- value j is channel j mod 3 of pixel j div 3
-unfoldable pub halfAt : List (List Half) → ℕ → Half
-halfAt triples j = getD (getD triples (j / 3) []) (j % 3) noHalf
+unfoldable pub tripleHalf : List (List Half) → ℕ → Half
+tripleHalf triples j = getD (getD triples (j / 3) []) (j % 3) noHalf
 
-unfoldable pub valueAt : List (List Half) → ℕ → ℕ
-valueAt triples j = halfAt triples j .pattern
+unfoldable pub tripleValue : List (List Half) → ℕ → ℕ
+tripleValue triples j = tripleHalf triples j .pattern
 
 -- the triples' values, one after the other
 unfoldable pub flat : List (List Half) → List ℕ
-flat triples = made (valueAt triples) valueCount
+flat triples = made (tripleValue triples) valueCount
 
 -- each of the sixteen indices is below n
 abbrev pub IndicesBelow : ℕ → List ℕ → Type 0

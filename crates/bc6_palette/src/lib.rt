@@ -27,7 +27,7 @@ ghost use Rattle.bcn_spec.specs.Weights.{weights8, weights16};
 ghost use Rattle.bc6h_spec.specs.Picture.{pictureAs, picture};
 ghost use Rattle.bc6_half.specs.Halves.{marked};
 ghost use Rattle.bc6_colour.specs.Colours.{unquantizedOf, OfBits};
-ghost use Rattle.bc6_palette.specs.Palettes.{tripleOf, entryOf};
+ghost use Rattle.bc6_palette.specs.Palettes.{blendOf, paletteEntry};
 ghost use Rattle.bc6_palette.specs.Triples.{IndicesBelow, onePixel, twoPixel, flat, inTriples};
 ghost use Rattle.bc6_palette.specs.Call.{FieldsShown};
 
@@ -42,7 +42,7 @@ fn entry(a: i32, b: i32, w: u16, signed: bool) -> Half
 // The patterns at the weight w between two unquantised colours.
 fn between(a: Colour, b: Colour, w: u16, signed: bool) -> [Half; 3]
     requires { ⌜ (OfBits signed 16 a × OfBits signed 16 b) × (w ≤ 64) ⌝ }
-    ensures { λ r. ⌜ r ≡ tripleOf signed a b w ⌝ }
+    ensures { λ r. ⌜ r ≡ blendOf signed a b w ⌝ }
 {
     let red = entry(a.r, b.r, w, signed);
     let green = entry(a.g, b.g, w, signed);
@@ -58,7 +58,7 @@ pub fn generate_palette_unquantized_one(
     signed: bool,
 ) -> [[Half; 3]; 16]
     requires { ⌜ (0 < prec) × (prec ≤ 16) × (OfBits signed prec c1 × OfBits signed prec c2) ⌝ }
-    ensures { λ r. ⌜ r ≡ made (entryOf signed (unquantizedOf signed prec c1) (unquantizedOf signed prec c2) weights16) 16 ⌝ }
+    ensures { λ r. ⌜ r ≡ made (paletteEntry signed (unquantizedOf signed prec c1) (unquantizedOf signed prec c2) weights16) 16 ⌝ }
 {
     let a = c1.unquantize(prec, signed);
     let b = c2.unquantize(prec, signed);
@@ -78,7 +78,7 @@ pub fn generate_palette_unquantized_two(
     signed: bool,
 ) -> [[Half; 3]; 8]
     requires { ⌜ (0 < prec) × (prec ≤ 16) × (OfBits signed prec c1 × OfBits signed prec c2) ⌝ }
-    ensures { λ r. ⌜ r ≡ made (entryOf signed (unquantizedOf signed prec c1) (unquantizedOf signed prec c2) weights8) 8 ⌝ }
+    ensures { λ r. ⌜ r ≡ made (paletteEntry signed (unquantizedOf signed prec c1) (unquantizedOf signed prec c2) weights8) 8 ⌝ }
 {
     let a = c1.unquantize(prec, signed);
     let b = c2.unquantize(prec, signed);

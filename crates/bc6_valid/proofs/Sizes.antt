@@ -23,32 +23,32 @@ use Rattle.bc6h_spec.proofs.Partitions.{counted-one}
 use Rattle.bcn_data.specs.declared.Subset2Map.{Subset2Map}
 use Rattle.bcn_data.specs.Subsets.{subset2}
 use Rattle.bc6_mode.specs.declared.ModeBits.{ModeBits}
-use Rattle.bc6_mode.specs.Modes.{bitsOf}
-use Rattle.bc6_valid.specs.Sizes.{secondFixup, sizeAt}
+use Rattle.bc6_mode.specs.Modes.{bitsFor}
+use Rattle.bc6_valid.specs.Sizes.{secondFixup, indexSize}
 
 pub below-power : (value bits : ℕ) → bits ≤ 16 → ltb value (1 * 2 ^ bits % 2 ^ 32) ≡ ltb value (2 ^ bits)
 below-power value bits h = ap (ltb value) (shl-exact {a = 1} 1 bits 32 (lit< tt) (omega arith) ∙ one-mul (2 ^ bits))
 
 -- ---- the places
 
-module _ (mode : ℕ) {bits : ModeBits} (e : bits ≡ bitsOf mode) where
+module _ (mode : ℕ) {bits : ModeBits} (e : bits ≡ bitsFor mode) where
   pub own-red : (channel : ℕ) → channel ≡ 0 → bits .r ≡ ownWidth mode channel
-  unfolding bitsOf
+  unfolding bitsFor
   own-red channel z = rw z (ap (λ (b : ModeBits). b .r) e)
 
   pub own-green : (channel : ℕ) → channel ≡ 1 → bits .g ≡ ownWidth mode channel
-  unfolding bitsOf
+  unfolding bitsFor
   own-green channel z = rw z (ap (λ (b : ModeBits). b .g) e)
 
   pub own-blue : (channel : ℕ) → channel < 3 → (channel ≡ 0 → ⊥) → (channel ≡ 1 → ⊥) → bits .b ≡ ownWidth mode channel
-  unfolding bitsOf
+  unfolding bitsFor
   own-blue channel h n o =
       let z : channel ≡ 2 = omega arith in
       rw z (ap (λ (b : ModeBits). b .b) e)
 
   module _ (place : ℕ) where
     pub first-width : place < 3 → bits .a0 ≡ width mode place
-    unfolding width bitsOf
+    unfolding width bitsFor
     first-width h = rw (lt-ltb place 3 h) (ap (λ (b : ModeBits). b .a0) e)
 
 module _ (mode place : ℕ) (h : 3 ≤ place) where
@@ -110,28 +110,28 @@ pub bits-range : (mode : ℕ) → (1 ≤ indexBits mode) × (indexBits mode ≤ 
 bits-range mode = picks (twoRegions mode) 3 4 (λ (n : ℕ). (1 ≤ n) × (n ≤ 4)) (λ _. (lit≤ tt, lit≤ tt)) (λ _. (lit≤ tt, lit≤ tt))
 
 module _ (mode fixup pixel : ℕ) {bits : ℕ} (e : bits ≡ indexBits mode) where
-  pub size-first : pixel ≡ 0 → bits - 1 ≡ sizeAt mode fixup pixel
-  unfolding sizeAt
+  pub size-first : pixel ≡ 0 → bits - 1 ≡ indexSize mode fixup pixel
+  unfolding indexSize
   size-first z = rw (eq-eqb pixel 0 z) (ap (λ (w : ℕ). w - 1) e)
 
   module _ (n : pixel ≡ 0 → ⊥) where
-    pub size-fixup : pixel ≡ fixup → bits - 1 ≡ sizeAt mode fixup pixel
-    unfolding sizeAt
+    pub size-fixup : pixel ≡ fixup → bits - 1 ≡ indexSize mode fixup pixel
+    unfolding indexSize
     size-fixup q = rw (ne-eqb pixel 0 n, eq-eqb pixel fixup q) (ap (λ (w : ℕ). w - 1) e)
 
-    pub size-other : (pixel ≡ fixup → ⊥) → bits ≡ sizeAt mode fixup pixel
-    unfolding sizeAt
+    pub size-other : (pixel ≡ fixup → ⊥) → bits ≡ indexSize mode fixup pixel
+    unfolding indexSize
     size-other q = rw (ne-eqb pixel 0 n, ne-eqb pixel fixup q) e
 
-pub size-le : (mode fixup pixel : ℕ) → sizeAt mode fixup pixel ≤ 4
-unfolding sizeAt
+pub size-le : (mode fixup pixel : ℕ) → indexSize mode fixup pixel ≤ 4
+unfolding indexSize
 size-le mode fixup pixel =
     let w = indexBits mode in
     let k = picks (either (eqb pixel 0) (eqb pixel fixup)) (w - 1) w (λ (n : ℕ). n ≤ w) (λ _. omega arith) (λ _. le-refl w) in
     let h = bits-range mode .1 in
     omega arith
 
-pub size-narrow : (mode fixup pixel : ℕ) {w : ℕ} → w ≡ sizeAt mode fixup pixel → w ≤ 16
+pub size-narrow : (mode fixup pixel : ℕ) {w : ℕ} → w ≡ indexSize mode fixup pixel → w ≤ 16
 size-narrow mode fixup pixel e = let h = size-le mode fixup pixel in omega (arith, e)
 
 has-two : (a b : Bool) → either a (either b false) ≡ either a b
@@ -149,6 +149,6 @@ stored-case true partition pixel w = ap (λ (b : Bool). pick b (w - 1) w) (has-t
 stored-case false partition pixel w = ap (λ (b : Bool). pick b (w - 1) w) (has-one (eqb pixel 0))
 
 -- what the code works out is what is stored
-pub stored-size : (mode partition pixel : ℕ) → storedBits (indexBits mode) (fixups mode partition) pixel ≡ sizeAt mode (secondFixup mode partition) pixel
-unfolding sizeAt secondFixup
+pub stored-size : (mode partition pixel : ℕ) → storedBits (indexBits mode) (fixups mode partition) pixel ≡ indexSize mode (secondFixup mode partition) pixel
+unfolding indexSize secondFixup
 stored-size mode partition pixel = stored-case (twoRegions mode) partition pixel (indexBits mode)

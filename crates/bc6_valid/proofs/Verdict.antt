@@ -14,7 +14,7 @@ use Rattle.bc6h_spec.specs.Regions.{region1Of}
 use Rattle.bc6h_spec.specs.Fields.{indexOf, Valid}
 use Rattle.bc6h_spec.proofs.Modes.{partition-width}
 use Rattle.bc6_valid.specs.Validity.{endpointFits, indexFits, valid}
-use Rattle.bc6_valid.specs.Sizes.{secondFixup, sizeAt}
+use Rattle.bc6_valid.specs.Sizes.{secondFixup, indexSize}
 use Rattle.laws.proofs.Below.{below-all}
 use Rattle.bc6_valid.proofs.Sizes.{stored-size}
 use Rattle.bc6_valid.proofs.Validity.{sound, each-end, part-fits}
@@ -26,12 +26,12 @@ module _ (f : Fields) where
   unfolding endpointFits
   end-tested place e q = q ∙ ap (λ (w : ℕ). ltb (getD (f .endpoints) place 0) (2 ^ w)) e
 
-  pub index-tested : (pixel : ℕ) {fixup w : ℕ} {r : Bool} → fixup ≡ secondFixup (f .mode) (f .partition) → w ≡ sizeAt (f .mode) fixup pixel
+  pub index-tested : (pixel : ℕ) {fixup w : ℕ} {r : Bool} → fixup ≡ secondFixup (f .mode) (f .partition) → w ≡ indexSize (f .mode) fixup pixel
       → r ≡ ltb (indexOf f pixel) (2 ^ w) → r ≡ indexFits f pixel
   unfolding indexFits
   index-tested pixel g e q =
       q ∙ ap (λ (w : ℕ). ltb (indexOf f pixel) (2 ^ w))
-      (e ∙ ap (λ (x : ℕ). sizeAt (f .mode) x pixel) g ∙ sym (stored-size (f .mode) (f .partition) pixel))
+      (e ∙ ap (λ (x : ℕ). indexSize (f .mode) x pixel) g ∙ sym (stored-size (f .mode) (f .partition) pixel))
 
   -- ---- the record
 

@@ -11,5 +11,5 @@ unfoldable pub secondFixup : ℕ → ℕ → ℕ
 secondFixup mode partition = pick (twoRegions mode) (fixupOf partition) 0
 
 -- how many bits of a pixel's index are stored, by the second fix-up pixel
-unfoldable pub sizeAt : ℕ → ℕ → ℕ → ℕ
-sizeAt mode fixup pixel = pick (either (eqb pixel 0) (eqb pixel fixup)) (indexBits mode - 1) (indexBits mode)
+unfoldable pub indexSize : ℕ → ℕ → ℕ → ℕ
+indexSize mode fixup pixel = pick (either (eqb pixel 0) (eqb pixel fixup)) (indexBits mode - 1) (indexBits mode)

@@ -9,9 +9,9 @@ ghost use Rattle.laws.specs.Every.{below};
 ghost use Rattle.bc6h_spec.specs.Layout.{ownWidth, width};
 ghost use Rattle.bc6h_spec.specs.Regions.{region1Of};
 ghost use Rattle.bc6h_spec.specs.Fields.{indexBits};
-ghost use Rattle.bc6_mode.specs.Modes.{bitsOf};
+ghost use Rattle.bc6_mode.specs.Modes.{bitsFor};
 ghost use Rattle.bc6_valid.specs.Validity.{endpointFits, indexFits, valid};
-ghost use Rattle.bc6_valid.specs.Sizes.{secondFixup, sizeAt};
+ghost use Rattle.bc6_valid.specs.Sizes.{secondFixup, indexSize};
 
 fn fits(value: u16, bits: u8) -> bool
     requires { ⌜ bits ≤ 16 ⌝ }
@@ -22,7 +22,7 @@ fn fits(value: u16, bits: u8) -> bool
 
 // How many bits a channel has in the endpoints after the first.
 fn own_bits(mode: u8, bits: ModeBits, channel: usize) -> u8
-    requires { ⌜ (bits ≡ bitsOf mode) × (channel < 3) ⌝ }
+    requires { ⌜ (bits ≡ bitsFor mode) × (channel < 3) ⌝ }
     ensures { λ r. ⌜ r ≡ ownWidth mode channel ⌝ }
 {
     match channel {
@@ -34,7 +34,7 @@ fn own_bits(mode: u8, bits: ModeBits, channel: usize) -> u8
 
 // How many bits an endpoint's value has.
 fn place_bits(mode: u8, bits: ModeBits, place: usize) -> u8
-    requires { ⌜ (bits ≡ bitsOf mode) × (place < 12) ⌝ }
+    requires { ⌜ (bits ≡ bitsFor mode) × (place < 12) ⌝ }
     ensures { λ r. ⌜ r ≡ width mode place ⌝ }
 {
     if place < 3 {
@@ -106,7 +106,7 @@ fn index_bits(mode: u8) -> u8
 
 // How many bits of a pixel's index are stored.
 pub fn stored_bits(mode: u8, fixup: usize, pixel: usize) -> u8
-    ensures { λ r. ⌜ r ≡ sizeAt mode fixup pixel ⌝ }
+    ensures { λ r. ⌜ r ≡ indexSize mode fixup pixel ⌝ }
 {
     let bits = index_bits(mode);
     if pixel == 0 {

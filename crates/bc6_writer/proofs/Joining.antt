@@ -13,18 +13,18 @@ use Rattle.bc6h_spec.specs.declared.Fields.{Fields}
 use Rattle.bc6h_spec.specs.Layout.{row, tableBits}
 use Rattle.bc6h_spec.specs.Fields.{indexOf, Valid}
 use Rattle.bcn_spec.specs.Bits.{bytesOf}
-use Rattle.bc6h_spec.specs.Writer.{scattered, placed, numberFrom}
+use Rattle.bc6h_spec.specs.Writer.{scattered, atPlace, numberFrom}
 use Rattle.bc6h_spec.proofs.Once.{row-once}
 use Rattle.bc6h_spec.proofs.Gather.{scattered-lt}
 use Rattle.bc6h_spec.proofs.Undo.{bits-128}
 use Rattle.bc6_fields.specs.Places.{entry}
-use Rattle.bc6_writer.specs.Parts.{storedSize, byteAt}
+use Rattle.bc6_writer.specs.Parts.{storedSize, numberByte}
 use Rattle.bc6_writer.proofs.Scattering.{bits-range, of-record}
 use Rattle.bc6_writer.proofs.Packing.{whole-lt}
 
 -- ---- the words
 
-module _ (f : Fields) (v : Valid f) {places : List ℕ} (ep : places ≡ made (placed f) 14) (lo hi bits t : ℕ)
+module _ (f : Fields) (v : Valid f) {places : List ℕ} (ep : places ≡ made (atPlace f) 14) (lo hi bits t : ℕ)
     (en : lo + 2 ^ 64 * hi ≡ scattered (row (f .mode)) (entry places)) (eb : bits ≡ packed (storedSize f) (indexOf f) 16)
     (et : t ≡ tableBits (f .mode)) where
   abbrev above : ℕ
@@ -33,14 +33,14 @@ module _ (f : Fields) (v : Valid f) {places : List ℕ} (ep : places ≡ made (p
   split : t ≡ above + 64
   split = let b = bits-range (f .mode) .0 in omega arith
 
-  words-are : lo + 2 ^ 64 * hi ≡ scattered (row (f .mode)) (placed f)
+  words-are : lo + 2 ^ 64 * hi ≡ scattered (row (f .mode)) (atPlace f)
   words-are = en ∙ of-record (f .mode) (v .mode-first) (v .mode-last) f ep
 
   low-lt : lo + 2 ^ 64 * hi < 2 ^ (above + 64)
   low-lt =
       subst (λ (x : ℕ). lo + 2 ^ 64 * hi < 2 ^ x) (sym (sym split ∙ et))
       (subst (λ (x : ℕ). x < 2 ^ tableBits (f .mode)) (sym words-are)
-      (subst (λ (x : ℕ). scattered (row (f .mode)) (placed f) < 2 ^ x) (row-once (f .mode) (v .mode-first) (v .mode-last) .size) (scattered-lt (row (f .mode)) (placed f))))
+      (subst (λ (x : ℕ). scattered (row (f .mode)) (atPlace f) < 2 ^ x) (row-once (f .mode) (v .mode-first) (v .mode-last) .size) (scattered-lt (row (f .mode)) (atPlace f))))
 
   pub above-lt : above < 64
   above-lt = let b = bits-range (f .mode) .1 in omega arith
@@ -77,8 +77,8 @@ module _ (f : Fields) (v : Valid f) {places : List ℕ} (ep : places ≡ made (p
 -- ---- the bytes
 
 module _ (lo hi k : ℕ) where
-  pub byte-low : k < 8 → lo / 2 ^ (8 * k) % 256 ≡ byteAt (lo + 2 ^ 64 * hi) k
-  unfolding byteAt
+  pub byte-low : k < 8 → lo / 2 ^ (8 * k) % 256 ≡ numberByte (lo + 2 ^ 64 * hi) k
+  unfolding numberByte
   byte-low h =
       let e : 8 * k + (8 + (56 - 8 * k)) ≡ 64 = omega arith in
       let p : 2 ^ 64 ≡ 2 ^ (8 * k) * (256 * 2 ^ (56 - 8 * k)) =
@@ -90,8 +90,8 @@ module _ (lo hi k : ℕ) where
       ∙ ap (λ (x : ℕ). x % 256) (add-mul-div-left lo (256 * (2 ^ (56 - 8 * k) * hi)) (pow-pos (8 * k)))
       ∙ add-mul-mod-self-left (lo / 2 ^ (8 * k)) 256 (2 ^ (56 - 8 * k) * hi))
 
-  pub byte-high : lo < 2 ^ 64 → 8 ≤ k → hi / 2 ^ (8 * (k - 8)) % 256 ≡ byteAt (lo + 2 ^ 64 * hi) k
-  unfolding byteAt
+  pub byte-high : lo < 2 ^ 64 → 8 ≤ k → hi / 2 ^ (8 * (k - 8)) % 256 ≡ numberByte (lo + 2 ^ 64 * hi) k
+  unfolding numberByte
   byte-high h l =
       let e : 64 + 8 * (k - 8) ≡ 8 * k = omega arith in
       let q : (lo + 2 ^ 64 * hi) / 2 ^ 64 ≡ hi =
@@ -101,15 +101,15 @@ module _ (lo hi k : ℕ) where
       ∙ ap (λ (x : ℕ). x % 256) (sym (shr-shr (lo + 2 ^ 64 * hi) 64 (8 * (k - 8))))
       ∙ ap (λ (x : ℕ). x / 2 ^ (8 * (k - 8)) % 256) q)
 
-next-byte : (n k : ℕ) → byteAt n (suc k) ≡ byteAt (n / 256) k
-unfolding byteAt
+next-byte : (n k : ℕ) → numberByte n (suc k) ≡ numberByte (n / 256) k
+unfolding numberByte
 next-byte n k =
     let e : 8 * suc k ≡ 8 + 8 * k = omega arith in
     ap (λ (x : ℕ). n / 2 ^ x % 256) e ∙ ap (λ (x : ℕ). x % 256) (sym (shr-shr n 8 (8 * k)))
 
-pub bytes-made : (t n : ℕ) → made (byteAt n) t ≡ bytesOf t n
-unfolding made byteAt
+pub bytes-made : (t n : ℕ) → made (numberByte n) t ≡ bytesOf t n
+unfolding made numberByte
 bytes-made zero n = refl
 bytes-made (suc t) n =
-    made-front (byteAt n) t
+    made-front (numberByte n) t
     ∙ ap₂ (λ (x : ℕ) (l : List ℕ). x ∷ l) (let e : n / 1 % 256 ≡ n % 256 = omega arith in e) (made-cong _ _ (next-byte n) t ∙ bytes-made t (n / 256))

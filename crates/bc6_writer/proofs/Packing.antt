@@ -15,7 +15,7 @@ use Rattle.bc6h_spec.specs.declared.Fields.{Fields}
 use Rattle.bc6h_spec.specs.Layout.{tableBits}
 use Rattle.bc6h_spec.specs.Fields.{indexOf, Valid}
 use Rattle.bc6h_spec.proofs.Undo.{bits-128}
-use Rattle.bc6_valid.specs.Sizes.{secondFixup, sizeAt}
+use Rattle.bc6_valid.specs.Sizes.{secondFixup, indexSize}
 use Rattle.bc6_writer.specs.Parts.{storedSize}
 use Rattle.bc6_valid.proofs.Sizes.{stored-size}
 use Rattle.bc6_writer.proofs.Scattering.{bits-range}
@@ -77,9 +77,9 @@ module _ (f : Fields) (v : Valid f) where
         lt-of-lt-of-le (subst (λ (x : ℕ). x < 2 ^ before size (suc k)) (sym (so-sum ∙ ap (packed size (indexOf f)) (add-one k))) (packed-lt size (indexOf f) index-small (suc k)))
         (pow-mono (let q : before size (suc k) ≤ 64 = omega (arith, end) in q))
 
-    module _ {fixup w : ℕ} (ef : fixup ≡ secondFixup (f .mode) (f .partition)) (ew : w ≡ sizeAt (f .mode) fixup k) where
+    module _ {fixup w : ℕ} (ef : fixup ≡ secondFixup (f .mode) (f .partition)) (ew : w ≡ indexSize (f .mode) fixup k) where
       width-is : w ≡ size k
-      width-is = ew ∙ ap (λ (x : ℕ). sizeAt (f .mode) x k) ef ∙ sym (stored-size (f .mode) (f .partition) k)
+      width-is = ew ∙ ap (λ (x : ℕ). indexSize (f .mode) x k) ef ∙ sym (stored-size (f .mode) (f .partition) k)
 
       pub so-place : at + w < 2 ^ 64
       so-place = lt-of-lt-of-le (let q : at + w < 64 = omega (arith, s .place, width-is, next-place k, end) in q) (lit≤ tt)

@@ -18,7 +18,7 @@ use Rattle.laws.proofs.Rows.{getD-made}
 use Rattle.bc6h_spec.specs.declared.Fields.{Fields}
 use Rattle.bc6h_spec.specs.Layout.{row, table, rows, row1, row2, row3, row4, row5, row6, row7, row8, row9, row10, row11, row12, row13, row14, tableBits, rowStart, twoRegions}
 use Rattle.bc6h_spec.specs.Fields.{codeOf}
-use Rattle.bc6h_spec.specs.Writer.{scattered, placed}
+use Rattle.bc6h_spec.specs.Writer.{scattered, atPlace}
 use Rattle.bc6h_spec.proofs.Once.{row-once, in-table, in-range}
 use Rattle.bc6h_spec.proofs.Gather.{scattered-lt}
 use Rattle.bc6_fields.specs.Places.{entry}
@@ -48,16 +48,16 @@ module _ (mode : ℕ) (low : 1 ≤ mode) (high : mode ≤ 14) where
     code-last k = sym (rw (lt-leb mode 2 h, lt-leb mode 10 k) refl) ∙ coded
 
 module _ (f : Fields) (place : ℕ) where
-  pub at-mode : {r : ℕ} → place ≡ 12 → r ≡ codeOf (f .mode) → r ≡ placed f place
-  unfolding placed
+  pub at-mode : {r : ℕ} → place ≡ 12 → r ≡ codeOf (f .mode) → r ≡ atPlace f place
+  unfolding atPlace
   at-mode e q = rw (eq-eqb place 12 e) q
 
-  pub at-partition : place ≡ 13 → f .partition ≡ placed f place
-  unfolding placed
+  pub at-partition : place ≡ 13 → f .partition ≡ atPlace f place
+  unfolding atPlace
   at-partition e = rw e refl
 
-  pub at-endpoint : (place ≡ 12 → ⊥) → (place ≡ 13 → ⊥) → getD (f .endpoints) place 0 ≡ placed f place
-  unfolding placed
+  pub at-endpoint : (place ≡ 12 → ⊥) → (place ≡ 13 → ⊥) → getD (f .endpoints) place 0 ≡ atPlace f place
+  unfolding atPlace
   at-endpoint e d = rw (ne-eqb place 12 e, ne-eqb place 13 d) refl
 
 -- ---- code by code, from the last
@@ -185,8 +185,8 @@ module _ (m : ℕ) (low : 1 ≤ m) (high : m ≤ 14) where
       ∙ sym (scattered-split 64 (row m) f (omega (arith, size)))
 
   -- the numbers at the places are the record's
-  pub of-record : (f : Fields) {places : List ℕ} → places ≡ made (placed f) 14 → scattered (row m) (entry places) ≡ scattered (row m) (placed f)
+  pub of-record : (f : Fields) {places : List ℕ} → places ≡ made (atPlace f) 14 → scattered (row m) (entry places) ≡ scattered (row m) (atPlace f)
   unfolding entry
   of-record f {places} e =
-      scattered-cong (row m) (entry places) (placed f)
-      (λ k h. ap (λ (l : List ℕ). getD l (getD (row m) k 0 / 16) 0) e ∙ getD-made (placed f) 14 (getD (row m) k 0 / 16) 0 (in-row k h))
+      scattered-cong (row m) (entry places) (atPlace f)
+      (λ k h. ap (λ (l : List ℕ). getD l (getD (row m) k 0 / 16) 0) e ∙ getD-made (atPlace f) 14 (getD (row m) k 0 / 16) 0 (in-row k h))

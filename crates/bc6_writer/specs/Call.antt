@@ -2,10 +2,10 @@
 use mathlib.Core.Path.{_≡_}
 use mathlib.Core.Bool.{not}
 use mathlib.Core.List.{List, [], _∷_}
-use Prim.Native.Nat.{ℕ, zero, suc}
+use Prim.Native.Nat.{ℕ}
 use lib.Dec.{eqb, ltb}
 use lib.ListN.{length}
-use Rattle.laws.specs.Checks.{firstMet}
+use Rattle.laws.specs.Checks.{firstMet, ifDone}
 use Rattle.bc6h_spec.specs.declared.Fields.{Fields}
 use Rattle.bcn_spec.specs.Answers.{badFormat, invalidFields, badBuffer}
 use Rattle.bcn_spec.specs.Bits.{blockSize}
@@ -19,8 +19,7 @@ refusalOf f room =
 
 -- S-30: done writes the block; a refusal writes nothing.
 abbrev pub bytesAt : ℕ → Fields → List ℕ → List ℕ
-bytesAt zero f lent = writtenBlock f
-bytesAt (suc n) f lent = lent
+bytesAt number f lent = ifDone number (writtenBlock f) lent
 
 -- S-36: the whole outcome of the call
 pub record BlockWritten (f : Fields) (lent : List ℕ) (r : ℕ) (after : List ℕ) : Type 0 where

@@ -15,5 +15,5 @@ abbrev pub storedSize : Fields → ℕ → ℕ
 storedSize f = storedBits (indexBits (f .mode)) (fixups (f .mode) (f .partition))
 
 -- byte k of a number, little end first
-unfoldable pub byteAt : ℕ → ℕ → ℕ
-byteAt n k = n / 2 ^ (8 * k) % 256
+unfoldable pub numberByte : ℕ → ℕ → ℕ
+numberByte n k = n / 2 ^ (8 * k) % 256

@@ -15,10 +15,10 @@ ghost use Rattle.laws.specs.Packed.{packed};
 ghost use Rattle.bc6h_spec.specs.Layout.{row};
 ghost use Rattle.bc6h_spec.specs.Fields.{codeOf, indexOf, Valid};
 ghost use Rattle.bcn_spec.specs.Bits.{bytesOf};
-ghost use Rattle.bc6h_spec.specs.Writer.{scattered, placed, numberFrom};
+ghost use Rattle.bc6h_spec.specs.Writer.{scattered, atPlace, numberFrom};
 ghost use Rattle.bc6_fields.specs.Places.{entry};
 ghost use Rattle.bcn_util.specs.Stream.{number};
-ghost use Rattle.bc6_writer.specs.Parts.{InPlaces, storedSize, byteAt};
+ghost use Rattle.bc6_writer.specs.Parts.{InPlaces, storedSize, numberByte};
 ghost use Rattle.bc6_writer.specs.Call.{BlockWritten};
 
 // ---- the bits before the indices
@@ -40,7 +40,7 @@ fn mode_code(mode: u8) -> u16
 // The number at a place of the table: an endpoint's value, the mode's bits, the partition.
 fn place_value(fields: Fields, place: usize) -> u16
     requires { ⌜ (1 ≤ fields .mode) × (fields .mode ≤ 14) × (place < 14) ⌝ }
-    ensures { λ r. ⌜ r ≡ placed fields place ⌝ }
+    ensures { λ r. ⌜ r ≡ atPlace fields place ⌝ }
 {
     if place == 12 {
         return mode_code(fields.mode);
@@ -54,7 +54,7 @@ fn place_value(fields: Fields, place: usize) -> u16
 
 fn places_of(fields: Fields) -> [u16; 14]
     requires { ⌜ (1 ≤ fields .mode) × (fields .mode ≤ 14) ⌝ }
-    ensures { λ r. ⌜ r ≡ made (placed fields) 14 ⌝ }
+    ensures { λ r. ⌜ r ≡ made (atPlace fields) 14 ⌝ }
 {
     let mut places = [0u16; 14];
     for place in 0..14usize {
@@ -132,7 +132,7 @@ fn block_words(fields: Fields) -> BitStream
 
 fn byte_of(words: BitStream, k: usize) -> u8
     requires { ⌜ k < 16 ⌝ }
-    ensures { λ r. ⌜ r ≡ byteAt (number words) k ⌝ }
+    ensures { λ r. ⌜ r ≡ numberByte (number words) k ⌝ }
 {
     let lo = words.lo;
     let hi = words.hi;

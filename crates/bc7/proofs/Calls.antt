@@ -7,7 +7,7 @@ use borrow.Author.Tests.{lt-ltb, le-ltb, eq-eqb, ne-eqb}
 use Rattle.bcn_spec.specs.Answers.{done, blockNot16, shortOutput}
 use Rattle.bcn_spec.specs.Bits.{blockSize, numberOf}
 use Rattle.bc7_spec.specs.Fields.{modeIn, modeOf}
-use Rattle.bc7_spec.specs.Block.{byteCount, bytesOf}
+use Rattle.bc7_spec.specs.Block.{byteCount, colourBytes}
 use Rattle.bc7_picture.specs.Shown.{shownOf}
 use Rattle.bc7.specs.declared.Bc7Pixels.{Bc7Pixels}
 use Rattle.bc7.specs.Call.{refusalOf, answerAt, Painted}
@@ -45,7 +45,7 @@ module _ {block out : List ℕ} {r : Bc7Pixels} {after : List ℕ} (p : Painted 
   pub mode-told : refusalOf (length block) (length out) ≡ done → r .mode ≡ modeOf block
   mode-told z = ap (λ (x : Bc7Pixels). x .mode) (p .answers) ∙ rw z refl
 
-  pub written : refusalOf (length block) (length out) ≡ done → after ≡ bytesOf block ++ drop byteCount out
+  pub written : refusalOf (length block) (length out) ≡ done → after ≡ colourBytes block ++ drop byteCount out
   written z = rw z at (p .holds)
 
   -- where a check is met, nothing is written
@@ -66,7 +66,7 @@ module _ (block out : List ℕ) where
 
   pub painted-done : (n mode : ℕ) (after : List ℕ) → length block ≡ blockSize → byteCount ≤ length out → n ≡ numberOf block → mode ≡ modeIn n
       → after ≡ shownOf n ++ drop byteCount out → Painted block out (record { answer = done; mode = mode }) after
-  unfolding shownOf modeOf bytesOf
+  unfolding shownOf modeOf colourBytes
   painted-done n mode after s h en em ea =
       let z : refusalOf (length block) (length out) ≡ done = done-when (length block) (length out) s h in
       record {

@@ -14,7 +14,7 @@ use Rattle.bc7_spec.specs.Modes.{modes, modeAt}
 use Rattle.bc7_spec.specs.Layout.{runBits, runIn}
 use Rattle.bc7_spec.specs.Fields.{modeIn, modeOf, partitionIn, rotationIn, selectionIn, storedIn, pbitIn, firstIndexIn, secondIndexIn}
 use Rattle.bc7_spec.specs.Bytes.{lowered, widened, weightOf, bySecond, between, turned}
-use Rattle.bc7_spec.specs.Block.{endIn, weightIn, valueIn, byteIn, byteCount, bytesOf}
+use Rattle.bc7_spec.specs.Block.{endIn, weightIn, valueIn, byteIn, byteCount, colourBytes}
 use Rattle.bc7_spec.proofs.Blocks.{C9}
 use Rattle.bc7_spec.proofs.Lengths.{length-bytes}
 use Rattle.bc7.specs.declared.Bc7Pixels.{Bc7Pixels}
@@ -23,10 +23,10 @@ use Rattle.bc7.proofs.Calls.{done-when, answered, written}
 
 -- ---- what a block shows: red of the first pixel and of the last
 
-C9-red : (getD (bytesOf C9) 0 0 ≡ 0) × (getD (bytesOf C9) 60 0 ≡ 255)
+C9-red : (getD (colourBytes C9) 0 0 ≡ 0) × (getD (colourBytes C9) 60 0 ≡ 255)
 unfolding made firstBelow before unpacked partitionSet3 rowRegion fixupsOf modes modeAt runBits runIn
     modeIn modeOf partitionIn rotationIn selectionIn storedIn pbitIn firstIndexIn secondIndexIn
-    lowered widened weightOf bySecond between turned endIn weightIn valueIn byteIn bytesOf
+    lowered widened weightOf bySecond between turned endIn weightIn valueIn byteIn colourBytes
 C9-red = (refl, refl)
 
 -- ---- a decoder: what it answers, and what it leaves in the lent bytes
@@ -53,10 +53,10 @@ module _ (answers : Answers) (leaves : Leaves) (keeps : Keeps answers leaves) wh
   pub not-all-refused : ((block out : List ℕ) → answers block out .answer ≡ done → ⊥) → ⊥
   not-all-refused refuses = refuses C9 room (answered (keeps C9 room) ∙ is-done)
 
-  left : (j : ℕ) → j < 64 → getD (leaves C9 room) j 0 ≡ getD (bytesOf C9) j 0
+  left : (j : ℕ) → j < 64 → getD (leaves C9 room) j 0 ≡ getD (colourBytes C9) j 0
   left j l =
       ap (λ (t : List ℕ). getD t j 0) (written (keeps C9 room) is-done)
-      ∙ List·getD-append (bytesOf C9) (drop byteCount room) 0 j (rw (length-bytes C9) l)
+      ∙ List·getD-append (colourBytes C9) (drop byteCount room) 0 j (rw (length-bytes C9) l)
 
   -- one that paints every block black
   pub not-all-black : ((block out : List ℕ) → leaves block out ≡ replicate byteCount 0 ++ drop byteCount out) → ⊥

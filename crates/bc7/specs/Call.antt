@@ -5,11 +5,11 @@ use mathlib.Core.List.{List, [], _∷_, _++_}
 use Prim.Native.Nat.{ℕ, zero, suc}
 use lib.Dec.{eqb, ltb}
 use lib.ListN.{length, drop}
-use Rattle.laws.specs.Checks.{firstMet}
+use Rattle.laws.specs.Checks.{firstMet, ifDone}
 use Rattle.bcn_spec.specs.Answers.{done, blockNot16, shortOutput}
 use Rattle.bcn_spec.specs.Bits.{blockSize}
 use Rattle.bc7_spec.specs.Fields.{modeOf}
-use Rattle.bc7_spec.specs.Block.{byteCount, bytesOf}
+use Rattle.bc7_spec.specs.Block.{byteCount, colourBytes}
 use Rattle.bc7.specs.declared.Bc7Pixels.{Bc7Pixels}
 
 -- S-66: 2, then 3 for fewer than 64 bytes: the first check that is met, from the block's length and the room.
@@ -23,8 +23,7 @@ answerAt (suc n) block = record { answer = suc n; mode = 0 }
 
 -- S-30: done writes exactly the first 64 bytes; a refusal writes nothing.
 abbrev pub bytesAt : ℕ → List ℕ → List ℕ → List ℕ
-bytesAt zero block out = bytesOf block ++ drop byteCount out
-bytesAt (suc n) block out = out
+bytesAt number block out = ifDone number (colourBytes block ++ drop byteCount out) out
 
 -- S-66: the statement of the call: its answer r, and the lent bytes `after`.
 pub record Painted (block out : List ℕ) (r : Bc7Pixels) (after : List ℕ) : Type 0 where

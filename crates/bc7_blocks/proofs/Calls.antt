@@ -8,7 +8,7 @@ use borrow.Author.Tests.{lt-ltb, le-ltb, eq-eqb, ne-eqb}
 use Rattle.laws.proofs.Joined.{run-at}
 use Rattle.bcn_spec.specs.Answers.{done, shortOutput, unevenBlocks}
 use Rattle.bcn_spec.specs.Bits.{blocksIn, blockAt}
-use Rattle.bc7_spec.specs.Block.{byteCount, bytesOf}
+use Rattle.bc7_spec.specs.Block.{byteCount, colourBytes}
 use Rattle.bc7_spec.proofs.Lengths.{length-bytes}
 use Rattle.bc7.specs.declared.Bc7Pixels.{Bc7Pixels}
 use Rattle.bc7.specs.Call.{refusalOf, Painted}
@@ -43,7 +43,7 @@ each blocks n = length-bytes (blockAt blocks n)
 
 -- block by block: the bytes of block n
 pub block-by-block : {blocks out : List ℕ} {r : Bc7BlocksPixels} {after : List ℕ} → RunPainted blocks out r after
-    → runRefusal (length blocks) (length out) ≡ done → (n : ℕ) → n < blocksIn blocks → take 64 (drop (64 * n) after) ≡ bytesOf (blockAt blocks n)
+    → runRefusal (length blocks) (length out) ≡ done → (n : ℕ) → n < blocksIn blocks → take 64 (drop (64 * n) after) ≡ colourBytes (blockAt blocks n)
 unfolding shownAt
 block-by-block {blocks} {out} p z n h =
     ap (λ (t : List ℕ). take 64 (drop (64 * n) t)) (rw z at (p .holds))
@@ -55,7 +55,7 @@ pub in-turn : {blocks out lent : List ℕ} {r : Bc7BlocksPixels} {s : Bc7Pixels}
     → refusalOf (length (blockAt blocks n)) (length lent) ≡ done → take 64 (drop (64 * n) after) ≡ take 64 left
 in-turn {blocks} {lent = lent} p z n h q y =
     block-by-block p z n h
-    ∙ sym (ap (take 64) (written q y) ∙ take-at (bytesOf (blockAt blocks n)) (drop 64 lent) 64 (length-bytes (blockAt blocks n)))
+    ∙ sym (ap (take 64) (written q y) ∙ take-at (colourBytes (blockAt blocks n)) (drop 64 lent) 64 (length-bytes (blockAt blocks n)))
 
 -- ---- a turn of the loop: what the block call leaves in the part that it was lent
 
@@ -63,7 +63,7 @@ pub painted-part : (blocks part : List ℕ) (n size : ℕ) (r : Bc7Pixels) (afte
     → length (take size (drop (16 * n) blocks)) ≡ 16 → 64 ≤ length part → after ≡ shownAt blocks n ++ drop 64 part
 unfolding shownAt
 painted-part blocks part n size r after p e s h =
-    written p (done-when _ _ s h) ∙ ap (λ (k : ℕ). bytesOf (take k (drop (16 * n) blocks)) ++ drop 64 part) e
+    written p (done-when _ _ s h) ∙ ap (λ (k : ℕ). colourBytes (take k (drop (16 * n) blocks)) ++ drop 64 part) e
 
 -- ---- what each return shows
 

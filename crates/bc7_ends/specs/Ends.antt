@@ -12,7 +12,7 @@ use Rattle.bc7_spec.specs.Bytes.{widened, opaque}
 use Rattle.laws.specs.Ranges.{AllBelow}
 
 -- r is the number that `count` bits from bit `at` of n on make
-pub record Run (n at count r : ℕ) : Type 0 where
+pub record RunRead (n at count r : ℕ) : Type 0 where
   pub is : r ≡ n / 2 ^ at % 2 ^ count
   pub small : r < 2 ^ count
 

@@ -12,7 +12,7 @@ use Rattle.laws.specs.Pick.{pick}
 use Rattle.laws.specs.Bit.{bit}
 use Rattle.laws.specs.Made.{made}
 use Rattle.bc7_spec.specs.Bytes.{turned}
-use Rattle.bc7_paint.specs.Shades.{regionBy, shadeAt, channelAt, byteAt, turnedTo, soloAt}
+use Rattle.bc7_paint.specs.Shades.{regionBy, shadeAt, channelShade, shadeByte, turnedTo, soloAt}
 
 -- ---- between two bytes
 
@@ -100,15 +100,15 @@ Made f n l out = out ≡ made f n ++ drop n l
 module _ (ends : List ℕ) (ones twos rotation : ℕ) (colours alphas : List ℕ) (k : ℕ) where
   -- channel c of pixel k
   abbrev at : ℕ → ℕ
-  at = channelAt ends ones twos colours alphas k
+  at = channelShade ends ones twos colours alphas k
 
   -- byte 4 k + c
-  pub byte-of : (c : ℕ) → c < 4 → at (turned rotation c) ≡ byteAt ends ones twos rotation colours alphas (4 * k + c)
-  unfolding byteAt
+  pub byte-of : (c : ℕ) → c < 4 → at (turned rotation c) ≡ shadeByte ends ones twos rotation colours alphas (4 * k + c)
+  unfolding shadeByte
   byte-of c h =
       let d : (4 * k + c) / 4 ≡ k = omega arith in
       let m : (4 * k + c) % 4 ≡ c = omega arith in
-      sym (ap₂ (λ (p q : ℕ). channelAt ends ones twos colours alphas p (turned rotation q)) d m)
+      sym (ap₂ (λ (p q : ℕ). channelShade ends ones twos colours alphas p (turned rotation q)) d m)
 
 -- a block of one index set, from what `shade` answers and the tests of the two maps
 one-weight : (alpha : Bool) (w : ℕ) → w ≡ pick alpha w w
@@ -117,17 +117,17 @@ one-weight false w = refl
 
 module _ (ends : List ℕ) (ones twos : ℕ) (weights : List ℕ) (k : ℕ) where
   pub shown : (c i s : ℕ) (one two : Bool) → s ≡ shadeAt ends c (regionBy one two) (getD weights k 0) → one ≡ eqb (bit ones k) 1 → two ≡ eqb (bit twos k) 1
-      → c < 4 → 4 * k + c ≡ i → s ≡ byteAt ends ones twos 0 weights weights i
-  unfolding turned channelAt
+      → c < 4 → 4 * k + c ≡ i → s ≡ shadeByte ends ones twos 0 weights weights i
+  unfolding turned channelShade
   shown c i s one two e eo et h n =
       e ∙ ap₂ (λ (r w : ℕ). shadeAt ends c r w) (ap₂ regionBy eo et) (one-weight (eqb c 3) (getD weights k 0))
       ∙ byte-of ends ones twos 0 weights weights k c h
-      ∙ ap (byteAt ends ones twos 0 weights weights) n
+      ∙ ap (shadeByte ends ones twos 0 weights weights) n
 
 -- a block of one region
 pub solo-byte : (ends : List ℕ) (rotation : ℕ) (colours alphas : List ℕ) (k c : ℕ) → c < 4
-    → soloAt ends rotation (getD colours k 0) (getD alphas k 0) c ≡ byteAt ends 0 0 rotation colours alphas (4 * k + c)
-unfolding soloAt channelAt
+    → soloAt ends rotation (getD colours k 0) (getD alphas k 0) c ≡ shadeByte ends 0 0 rotation colours alphas (4 * k + c)
+unfolding soloAt channelShade
 solo-byte ends rotation colours alphas k c h =
     ap₂ (λ (one two : Bool). shadeAt ends (turned rotation c) (regionBy one two) (pick (eqb (turned rotation c) 3) (getD alphas k 0) (getD colours k 0))) (unmarked k) (unmarked k)
     ∙ byte-of ends 0 0 rotation colours alphas k c h

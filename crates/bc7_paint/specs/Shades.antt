@@ -26,12 +26,12 @@ abbrev pub weightAt : List ℕ → List ℕ → ℕ → ℕ → ℕ
 weightAt colours alphas k c = pick (eqb c 3) (getD alphas k 0) (getD colours k 0)
 
 -- S-71: channel c of pixel k, before rotation
-unfoldable pub channelAt : List ℕ → ℕ → ℕ → List ℕ → List ℕ → ℕ → ℕ → ℕ
-channelAt ends ones twos colours alphas k c = shadeAt ends c (regionAt ones twos k) (weightAt colours alphas k c)
+unfoldable pub channelShade : List ℕ → ℕ → ℕ → List ℕ → List ℕ → ℕ → ℕ → ℕ
+channelShade ends ones twos colours alphas k c = shadeAt ends c (regionAt ones twos k) (weightAt colours alphas k c)
 
 -- byte j
-unfoldable pub byteAt : List ℕ → ℕ → ℕ → ℕ → List ℕ → List ℕ → ℕ → ℕ
-byteAt ends ones twos rotation colours alphas j = channelAt ends ones twos colours alphas (j / 4) (turned rotation (j % 4))
+unfoldable pub shadeByte : List ℕ → ℕ → ℕ → ℕ → List ℕ → List ℕ → ℕ → ℕ
+shadeByte ends ones twos rotation colours alphas j = channelShade ends ones twos colours alphas (j / 4) (turned rotation (j % 4))
 
 -- what a painter is given
 pub record Paintable (ends colours alphas : List ℕ) (rotation : ℕ) (out : List ℕ) : Type 0 where

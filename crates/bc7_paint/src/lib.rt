@@ -11,7 +11,7 @@ ghost use Rattle.laws.specs.Bit.{bit};
 ghost use Rattle.laws.specs.Made.{made};
 ghost use Rattle.laws.specs.Ranges.{AllBelow};
 ghost use Rattle.bc7_spec.specs.Bytes as spec;
-ghost use Rattle.bc7_paint.specs.Shades.{regionBy, shadeAt, byteAt, turnedTo, soloAt, put, Paintable};
+ghost use Rattle.bc7_paint.specs.Shades.{regionBy, shadeAt, shadeByte, turnedTo, soloAt, put, Paintable};
 
 fn select(second: bool, a: u16, b: u16) -> u16
     ensures { λ r. ⌜ r ≡ pick second b a ⌝ }
@@ -67,7 +67,7 @@ fn fourth(rotation: u32, r: u8, g: u8, b: u8, a: u8) -> u8
 // vectors would go to the stack; of a turn it makes one vector, the eight bytes in the order in which they stand.)
 pub fn paint_regions(ends: [u16; 24], ones: u16, twos: u16, weights: [u16; 16], out: &mut [u8])
     requires { ⌜ Paintable ends weights weights 0 (now out) ⌝ }
-    ensures { λ _. ⌜ now (out .exit) ≡ made (byteAt ends ones twos 0 weights weights) 64 ++ drop 64 (now (out .entry)) ⌝ }
+    ensures { λ _. ⌜ now (out .exit) ≡ made (shadeByte ends ones twos 0 weights weights) 64 ++ drop 64 (now (out .entry)) ⌝ }
 {
     let mut ones_left = ones;
     let mut twos_left = twos;
@@ -120,7 +120,7 @@ pub fn paint_one(
     out: &mut [u8],
 )
     requires { ⌜ Paintable ends colours alphas rotation (now out) ⌝ }
-    ensures { λ _. ⌜ now (out .exit) ≡ made (byteAt ends 0 0 rotation colours alphas) 64 ++ drop 64 (now (out .entry)) ⌝ }
+    ensures { λ _. ⌜ now (out .exit) ≡ made (shadeByte ends 0 0 rotation colours alphas) 64 ++ drop 64 (now (out .entry)) ⌝ }
 {
     for k in 0..8usize {
         paint_pixel(ends, rotation, colours[k], alphas[k], k, out);

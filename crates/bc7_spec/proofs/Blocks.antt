@@ -14,7 +14,7 @@ use Rattle.bc7_spec.specs.Modes.{modes, modeAt}
 use Rattle.bc7_spec.specs.Layout.{runBits, runIn}
 use Rattle.bc7_spec.specs.Fields.{modeIn, modeOf, partitionIn, rotationIn, selectionIn, storedIn, pbitIn, firstIndexIn, secondIndexIn}
 use Rattle.bc7_spec.specs.Bytes.{lowered, widened, weightOf, bySecond, between, turned}
-use Rattle.bc7_spec.specs.Block.{endIn, weightIn, valueIn, byteIn, bytesOf}
+use Rattle.bc7_spec.specs.Block.{endIn, weightIn, valueIn, byteIn, colourBytes}
 
 -- a row: the block's bytes, the mode, and the sixteen pixels, each as RRGGBBAA
 record Row : Type 0 where
@@ -87,11 +87,11 @@ quads (p ∷ ps) = p / 0x1000000 ∷ p / 0x10000 % 0x100 ∷ p / 0x100 % 0x100 �
 
 -- the block has this mode and shows this picture
 abbrev shows : Row → Bool
-shows r = both (eqb (modeOf (r .bytes)) (r .mode)) (same (bytesOf (r .bytes)) (quads (r .pixels)))
+shows r = both (eqb (modeOf (r .bytes)) (r .mode)) (same (colourBytes (r .bytes)) (quads (r .pixels)))
 
 -- S-72: every block of the table shows its row.
 all-blocks : T (every shows blocks)
 unfolding made firstBelow before unpacked partitionSet3 rowRegion fixupsOf modes modeAt runBits runIn
     modeIn modeOf partitionIn rotationIn selectionIn storedIn pbitIn firstIndexIn secondIndexIn
-    lowered widened weightOf bySecond between turned endIn weightIn valueIn byteIn bytesOf
+    lowered widened weightOf bySecond between turned endIn weightIn valueIn byteIn colourBytes
 all-blocks = tt

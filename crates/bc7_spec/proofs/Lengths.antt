@@ -10,10 +10,10 @@ use Rattle.laws.specs.Made.{made}
 use Rattle.laws.proofs.Rows.{length-made}
 use Rattle.bcn_spec.specs.Bits.{numberOf}
 use Rattle.bc7_spec.specs.Fields.{reserved, modeOf}
-use Rattle.bc7_spec.specs.Block.{byteIn, byteCount, bytesOf}
+use Rattle.bc7_spec.specs.Block.{byteIn, byteCount, colourBytes}
 
-pub length-bytes : (block : List ℕ) → length (bytesOf block) ≡ byteCount
-unfolding bytesOf
+pub length-bytes : (block : List ℕ) → length (colourBytes block) ≡ byteCount
+unfolding colourBytes
 length-bytes block = go (eqb (modeOf block) reserved)
   where
     go : (none : Bool) → length (pick none (replicate byteCount 0) (made (byteIn (modeOf block) (numberOf block)) byteCount)) ≡ byteCount

@@ -16,13 +16,13 @@ abbrev pub subset2 : ℕ → Subset2Map
 subset2 partition = record { «subset_indexes» = mapOf partition; «fixup_index_2» = fixupOf partition }
 
 -- the pixels of region r, as bits
-abbrev pub marksOf : ℕ → List ℕ → List ℕ
-marksOf r [] = []
-marksOf r (region ∷ regions) = pick (eqb region r) 1 0 ∷ marksOf r regions
+abbrev pub regionBits : ℕ → List ℕ → List ℕ
+regionBits r [] = []
+regionBits r (region ∷ regions) = pick (eqb region r) 1 0 ∷ regionBits r regions
 
 -- the map of region r: bit k is pixel k's
 abbrev pub maskOf : ℕ → ℕ → ℕ → ℕ
-maskOf r regions partition = ofBits (marksOf r (regionsIn (rowOf regions partition)))
+maskOf r regions partition = ofBits (regionBits r (regionsIn (rowOf regions partition)))
 
 -- the fix-up pixel at a place of the list, whose first is pixel 0
 abbrev pub fixupAt : ℕ → ℕ → ℕ → ℕ

@@ -32,6 +32,13 @@ abbrev pub bytesOf : ℕ → ℕ → List ℕ
 bytesOf zero n = []
 bytesOf (suc t) n = n % 256 ∷ bytesOf t (n / 256)
 
+-- S-61, S-64: a picture has at most 4,096 pixels along a side, and so 1,024 blocks.
+abbrev pub sizeLimit : ℕ
+sizeLimit = 4096
+
+abbrev pub mostAcross : ℕ
+mostAcross = 1024
+
 -- S-32: how many blocks the bytes of a run hold, and block n of them.
 abbrev pub blocksIn : List ℕ → ℕ
 blocksIn blocks = length blocks / blockSize

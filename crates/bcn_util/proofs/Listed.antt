@@ -7,14 +7,14 @@ use Rattle.laws.specs.Bit.{bitsOf, ofBits}
 use Rattle.laws.proofs.Digits.{first, rest}
 use Rattle.bcn_spec.specs.Bits.{IsBlock, blockBits, numberOf}
 use Rattle.bcn_spec.proofs.Bytes.{bits-of-block}
-use Rattle.bcn_util.specs.Stream.{Read}
+use Rattle.bcn_util.specs.Stream.{BitsRead}
 
 -- the stream of a block starts as the list of its 128 bits
 pub listed-new : (block : List ℕ) (n : ℕ) → IsBlock block → n ≡ numberOf block → bitsOf 128 n ≡ blockBits block
 listed-new block n b e = ap (bitsOf 128) e ∙ bits-of-block block b
 
 -- where t bits are left: the next n of them, the first lowest, and the list without them
-module _ {n count bits left : ℕ} (t : ℕ) (r : Read n count bits left) (h : count ≤ t) where
+module _ {n count bits left : ℕ} (t : ℕ) (r : BitsRead n count bits left) (h : count ≤ t) where
   pub listed-next : bits ≡ ofBits (take count (bitsOf t n))
   listed-next = r .next ∙ sym (first count t n h)
 

@@ -8,6 +8,6 @@ abbrev pub number : BitStream → ℕ
 number s = s .lo + 2 ^ 64 * s .hi
 
 -- S-6: a read of the number n gives its next bits, the first one lowest, and leaves the rest.
-pub record Read (n count bits rest : ℕ) : Type 0 where
+pub record BitsRead (n count bits rest : ℕ) : Type 0 where
   pub next : bits ≡ n % 2 ^ count
   pub left : rest ≡ n / 2 ^ count

@@ -5,7 +5,7 @@ ghost use Prim.Native.Nat.{_+_, _-_, _*_, _/_, _%_, _^_, _≤_, _<_};
 ghost use lib.ListN.{length};
 ghost use Rattle.laws.specs.Packed.{opened};
 ghost use Rattle.bcn_spec.specs.Bits.{numberOf};
-ghost use Rattle.bcn_util.specs.Stream.{number, Read};
+ghost use Rattle.bcn_util.specs.Stream.{number, BitsRead};
 ghost use Rattle.bcn_util.specs.Indexed.{indexesOf, indexAt};
 use raw_bytes::u64_at;
 
@@ -63,7 +63,7 @@ impl BitStream {
 
     pub fn consume_bits(self, count: u64) -> Consumed
         requires { ⌜ count ≤ 63 ⌝ }
-        ensures { λ r. ⌜ Read (number self) count (r .bits) (number (r .rest)) ⌝ }
+        ensures { λ r. ⌜ BitsRead (number self) count (r .bits) (number (r .rest)) ⌝ }
     {
         let low = self.lo;
         let above = 1u64 << count;

@@ -14,7 +14,7 @@ use Rattle.laws.proofs.Tests.{cases}
 use Rattle.bc7.specs.declared.Bc7Pixels.{Bc7Pixels}
 use Rattle.bc7.specs.Call.{Painted}
 use Rattle.check_bc7.specs.declared.Shown.{Shown}
-use Rattle.check_bc7.specs.Shown.{shownAs, shownOf, byteAt, shownBytes, shownAt}
+use Rattle.check_bc7.specs.Shown.{shownAs, shownOf, shownByte, shownBytes, shownAt}
 
 -- what the call answered and left in 64 zeros
 pub shown-is : {piece : List ℕ} {r : Bc7Pixels} {bytes : List ℕ} → Painted piece (replicate 64 0) r bytes → shownAs r bytes ≡ shownOf piece
@@ -24,16 +24,16 @@ shown-is p = λ i. shownAs (p .answers i) (p .holds i)
 -- ---- the bytes, one by one
 
 module _ (s : Shown) where
-  pub byte-first : (k : ℕ) → k ≡ 0 → s .answer ≡ byteAt s k
-  unfolding byteAt
+  pub byte-first : (k : ℕ) → k ≡ 0 → s .answer ≡ shownByte s k
+  unfolding shownByte
   byte-first k e = rw e refl
 
-  pub byte-second : (k : ℕ) → k ≡ 1 → s .mode ≡ byteAt s k
-  unfolding byteAt
+  pub byte-second : (k : ℕ) → k ≡ 1 → s .mode ≡ shownByte s k
+  unfolding shownByte
   byte-second k e = rw e refl
 
-  pub byte-later : (k : ℕ) → (k ≡ 0 → ⊥) → (k ≡ 1 → ⊥) → getD (s .bytes) (k - 2) 0 ≡ byteAt s k
-  unfolding byteAt
+  pub byte-later : (k : ℕ) → (k ≡ 0 → ⊥) → (k ≡ 1 → ⊥) → getD (s .bytes) (k - 2) 0 ≡ shownByte s k
+  unfolding shownByte
   byte-later zero n m = absurd (n refl)
   byte-later (suc zero) n m = absurd (m refl)
   byte-later (suc (suc k)) n m = let e : suc (suc k) - 2 ≡ k = omega arith in ap (λ (j : ℕ). getD (s .bytes) j 0) e
@@ -42,7 +42,7 @@ module _ (s : Shown) where
 
 pub each : (input : List ℕ) (i : ℕ) → length (shownAt input i) ≡ 66
 unfolding shownAt
-each input i = length-made (byteAt (shownOf (take 16 (drop (16 * i) input)))) 66
+each input i = length-made (shownByte (shownOf (take 16 (drop (16 * i) input)))) 66
 
 -- a piece ends after sixteen bytes, or with the input
 piece-is : (input : List ℕ) (at end : ℕ) → end ≡ pick (ltb (length input - at) 16) (length input) (at + 16) → take (end - at) (drop at input) ≡ take 16 (drop at input)

@@ -19,11 +19,11 @@ unfoldable pub shownOf : List ℕ → Shown
 shownOf piece = shownAs (answerAt (refusalOf (length piece) byteCount) piece) (bytesAt (refusalOf (length piece) byteCount) piece (replicate byteCount 0))
 
 -- answer, mode and 64 bytes: byte k
-unfoldable pub byteAt : Shown → ℕ → ℕ
-byteAt s k = getD (s .answer ∷ s .mode ∷ s .bytes) k 0
+unfoldable pub shownByte : Shown → ℕ → ℕ
+shownByte s k = getD (s .answer ∷ s .mode ∷ s .bytes) k 0
 
 abbrev pub shownBytes : List ℕ → List ℕ
-shownBytes piece = made (byteAt (shownOf piece)) 66
+shownBytes piece = made (shownByte (shownOf piece)) 66
 
 -- the pieces of the input: sixteen bytes each, and a last one that may be shorter
 abbrev pub pieceCount : ℕ → ℕ

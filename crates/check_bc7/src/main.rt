@@ -8,7 +8,7 @@ ghost use mathlib.Core.List.{_++_};
 ghost use Prim.Native.Nat.{_*_, _^_, _<_, _≤_};
 ghost use lib.ListN.{length, drop};
 ghost use Rattle.laws.specs.Made.{made};
-ghost use Rattle.check_bc7.specs.Shown.{byteAt, shownOf, shownBytes, pieceCount, PieceEnd, Decoded};
+ghost use Rattle.check_bc7.specs.Shown.{shownByte, shownOf, shownBytes, pieceCount, PieceEnd, Decoded};
 
 // What the call says of a piece.
 struct Shown {
@@ -35,7 +35,7 @@ impl Shown {
     // Byte k of the 66 that are written.
     fn byte(self, k: usize) -> u8
         requires { ⌜ k < 66 ⌝ }
-        ensures { λ r. ⌜ r ≡ byteAt self k ⌝ }
+        ensures { λ r. ⌜ r ≡ shownByte self k ⌝ }
     {
         if k == 0 {
             return self.answer;
@@ -49,7 +49,7 @@ impl Shown {
 
 fn put(shown: Shown, out: &mut [u8])
     requires { ⌜ 66 ≤ length (now out) ⌝ }
-    ensures { λ _. ⌜ now (out .exit) ≡ made (byteAt shown) 66 ++ drop 66 (now (out .entry)) ⌝ }
+    ensures { λ _. ⌜ now (out .exit) ≡ made (shownByte shown) 66 ++ drop 66 (now (out .entry)) ⌝ }
 {
     for k in 0..66usize {
         out[k] = shown.byte(k);

@@ -4,7 +4,7 @@ use mathlib.Core.Bool.{true, false, not}
 use lib.Dec.{T}
 use lib.Ieee.{Float, nan, inf, fin, binary32, toBits, isNan, ne}
 use lib.Ieee.Compare.{differs-from-itself}
-use Rattle.check_floats.specs.Shown.{bitsOf}
+use Rattle.check_floats.specs.Shown.{floatBits}
 
 -- a float that equals itself is a number
 pub itself : (x : Float) → ne x x ≡ false → T (not (isNan x))
@@ -16,12 +16,12 @@ itself nan e = absurd (true-false e)
 itself (inf s) e = tt
 itself (fin s m d) e = tt
 
-pub shown-none : (x : Float) → ne x x ≡ true → 0x7FC00000 ≡ bitsOf x
-unfolding bitsOf
-shown-none x e = sym (ap bitsOf (differs-from-itself x (subst T (sym e) tt)))
+pub shown-none : (x : Float) → ne x x ≡ true → 0x7FC00000 ≡ floatBits x
+unfolding floatBits
+shown-none x e = sym (ap floatBits (differs-from-itself x (subst T (sym e) tt)))
 
-pub shown-number : (x : Float) → T (not (isNan x)) → toBits binary32 x ≡ bitsOf x
-unfolding bitsOf isNan
+pub shown-number : (x : Float) → T (not (isNan x)) → toBits binary32 x ≡ floatBits x
+unfolding floatBits isNan
 shown-number nan t = absurd t
 shown-number (inf s) t = refl
 shown-number (fin s m e) t = refl

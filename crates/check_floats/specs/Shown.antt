@@ -2,7 +2,7 @@
 use Prim.Native.Nat.{ℕ}
 use lib.Ieee.{Float, nan, inf, fin, binary32, toBits}
 
-unfoldable pub bitsOf : Float → ℕ
-bitsOf nan = 0x7FC00000
-bitsOf (inf s) = toBits binary32 (inf s)
-bitsOf (fin s m e) = toBits binary32 (fin s m e)
+unfoldable pub floatBits : Float → ℕ
+floatBits nan = 0x7FC00000
+floatBits (inf s) = toBits binary32 (inf s)
+floatBits (fin s m e) = toBits binary32 (fin s m e)

@@ -5,7 +5,7 @@ use libc::STDOUT_FILENO;
 use pfm_floats::float_of;
 ghost use mathlib.Core.Path.{_≡_};
 ghost use Rattle.pfm_floats.specs.Half.{floatOf};
-ghost use Rattle.check_floats.specs.Shown.{bitsOf};
+ghost use Rattle.check_floats.specs.Shown.{floatBits};
 
 // What is written of a float that is no number, which has no bits of its own.
 const NONE: u32 = 0x7FC00000;
@@ -18,7 +18,7 @@ const PAGE: usize = 1024;
 const BYTES: usize = 4096;
 
 fn bits_of(half: u16) -> u32
-    ensures { λ r. ⌜ r ≡ bitsOf (floatOf half) ⌝ }
+    ensures { λ r. ⌜ r ≡ floatBits (floatOf half) ⌝ }
 {
     let value = float_of(half);
     if value != value {

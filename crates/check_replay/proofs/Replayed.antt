@@ -14,22 +14,22 @@ use Rattle.laws.proofs.Sameness.{same-all, same-not}
 use Rattle.bc6h_spec.specs.Picture.{valueCount}
 use Rattle.bc6.specs.declared.Pixels.{Pixels}
 use Rattle.bc6.specs.Call.{Painted}
-use Rattle.check_replay.specs.Entries.{replaySize, formatIn, blockIn, valueIn, valuesIn, infiniteIn, agrees, countAt, agreeing}
+use Rattle.check_replay.specs.Entries.{replaySize, entryFormat, entryBlock, entryValue, valuesIn, infiniteIn, agrees, countAt, agreeing}
 
 module _ (values bytes : List ℕ) where
-  pub not-same : (k : ℕ) → k < valueCount → (getD values k 0 ≡ valueIn bytes k → ⊥) → false ≡ same values (valuesIn bytes)
+  pub not-same : (k : ℕ) → k < valueCount → (getD values k 0 ≡ entryValue bytes k → ⊥) → false ≡ same values (valuesIn bytes)
   unfolding valuesIn
-  not-same k h d = sym (same-not values (valuesIn bytes) k (λ e. d (e ∙ getD-made (valueIn bytes) valueCount k 0 h)))
+  not-same k h d = sym (same-not values (valuesIn bytes) k (λ e. d (e ∙ getD-made (entryValue bytes) valueCount k 0 h)))
 
-  pub all-same : (k : ℕ) → length values ≡ valueCount → valueCount ≤ k → ((i : ℕ) → i < k → getD values i 0 ≡ valueIn bytes i)
+  pub all-same : (k : ℕ) → length values ≡ valueCount → valueCount ≤ k → ((i : ℕ) → i < k → getD values i 0 ≡ entryValue bytes i)
       → true ≡ same values (valuesIn bytes)
   unfolding valuesIn
   all-same k l h e =
-      sym (same-all values (valuesIn bytes) valueCount valueCount l (length-made (valueIn bytes) valueCount) (omega arith)
-      (λ i m. e i (omega arith) ∙ sym (getD-made (valueIn bytes) valueCount i 0 m)))
+      sym (same-all values (valuesIn bytes) valueCount valueCount l (length-made (entryValue bytes) valueCount) (omega arith)
+      (λ i m. e i (omega arith) ∙ sym (getD-made (entryValue bytes) valueCount i 0 m)))
 
 -- what the call answers to an entry's block, with room for 48 zeros
-module _ (entry : List ℕ) (p : Pixels) (after : List ℕ) (d : Painted (blockIn entry) (formatIn entry) (replicate valueCount 0) p after) where
+module _ (entry : List ℕ) (p : Pixels) (after : List ℕ) (d : Painted (entryBlock entry) (entryFormat entry) (replicate valueCount 0) p after) where
   pub other-number : (p .answer ≡ getD entry 17 0 → ⊥) → false ≡ agrees entry
   unfolding agrees
   other-number e = rw (← d .answers, ne-eqb _ _ e)

@@ -17,18 +17,18 @@ use Rattle.bc6.specs.Call.{refusalOf, answerAt, valuesAt}
 abbrev pub replaySize : ℕ
 replaySize = 117
 
-abbrev pub formatIn : List ℕ → ℕ
-formatIn entry = getD entry 0 0
+abbrev pub entryFormat : List ℕ → ℕ
+entryFormat entry = getD entry 0 0
 
-unfoldable pub blockIn : List ℕ → List ℕ
-blockIn entry = take blockSize (drop 1 entry)
+unfoldable pub entryBlock : List ℕ → List ℕ
+entryBlock entry = take blockSize (drop 1 entry)
 
 -- value k, low byte first, of the bytes that hold the values
-unfoldable pub valueIn : List ℕ → ℕ → ℕ
-valueIn bytes k = lowFirst bytes (2 * k) 2
+unfoldable pub entryValue : List ℕ → ℕ → ℕ
+entryValue bytes k = lowFirst bytes (2 * k) 2
 
 unfoldable pub valuesIn : List ℕ → List ℕ
-valuesIn bytes = made (valueIn bytes) valueCount
+valuesIn bytes = made (entryValue bytes) valueCount
 
 -- the count of minus infinities
 unfoldable pub infiniteIn : List ℕ → ℕ
@@ -36,17 +36,17 @@ infiniteIn entry = lowFirst entry 19 2
 
 -- what our call answers to an entry's block: room for 48 values, all of them zero before
 abbrev pub numberFor : List ℕ → ℕ
-numberFor entry = refusalOf (formatIn entry) (length (blockIn entry)) valueCount
+numberFor entry = refusalOf (entryFormat entry) (length (entryBlock entry)) valueCount
 
 abbrev pub valuesFor : List ℕ → List ℕ
-valuesFor entry = valuesAt (numberFor entry) (blockIn entry) (formatIn entry) (replicate valueCount 0)
+valuesFor entry = valuesAt (numberFor entry) (entryBlock entry) (entryFormat entry) (replicate valueCount 0)
 
 -- our number, mode, count and values are the entry's
 unfoldable pub agrees : List ℕ → Bool
 agrees entry =
-    both (eqb (answerAt (numberFor entry) (blockIn entry) (formatIn entry) .answer) (getD entry 17 0))
-    (both (eqb (answerAt (numberFor entry) (blockIn entry) (formatIn entry) .mode) (getD entry 18 0))
-    (both (eqb (answerAt (numberFor entry) (blockIn entry) (formatIn entry) .infinite) (infiniteIn entry))
+    both (eqb (answerAt (numberFor entry) (entryBlock entry) (entryFormat entry) .answer) (getD entry 17 0))
+    (both (eqb (answerAt (numberFor entry) (entryBlock entry) (entryFormat entry) .mode) (getD entry 18 0))
+    (both (eqb (answerAt (numberFor entry) (entryBlock entry) (entryFormat entry) .infinite) (infiniteIn entry))
     (same (valuesFor entry) (valuesIn (take 96 (drop 21 entry))))))
 
 -- 1 where entry n agrees, else 0

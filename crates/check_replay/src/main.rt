@@ -9,7 +9,7 @@ ghost use Prim.Native.Nat.{_/_, _<_};
 ghost use lib.ListN.{length};
 ghost use Rattle.laws.specs.Every.{same};
 ghost use Rattle.bc6h_spec.specs.Picture.{valueCount};
-ghost use Rattle.check_replay.specs.Entries.{replaySize, valueIn, valuesIn, infiniteIn, agrees, countAt, agreeing};
+ghost use Rattle.check_replay.specs.Entries.{replaySize, entryValue, valuesIn, infiniteIn, agrees, countAt, agreeing};
 
 // An entry's bytes, and where its parts begin.
 const SIZE: usize = 117;
@@ -27,7 +27,7 @@ const VALUES: usize = 21;
 // Value k of an entry's values, low byte first.
 fn value_at(bytes: &[u8], k: usize) -> u16
     requires { ⌜ (length (now bytes) ≡ 96) × (k < valueCount) ⌝ }
-    ensures { λ r. ⌜ r ≡ valueIn (now (bytes .entry)) k ⌝ }
+    ensures { λ r. ⌜ r ≡ entryValue (now (bytes .entry)) k ⌝ }
 {
     u16_at(bytes, 2 * k)
 }

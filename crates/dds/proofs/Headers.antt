@@ -13,7 +13,8 @@ use borrow.Author.Tests.{le-leb, lt-leb, eq-eqb, leb-true, eqb-true}
 use Rattle.laws.specs.Pick.{both, either}
 use Rattle.laws.specs.Bit.{bit}
 use Rattle.laws.proofs.Tests.{both-true}
-use Rattle.dds.specs.Dds.{headerSize, wordAt, magic, code, dxgiOf, HeaderTaken, startOurs, pixelsOurs, textureOurs, fieldsOurs, headerTaken, sizeLimit, SizeOurs, sizeOurs, blockBytes}
+use Rattle.bcn_spec.specs.Bits.{sizeLimit}
+use Rattle.dds.specs.Dds.{headerSize, wordAt, magic, code, dxgiOf, HeaderTaken, startOurs, pixelsOurs, textureOurs, fieldsOurs, headerTaken, SizeOurs, sizeOurs, blockBytes}
 
 -- ---- headers
 

@@ -9,7 +9,8 @@ use lib.Dec.{leb, lit≤}
 use lib.Pow.{pow-pos}
 use borrow.Author.Tests.{leb-true, leb-false}
 use Rattle.laws.proofs.Tests.{cases}
-use Rattle.dds.specs.Dds.{sizeLimit, SizeOurs, blocksAlong, blockBytes, levelLimit, atLeastOne, levelSide, levelBytes, chainBytes}
+use Rattle.bcn_spec.specs.Bits.{sizeLimit}
+use Rattle.dds.specs.Dds.{SizeOurs, blocksAlong, blockBytes, levelLimit, atLeastOne, levelSide, levelBytes, chainBytes}
 
 -- ---- sides
 

@@ -117,8 +117,8 @@ moved fault count store lent p =
 faced : (alpha : Bool) (b o : List ℕ) (w h f p : ℕ) {r : FacePixels} {a : List ℕ} → face.ImagePainted alpha b w h f o p r a
     → Silent (r .answer) (r .infinite ∷ []) (o ∷ []) (a ∷ [])
 faced alpha b o w h f p d =
-    silent-one (λ n. face.faceAnswer n b f) (λ r. r .answer) (λ r. r .infinite ∷ []) refl (λ n. zeros 1)
-    (λ n. face.faceValues n alpha b f w h p o) o (λ n. refl) (face.faceRefusal alpha (length b) f w h p (length o)) (d .answers) (d .holds)
+    silent-one (λ n. face.imageAnswer n b f) (λ r. r .answer) (λ r. r .infinite ∷ []) refl (λ n. zeros 1)
+    (λ n. face.imageValues n alpha b f w h p o) o (λ n. refl) (face.imageRefusal alpha (length b) f w h p (length o)) (d .answers) (d .holds)
 
 -- what a twin list leaves by its number
 listed : (s m : List ℕ) (n : ℕ) {r : TwinList} {a : List ℕ} → r ≡ twins.answerAt n s → a ≡ twins.marksAt n s m
@@ -182,9 +182,9 @@ demand1 = record {
       (λ n. leftBy n (building.builtOf b f e t) o) o (λ n. refl) (building.buildRefusal (length b) f e (length o)) (p .answers) (p .holds);
   dds-head = λ {f} p. dds-told dds.bc6hFirst f (dds.headRefusal f) (p .answers);
   dds-read = λ {f} p. dds-told dds.bc6hFirst f (dds.readRefusal f) (p .answers);
-  dds-blocks = λ {f} p q. dds-part dds.bc6hFirst f (λ k. dds.partAt k f) (λ k. refl) (dds.readRefusal f) (p .answers) (q .gives);
+  dds-blocks = λ {f} p q. dds-part dds.bc6hFirst f (λ k. dds.blocksPart k f) (λ k. refl) (dds.readRefusal f) (p .answers) (q .gives);
   bc7-dds-read = λ {f} p. dds-told dds.bc7First f (dds.readRefusalAs dds.bc7First f) (p .answers);
-  bc7-dds-blocks = λ {f} p q. dds-part dds.bc7First f (λ k. dds.partAt k f) (λ k. refl) (dds.readRefusalAs dds.bc7First f) (p .answers) (q .gives);
+  bc7-dds-blocks = λ {f} p q. dds-part dds.bc7First f (λ k. dds.blocksPart k f) (λ k. refl) (dds.readRefusalAs dds.bc7First f) (p .answers) (q .gives);
   dds-first-level = λ {f} p. dds-told dds.bc6hFirst f (dds.firstRefusal dds.bc6hFirst f) (p .answers);
   dds-first-blocks = λ {f} p q. dds-part dds.bc6hFirst f (λ k. dds.firstAt k f) (λ k. refl) (dds.firstRefusal dds.bc6hFirst f) (p .answers) (q .gives);
   bc7-dds-first-level = λ {f} p. dds-told dds.bc7First f (dds.firstRefusal dds.bc7First f) (p .answers);

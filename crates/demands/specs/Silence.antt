@@ -67,7 +67,7 @@ pub record Demand1 : Type 0 where
   pub block-fields : {b : List ℕ} {f : ℕ} {r : FieldsRead} → Extracted b f r → Silent (r .answer) (numbersOf (r .fields)) [] []
   pub write-block : {f : Fields} {o a : List ℕ} {r : ℕ} → writer.BlockWritten f o r a → Silent r [] (o ∷ []) (a ∷ [])
   pub fields-pixels : {f : Fields} {o a : List ℕ} {r : ℕ} → FieldsShown f o r a → Silent r [] (o ∷ []) (a ∷ [])
-  pub record-at : {s : List ℕ} {n : ℕ} {r : RecordReading} → records.Read s n r → Silent (records.readingNumber r) (records.valuesOf r) [] []
+  pub record-at : {s : List ℕ} {n : ℕ} {r : RecordReading} → records.RecordRead s n r → Silent (records.readingNumber r) (records.valuesOf r) [] []
   pub record-block : (s : List ℕ) (n : ℕ) → Silent (records.recordRefusal s n) (records.partAt (records.recordRefusal s n) s n) [] []
   pub twin-list : {s m a : List ℕ} {r : TwinList} → Listed s m r a → Silent (r .answer) (r .kept ∷ r .twins ∷ r .bad ∷ []) (m ∷ []) (a ∷ [])
   pub twin-list-in : {s m w a b : List ℕ} {r : TwinList} → ListedIn s m w r a b → Silent (r .answer) (r .kept ∷ r .twins ∷ r .bad ∷ []) (m ∷ w ∷ []) (a ∷ b ∷ [])

@@ -4,6 +4,7 @@ use mathlib.Core.List.{List, _++_}
 use Prim.Native.Nat.{ℕ, zero, suc, _+_, _*_, _/_, _%_}
 use lib.ListN.{length, getD, drop}
 use Rattle.laws.specs.Pick.{pick}
+use Rattle.laws.specs.Checks.{ifDone}
 use Rattle.laws.specs.Made.{made, join}
 use Rattle.bcn_spec.specs.Answers.{done}
 use Rattle.bcn_spec.specs.Bits.{blockAt}
@@ -66,8 +67,7 @@ writtenAt (suc n) width height = record { answer = suc n; bytes = 0 }
 
 -- Done writes exactly the file; a refusal writes nothing.
 abbrev pub leftAt : ℕ → List ℕ → ℕ → ℕ → ℕ → List ℕ → List ℕ
-leftAt zero blocks format width height out = fileOf blocks format width height ++ drop (fileLength width height) out
-leftAt (suc n) blocks format width height out = out
+leftAt number blocks format width height out = ifDone number (fileOf blocks format width height ++ drop (fileLength width height) out) out
 
 -- The statement of `exr_write`: its answer r, and the lent bytes `after`.
 pub record PictureWritten (blocks : List ℕ) (format width height : ℕ) (out : List ℕ) (r : ExrWritten) (after : List ℕ) : Type 0 where

@@ -5,7 +5,7 @@ ghost use mathlib.Core.List.{_++_};
 ghost use Prim.Native.Nat.{_<_, _≤_, _+_, _*_};
 ghost use lib.ListN.{length, drop};
 ghost use lib.Seq.{sets};
-ghost use Rattle.bcn_spec.specs.Bits.{blockSize};
+ghost use Rattle.bcn_spec.specs.Bits.{blockSize, sizeLimit, mostAcross};
 ghost use Rattle.exr_header.specs.Header.{lowBytes};
 ghost use Rattle.exr.specs.Bands.{quarterOf, channelSets, blockSets, headSets, bandAt, bandsOf};
 ghost use Rattle.exr.specs.File.{headOf, lengthOf, writeRefusal, PictureWritten};
@@ -57,7 +57,7 @@ fn put_quarter(values: &[u16; 48], channel: usize, row: usize, out: &mut [u8], a
 
 // One channel of the four rows of a block, the highest first, each `stride` bytes behind the one before.
 fn put_channel(values: &[u16; 48], channel: usize, stride: usize, out: &mut [u8], at: usize)
-    requires { ⌜ (channel < 3) × (stride ≤ 24584) × (at + 3 * stride + 8 ≤ length (now out)) ⌝ }
+    requires { ⌜ (channel < 3) × (stride ≤ 8 + 24 * mostAcross) × (at + 3 * stride + 8 ≤ length (now out)) ⌝ }
     ensures { λ _. ⌜ now (out .exit) ≡ channelSets (now (values .entry)) channel stride (now (out .entry)) at ⌝ }
 {
     put_quarter(values, channel, 0, out, at);
@@ -68,7 +68,7 @@ fn put_channel(values: &[u16; 48], channel: usize, stride: usize, out: &mut [u8]
 
 // A block's blue, green and red values: in each line all blue values come first, then all green ones, then all red ones.
 fn put_block(values: &[u16; 48], across: usize, out: &mut [u8], column: usize)
-    requires { ⌜ (across ≤ 1024) × (column < across) × (32 + 96 * across ≤ length (now out)) ⌝ }
+    requires { ⌜ (across ≤ mostAcross) × (column < across) × (32 + 96 * across ≤ length (now out)) ⌝ }
     ensures { λ _. ⌜ now (out .exit) ≡ blockSets (now (values .entry)) across (now (out .entry)) column ⌝ }
 {
     let stride = 8 + 24 * across;
@@ -80,7 +80,7 @@ fn put_block(values: &[u16; 48], across: usize, out: &mut [u8], column: usize)
 
 // What stands before the values of a line: its number, and how many bytes they have.
 pub fn put_head(width: usize, y: usize, out: &mut [u8], at: usize)
-    requires { ⌜ (width ≤ 4096) × (at + 8 ≤ length (now out)) ⌝ }
+    requires { ⌜ (width ≤ sizeLimit) × (at + 8 ≤ length (now out)) ⌝ }
     ensures { λ _. ⌜ now (out .exit) ≡ sets (now (out .entry)) at (headOf width y) ⌝ }
 {
     put_number(y as u64, 4, out, at);
@@ -89,7 +89,7 @@ pub fn put_head(width: usize, y: usize, out: &mut [u8], at: usize)
 
 // The heads of four lines.
 fn put_heads(across: usize, y: usize, out: &mut [u8], at: usize)
-    requires { ⌜ (across ≤ 1024) × (y ≤ 4096) × (at + 3 * (8 + 24 * across) + 8 ≤ length (now out)) ⌝ }
+    requires { ⌜ (across ≤ mostAcross) × (y ≤ sizeLimit) × (at + 3 * (8 + 24 * across) + 8 ≤ length (now out)) ⌝ }
     ensures { λ _. ⌜ now (out .exit) ≡ headSets across y (now (out .entry)) at ⌝ }
 {
     let width = 4 * across;
@@ -102,7 +102,7 @@ fn put_heads(across: usize, y: usize, out: &mut [u8], at: usize)
 
 // A row of blocks, from block `first` on, as four lines from line `y` on: each block is decoded once.
 pub fn put_band(blocks: &[u8], format: u8, first: usize, across: usize, y: usize, out: &mut [u8])
-    requires { ⌜ (format ≤ 1) × (across ≤ 1024) × (y ≤ 4096) ⌝ }
+    requires { ⌜ (format ≤ 1) × (across ≤ mostAcross) × (y ≤ sizeLimit) ⌝ }
     requires { ⌜ (blockSize * (first + across) ≤ length (now blocks)) × (32 + 96 * across ≤ length (now out)) ⌝ }
     ensures { λ _. ⌜ now (out .exit) ≡ bandAt (now (blocks .entry)) format first across y ++ drop (32 + 96 * across) (now (out .entry)) ⌝ }
 {
@@ -118,7 +118,7 @@ pub fn put_band(blocks: &[u8], format: u8, first: usize, across: usize, y: usize
 
 // All rows of blocks, from the top down.
 fn put_bands(blocks: &[u8], format: u8, across: usize, down: usize, out: &mut [u8])
-    requires { ⌜ (format ≤ 1) × (across ≤ 1024) × (down ≤ 1024) ⌝ }
+    requires { ⌜ (format ≤ 1) × (across ≤ mostAcross) × (down ≤ mostAcross) ⌝ }
     requires { ⌜ (blockSize * (across * down) ≤ length (now blocks)) × ((32 + 96 * across) * down ≤ length (now out)) ⌝ }
     ensures { λ _. ⌜ now (out .exit) ≡ bandsOf (now (blocks .entry)) format across down ++ drop ((32 + 96 * across) * down) (now (out .entry)) ⌝ }
 {

@@ -4,7 +4,7 @@ use mathlib.Core.List.{List, _++_}
 use Prim.Native.Nat.{ℕ, _+_, _*_, _≤_}
 use lib.ListN.{take, drop}
 use Rattle.laws.specs.Made.{made, join}
-use Rattle.bcn_spec.specs.Bits.{blockSize}
+use Rattle.bcn_spec.specs.Bits.{blockSize, sizeLimit}
 use Rattle.dds.specs.Dds.{blocksAlong}
 use Rattle.pfm_bands.specs.Bands.{bandIn, rowsIn}
 use Rattle.exr_header.specs.Header.{lineLength}
@@ -40,8 +40,8 @@ croppedLines lines across width first rows = join (made (croppedLine lines acros
 -- what fits: lengths of the blocks, of the lines as they are written, and of what is lent
 pub record LinesFit (format width first rows blocks lines out : ℕ) : Type 0 where
   pub known : format ≤ 1
-  pub most : width ≤ 4096
-  pub number : first ≤ 4096
+  pub most : width ≤ sizeLimit
+  pub number : first ≤ sizeLimit
   pub four : rows ≤ 4
   pub whole : blockSize * blocksAlong width ≤ blocks
   pub lined : 32 + 96 * blocksAlong width ≤ lines

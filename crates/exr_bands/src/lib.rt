@@ -5,6 +5,7 @@ ghost use mathlib.Core.List.{_++_};
 ghost use Prim.Native.Nat.{_≤_, _+_, _*_};
 ghost use lib.ListN.{length, drop};
 ghost use lib.Seq.{sets};
+ghost use Rattle.bcn_spec.specs.Bits.{sizeLimit, mostAcross};
 ghost use Rattle.exr_bands.specs.Bands.{croppedAt, croppedLines, LinesFit, LinesPut};
 use exr::put_band;
 use exr::put_head;
@@ -20,7 +21,7 @@ fn crop_line(
     out: &mut [u8],
     to: usize,
 )
-    requires { ⌜ (across ≤ 1024) × (width ≤ 4 * across) ⌝ }
+    requires { ⌜ (across ≤ mostAcross) × (width ≤ 4 * across) ⌝ }
     requires { ⌜ (at + (8 + 24 * across) ≤ length (now lines)) × (to + (8 + 6 * width) ≤ length (now out)) ⌝ }
     ensures { λ _. ⌜ now (out .exit) ≡ sets (now (out .entry)) to (croppedAt (now (lines .entry)) at across width y) ⌝ }
 {
@@ -33,7 +34,7 @@ fn crop_line(
 
 // The first `rows` of the four lines in `lines`, each cropped to `width` pixels, with numbers from `first` on.
 fn crop_lines(lines: &[u8], across: usize, width: usize, first: usize, rows: usize, out: &mut [u8])
-    requires { ⌜ (across ≤ 1024) × (width ≤ 4 * across) × (rows ≤ 4) × (first ≤ 4096) ⌝ }
+    requires { ⌜ (across ≤ mostAcross) × (width ≤ 4 * across) × (rows ≤ 4) × (first ≤ sizeLimit) ⌝ }
     requires { ⌜ (32 + 96 * across ≤ length (now lines)) × ((8 + 6 * width) * rows ≤ length (now out)) ⌝ }
     ensures { λ _. ⌜ now (out .exit) ≡ croppedLines (now (lines .entry)) across width first rows ++ drop ((8 + 6 * width) * rows) (now (out .entry)) ⌝ }
 {

@@ -7,23 +7,23 @@ use Rattle.exr_header.specs.Header.{lowBytes, frontOf}
 use Rattle.exr.specs.File.{headOf}
 
 -- channel 0, 1 or 2 (red, green, blue) of pixel x of line y: the pattern as it is, its low byte first
-unfoldable pub valueOf : List ℕ → ℕ → ℕ → ℕ → ℕ → List ℕ
-valueOf values side channel y x = lowBytes 2 (getD values (3 * (y * side + x) + channel) 0)
+unfoldable pub squareValue : List ℕ → ℕ → ℕ → ℕ → ℕ → List ℕ
+squareValue values side channel y x = lowBytes 2 (getD values (3 * (y * side + x) + channel) 0)
 
 -- one channel of line y, from the left
-unfoldable pub channelOf : List ℕ → ℕ → ℕ → ℕ → List ℕ
-channelOf values side channel y = join (made (valueOf values side channel y) side)
+unfoldable pub squareChannel : List ℕ → ℕ → ℕ → ℕ → List ℕ
+squareChannel values side channel y = join (made (squareValue values side channel y) side)
 
 -- S-92, S-102: all blue values, all green ones, all red ones, behind the head of the line.
-unfoldable pub lineOf : List ℕ → ℕ → ℕ → List ℕ
-lineOf values side y = headOf side y ++ (channelOf values side 2 y ++ (channelOf values side 1 y ++ channelOf values side 0 y))
+unfoldable pub squareLine : List ℕ → ℕ → ℕ → List ℕ
+squareLine values side y = headOf side y ++ (squareChannel values side 2 y ++ (squareChannel values side 1 y ++ squareChannel values side 0 y))
 
 -- the lines from the top down
-unfoldable pub linesOf : List ℕ → ℕ → List ℕ
-linesOf values side = join (made (lineOf values side) side)
+unfoldable pub squareLines : List ℕ → ℕ → List ℕ
+squareLines values side = join (made (squareLine values side) side)
 
 unfoldable pub squareFile : List ℕ → ℕ → List ℕ
-squareFile values side = frontOf side side ++ linesOf values side
+squareFile values side = frontOf side side ++ squareLines values side
 
 -- the largest file: of 64 by 64 pixels
 abbrev pub squareRoom : ℕ

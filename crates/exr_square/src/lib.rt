@@ -3,7 +3,7 @@
 ghost use Prim.Native.Nat.{_+_, _*_, _<_, _≤_};
 ghost use lib.ListN.{length};
 ghost use Rattle.text.specs.Text.{Written};
-ghost use Rattle.exr_square.specs.Square.{channelOf, lineOf, linesOf, squareFile, squareRoom};
+ghost use Rattle.exr_square.specs.Square.{squareChannel, squareLine, squareLines, squareFile, squareRoom};
 use exr::put_half;
 use exr::put_head;
 use exr_header::put_front;
@@ -19,7 +19,7 @@ fn put_channel(
 ) -> usize
     requires { ⌜ (channel < 3) × (y < side) × (side ≤ 64) ⌝ }
     requires { ⌜ (3 * (side * side) ≤ length (now values)) × (at + 2 * side ≤ length (now out)) ⌝ }
-    ensures { λ r. ⌜ Written (now (out .entry)) at (channelOf (now (values .entry)) side channel y) r (now (out .exit)) ⌝ }
+    ensures { λ r. ⌜ Written (now (out .entry)) at (squareChannel (now (values .entry)) side channel y) r (now (out .exit)) ⌝ }
 {
     for x in 0..side {
         put_half(values[3 * (y * side + x) + channel], out, at + 2 * x);
@@ -31,7 +31,7 @@ fn put_channel(
 fn put_line(values: &[u16], edge: usize, y: usize, out: &mut [u8], at: usize) -> usize
     requires { ⌜ (edge ≤ 16) × (y < 4 * edge) ⌝ }
     requires { ⌜ (3 * (4 * edge * (4 * edge)) ≤ length (now values)) × (at + (8 + 24 * edge) ≤ length (now out)) ⌝ }
-    ensures { λ r. ⌜ Written (now (out .entry)) at (lineOf (now (values .entry)) (4 * edge) y) r (now (out .exit)) ⌝ }
+    ensures { λ r. ⌜ Written (now (out .entry)) at (squareLine (now (values .entry)) (4 * edge) y) r (now (out .exit)) ⌝ }
 {
     put_head(4 * edge, y, out, at);
     let green = put_channel(values, 4 * edge, 2, y, out, at + 8);
@@ -43,7 +43,7 @@ fn put_line(values: &[u16], edge: usize, y: usize, out: &mut [u8], at: usize) ->
 fn put_lines(values: &[u16], edge: usize, out: &mut [u8], at: usize) -> usize
     requires { ⌜ edge ≤ 16 ⌝ }
     requires { ⌜ (3 * (4 * edge * (4 * edge)) ≤ length (now values)) × (at + (8 + 24 * edge) * (4 * edge) ≤ length (now out)) ⌝ }
-    ensures { λ r. ⌜ Written (now (out .entry)) at (linesOf (now (values .entry)) (4 * edge)) r (now (out .exit)) ⌝ }
+    ensures { λ r. ⌜ Written (now (out .entry)) at (squareLines (now (values .entry)) (4 * edge)) r (now (out .exit)) ⌝ }
 {
     let count = 4 * edge;
     for y in 0..count {

@@ -22,7 +22,7 @@ use Rattle.probe_places.proofs.Readings.{known, unrefused, record-is, refused}
 use Rattle.probe_moves.specs.declared.Moved.{Moved}
 use Rattle.probe_moves.specs.Moves.{PlacedStore, UnplacedStore}
 use Rattle.probe_moves.proofs.Checks.{sized}
-use Rattle.probe_put.specs.Put.{putSizes, headRefusal, recordFault, puttingFault, PlacePut}
+use Rattle.probe_put.specs.Put.{putSizes, ownRefusal, recordFault, puttingFault, PlacePut}
 use Rattle.probe_put.proofs.Checks.{puttable}
 use Rattle.probe.specs.declared.ProbePixel.{ProbePixel}
 use Rattle.probe.specs.Probe.{probeFault, Asked}
@@ -104,7 +104,7 @@ put-small store n p room = whole (putSizes (length store) room) refl
         cases (ltb n (placesIn store))
         (λ t.
         let l : n < placesIn store = ltb-true _ _ t in
-        cases (eqb (headRefusal store n) done) (λ h. rw (t, h) (omega arith)) (λ h. rw (t, h) (omega arith)))
+        cases (eqb (ownRefusal store n) done) (λ h. rw (t, h) (omega arith)) (λ h. rw (t, h) (omega arith)))
         (λ t. rw t (omega arith))
     whole (suc k) e = omega arith
 

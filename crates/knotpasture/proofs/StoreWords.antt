@@ -12,7 +12,7 @@ use Rattle.bcn_spec.specs.Bits.{blockSize}
 use Rattle.store_records.specs.declared.Record.{Record}
 use Rattle.store_records.specs.declared.RecordReading.{RecordReading}
 use Rattle.store_records.specs.declared.RecordReading.the-variants as reading
-use Rattle.store_records.specs.Store.{recordSize, headSize, storeLimit, mostRecords, tileOf, formatOf, blockOf, recordRefusal, Unrefused, Read, partAt}
+use Rattle.store_records.specs.Store.{recordSize, headSize, storeLimit, mostRecords, tileOf, formatOf, blockOf, recordRefusal, Unrefused, RecordRead, partAt}
 use Rattle.store_records.proofs.Refusals.{known}
 use Rattle.store_records.proofs.Readings.{unrefused, refused}
 use Rattle.store_spec.specs.declared.TwinList.{TwinList}
@@ -20,11 +20,11 @@ use Rattle.store_spec.specs.Twins.{refusal, Listed, ListedIn}
 use Rattle.store_spec.proofs.Listing.{refused-alone, counts-add-up, whole, list-is, silent-in}
 use Rattle.store_strict.specs.Strict.{StrictlyListed}
 use Rattle.store_strict.proofs.Strictness as strict
-use Rattle.knotpasture.specs.Store.{wordAt, readingWord, offsetAt, twinsWord, TwinsCalled, StrictCalled, TwinsInCalled}
+use Rattle.knotpasture.specs.Store.{recordWord, readingWord, offsetAt, twinsWord, TwinsCalled, StrictCalled, TwinsInCalled}
 
 -- ---- the record calls
 
-refusal-word : (store : List ℕ) (n number : ℕ) → (number ≡ 0 → ⊥) → number ≡ wordAt number store n
+refusal-word : (store : List ℕ) (n number : ℕ) → (number ≡ 0 → ⊥) → number ≡ recordWord number store n
 refusal-word store n zero h = absurd (h refl)
 refusal-word store n (suc number) h = refl
 
@@ -32,7 +32,7 @@ no-offset : (number n : ℕ) → (number ≡ 0 → ⊥) → 0 ≡ offsetAt numbe
 no-offset zero n h = absurd (h refl)
 no-offset (suc number) n h = refl
 
-module _ {store : List ℕ} {n : ℕ} {x : RecordReading} (d : Read store n x) where
+module _ {store : List ℕ} {n : ℕ} {x : RecordReading} (d : RecordRead store n x) where
   pub record-word : {r : Record} → x ≡ reading.Record r → r .format * 0x100 + r .tile * 0x100000000 ≡ readingWord store n
   record-word {r} e =
       let u = unrefused d e in

@@ -24,15 +24,15 @@ placedWord zero store n = formatIn store n * 0x100 + faceIn store n * 0x10000 + 
 placedWord (suc number) store n = suc number
 
 -- what a slot then is: 0 on a refusal
-abbrev pub slotAt : ℕ → ℕ → ℕ
-slotAt zero value = value
-slotAt (suc number) value = 0
+abbrev pub slotValue : ℕ → ℕ → ℕ
+slotValue zero value = value
+slotValue (suc number) value = 0
 
 -- S-54, S-87: the record call: its answer in one word, and the column and the row in the slots.
 pub record PlacedReadingCalled (store : List ℕ) (n r column row : ℕ) : Type 0 where
   pub answers : r ≡ placedWord (placedRefusal store n) store n
-  pub column-told : column ≡ slotAt (placedRefusal store n) (columnIn store n)
-  pub row-told : row ≡ slotAt (placedRefusal store n) (rowIn store n)
+  pub column-told : column ≡ slotValue (placedRefusal store n) (columnIn store n)
+  pub row-told : row ≡ slotValue (placedRefusal store n) (rowIn store n)
 
 -- S-54, S-87: where in the store a record's block starts; 0 for a refusal
 abbrev pub placedOffset : ℕ → ℕ → ℕ

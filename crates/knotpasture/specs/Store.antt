@@ -9,12 +9,12 @@ use Rattle.store_spec.specs.Twins.{listRefusal, answerAt, marksAt, scratchRefus
 use Rattle.store_strict.specs.Strict.{strictRefusal}
 
 -- S-40, S-87: a record: 0 in the low byte, the format in the next, the tile in the high half; a refusal: its number alone
-abbrev pub wordAt : ℕ → List ℕ → ℕ → ℕ
-wordAt zero store n = formatOf store n * 0x100 + tileOf store n * 0x100000000
-wordAt (suc number) store n = suc number
+abbrev pub recordWord : ℕ → List ℕ → ℕ → ℕ
+recordWord zero store n = formatOf store n * 0x100 + tileOf store n * 0x100000000
+recordWord (suc number) store n = suc number
 
 abbrev pub readingWord : List ℕ → ℕ → ℕ
-readingWord store n = wordAt (recordRefusal store n) store n
+readingWord store n = recordWord (recordRefusal store n) store n
 
 -- S-41, S-87: where in the store a record's block starts; 0 for a refusal
 abbrev pub offsetAt : ℕ → ℕ → ℕ

@@ -22,7 +22,16 @@ Numbered [] = Unit {0}
 Numbered ((test, zero) ∷ rest) = ⊥
 Numbered ((test, suc number) ∷ rest) = Numbered rest
 
+-- S-30: the first with 0, which is done; the second with the number of a refusal
+abbrev pub ifDone {ℓ} : {X : Type ℓ} → ℕ → X → X → X
+ifDone zero x y = x
+ifDone (suc number) x y = y
+
+-- the second number where the first is 0
+abbrev pub orNext : ℕ → ℕ → ℕ
+orNext zero next = next
+orNext (suc number) next = suc number
+
 -- S-30: what a call leaves of what it was lent: with 0 the list is at its front, with any other number nothing changed.
 abbrev pub leftBy : ℕ → List ℕ → List ℕ → List ℕ
-leftBy zero list lent = list ++ drop (length list) lent
-leftBy (suc number) list lent = lent
+leftBy number list lent = ifDone number (list ++ drop (length list) lent) lent

@@ -4,7 +4,7 @@ use mathlib.Core.List.{List, _++_}
 use Prim.Native.Nat.{ℕ, _+_, _-_, _*_, _≤_, min}
 use lib.ListN.{take, drop}
 use Rattle.laws.specs.Made.{made, join}
-use Rattle.bcn_spec.specs.Bits.{blockSize}
+use Rattle.bcn_spec.specs.Bits.{blockSize, sizeLimit}
 use Rattle.dds.specs.Dds.{blocksAlong}
 use Rattle.pfm.specs.File.{bodyOf, fileIn}
 
@@ -37,7 +37,7 @@ croppedRows lines across width rows = join (made (croppedRow lines across width 
 -- what fits: lengths of the blocks, of the rows as they are written, and of what is lent
 pub record RowsFit (format width rows blocks lines out : ℕ) : Type 0 where
   pub known : format ≤ 1
-  pub most : width ≤ 4096
+  pub most : width ≤ sizeLimit
   pub four : rows ≤ 4
   pub whole : blockSize * blocksAlong width ≤ blocks
   pub lined : 192 * blocksAlong width ≤ lines

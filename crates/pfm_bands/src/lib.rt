@@ -4,13 +4,14 @@ ghost use mathlib.Core.Path.{_≡_};
 ghost use mathlib.Core.List.{_++_};
 ghost use Prim.Native.Nat.{_≤_, _*_};
 ghost use lib.ListN.{length, drop};
+ghost use Rattle.bcn_spec.specs.Bits.{mostAcross};
 ghost use Rattle.pfm_bands.specs.Bands.{croppedRows, RowsFit, RowsPut};
 use pfm::put_band;
 use raw_bytes::copy_part;
 
 // The last `rows` of the four rows in `lines`, each cropped to `width` pixels.
 fn crop_rows(lines: &[u8], across: usize, width: usize, rows: usize, out: &mut [u8])
-    requires { ⌜ (across ≤ 1024) × (width ≤ 4 * across) × (rows ≤ 4) ⌝ }
+    requires { ⌜ (across ≤ mostAcross) × (width ≤ 4 * across) × (rows ≤ 4) ⌝ }
     requires { ⌜ (192 * across ≤ length (now lines)) × (12 * width * rows ≤ length (now out)) ⌝ }
     ensures { λ _. ⌜ now (out .exit) ≡ croppedRows (now (lines .entry)) across width rows ++ drop (12 * width * rows) (now (out .entry)) ⌝ }
 {

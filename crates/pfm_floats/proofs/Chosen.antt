@@ -15,7 +15,7 @@ use lib.Ieee.Fits.{down-pos}
 use lib.Ieee.Scale.{round-same}
 use borrow.Author.Tests.{lt-ltb, le-ltb, le-leb, lt-leb, ne-eqb}
 use Rattle.laws.specs.Pick.{pick}
-use Rattle.pfm_floats.specs.Half.{isNegative, exponentOf, digitsOf, sizeAt, sizeOf, floatOf}
+use Rattle.pfm_floats.specs.Half.{isNegative, exponentOf, digitsOf, magnitudeAt, sizeOf, floatOf}
 use Rattle.pfm_floats.proofs.Exact.{exact-part}
 
 -- ---- a product sees only the values of its factors
@@ -131,7 +131,7 @@ none-is = refl
 -- ---- the choice among the kinds, by exponent and digits
 
 floatAt : Bool → ℕ → ℕ → Float
-floatAt t e m = pick (eqb e 31) (pick (eqb m 0) (inf t) nan) (round binary32 t (sizeAt e m) (2 ^ 24))
+floatAt t e m = pick (eqb e 31) (pick (eqb m 0) (inf t) nan) (round binary32 t (magnitudeAt e m) (2 ^ 24))
 
 chosenOf : ℕ → Float
 chosenOf size =
@@ -141,7 +141,7 @@ chosenOf size =
     (sub binary32 (ofBits binary32 2139095040) (ofBits binary32 2139095040))
 
 below-top : (t : Bool) (k m : ℕ) → k < 30 → m < 1024 → mul binary32 (chosenOf (suc k * 1024 + m)) (fin t 1 (pos 0)) ≡ floatAt t (suc k) m
-unfolding floatAt chosenOf sizeAt
+unfolding floatAt chosenOf magnitudeAt
 below-top t k m K M =
     let size = suc k * 1024 + m in
     rw (le-leb size 31744 (omega arith), le-ltb size 1024 (omega arith), lt-ltb size 31744 (omega arith), ne-eqb (suc k) 31 (λ e. omega arith))
@@ -155,7 +155,7 @@ at-top t (suc m) M =
     rw (lt-leb size 31744 (omega arith), none-is, ne-eqb (suc m) 0 (λ e. omega arith))
 
 chosen-at : (t : Bool) (e m : ℕ) → e < 32 → m < 1024 → mul binary32 (chosenOf (e * 1024 + m)) (fin t 1 (pos 0)) ≡ floatAt t e m
-unfolding floatAt chosenOf sizeAt
+unfolding floatAt chosenOf magnitudeAt
 chosen-at t zero m E M =
     let none : 0 * 1024 + m ≡ m = omega arith in
     rw (none, le-leb m 31744 (omega arith), lt-ltb m 1024 M)

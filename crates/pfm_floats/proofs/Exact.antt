@@ -14,7 +14,7 @@ use lib.Ieee.Fits.{inf-fits, round-fits}
 use lib.Ieee.Bits.{ofBits-toBits}
 use borrow.Author.Tests.{eq-eqb, ne-eqb}
 use Rattle.laws.specs.Pick.{pick}
-use Rattle.pfm_floats.specs.Half.{signed, isNegative, exponentOf, digitsOf, sizeAt, sizeOf, halfValue, Is24ths, floatOf, rgbOf, IsNumber}
+use Rattle.pfm_floats.specs.Half.{signed, isNegative, exponentOf, digitsOf, magnitudeAt, sizeOf, halfValue, Is24ths, floatOf, rgbOf, IsNumber}
 use Rattle.pfm_floats.specs.declared.Rgb.{Rgb}
 use Rattle.pfm_floats.specs.Bytes.{Numbers}
 
@@ -32,8 +32,8 @@ exact-part s q k Q K =
     regroup-at : (q p : ℕ) → q * p * 2 ^ 149 ≡ q * (p * 2 ^ 125) * 2 ^ 24
     regroup-at q p = shape q p (2 ^ 125) (2 ^ 24)
 
-exact-at : (s : Bool) (e m : ℕ) → e < 31 → m < 1024 → HasValue (round binary32 s (sizeAt e m) (2 ^ 24)) s (sizeAt e m) (2 ^ 24)
-unfolding sizeAt
+exact-at : (s : Bool) (e m : ℕ) → e < 31 → m < 1024 → HasValue (round binary32 s (magnitudeAt e m) (2 ^ 24)) s (magnitudeAt e m) (2 ^ 24)
+unfolding magnitudeAt
 exact-at s zero m E M = rw mul-one at (exact-part s m 0 (omega arith) (lit< tt))
 exact-at s (suc e) m E M = exact-part s (1024 + m) e (omega arith) (omega arith)
 
@@ -53,7 +53,7 @@ pub float-exact : (h : ℕ) → exponentOf h < 31 → Is24ths (floatOf h) (isNeg
 unfolding floatOf halfValue sizeOf
 float-exact h E =
     rw (ne-eqb (exponentOf h) 31 (λ e. omega arith))
-    (value-24 (round binary32 (isNegative h) (sizeAt (exponentOf h) (digitsOf h)) (2 ^ 24)) (isNegative h) (sizeAt (exponentOf h) (digitsOf h)) (exact-at (isNegative h) (exponentOf h) (digitsOf h) E (omega arith)))
+    (value-24 (round binary32 (isNegative h) (magnitudeAt (exponentOf h) (digitsOf h)) (2 ^ 24)) (isNegative h) (magnitudeAt (exponentOf h) (digitsOf h)) (exact-at (isNegative h) (exponentOf h) (digitsOf h) E (omega arith)))
 
 -- S-64: the other patterns: 0xFC00 becomes minus infinity; 0x7C00, which no block shows, plus infinity; and not a number, which none shows either
 pub float-lowest : floatOf 0xFC00 ≡ inf true
@@ -87,7 +87,7 @@ float-number h n =
     (λ e. rw (eq-eqb (exponentOf h) 31 e, eq-eqb (digitsOf h) 0 (no-digits h n e)) tt)
     (λ l.
     rw (ne-eqb (exponentOf h) 31 (λ e. omega arith))
-    (valued (round binary32 (isNegative h) (sizeAt (exponentOf h) (digitsOf h)) (2 ^ 24)) (isNegative h) (sizeAt (exponentOf h) (digitsOf h)) (2 ^ 24) (exact-at (isNegative h) (exponentOf h) (digitsOf h) (omega arith) (omega arith))))
+    (valued (round binary32 (isNegative h) (magnitudeAt (exponentOf h) (digitsOf h)) (2 ^ 24)) (isNegative h) (magnitudeAt (exponentOf h) (digitsOf h)) (2 ^ 24) (exact-at (isNegative h) (exponentOf h) (digitsOf h) (omega arith) (omega arith))))
     (eq-or-lt-of-le (most h))
   where
     most : (h : ℕ) → exponentOf h ≤ 31

@@ -24,12 +24,12 @@ abbrev pub digitsOf : ℕ → ℕ
 digitsOf half = half % 0x400
 
 -- The size in 2^−24ths: an exponent of 0 is a subnormal pattern, which has no leading digit.
-unfoldable pub sizeAt : ℕ → ℕ → ℕ
-sizeAt zero digits = digits
-sizeAt (suc exponent) digits = (0x400 + digits) * 2 ^ exponent
+unfoldable pub magnitudeAt : ℕ → ℕ → ℕ
+magnitudeAt zero digits = digits
+magnitudeAt (suc exponent) digits = (0x400 + digits) * 2 ^ exponent
 
 unfoldable pub sizeOf : ℕ → ℕ
-sizeOf half = sizeAt (exponentOf half) (digitsOf half)
+sizeOf half = magnitudeAt (exponentOf half) (digitsOf half)
 
 -- S-64: the value of a pattern whose exponent is below 31, as a multiple of 2^−24.
 unfoldable pub halfValue : ℕ → ℤ

@@ -19,32 +19,32 @@ use Rattle.probe_places.specs.declared.Place.{Place}
 use Rattle.probe_places.specs.Places.{placeSize}
 use Rattle.probe.specs.Probe.{edgeLimit}
 use Rattle.probe_build.specs.declared.Built.{Built}
-use Rattle.probe_build.specs.Building.{recordCount, placeFor, tileFor, recordWith, recordOf, builtOf, buildChecks, buildRefusal, builtAt, BuiltTo}
+use Rattle.probe_build.specs.Building.{recordCount, placeFor, tileFor, recordWith, builtRecord, builtOf, buildChecks, buildRefusal, builtAt, BuiltTo}
 use Rattle.probe_build.proofs.Records.{record-length}
 
 -- ---- the bytes
 
-pub each-length : (blocks : List ℕ) (format edge first n : ℕ) → length (recordOf blocks format edge first n) ≡ placeSize
-unfolding recordOf
+pub each-length : (blocks : List ℕ) (format edge first n : ℕ) → length (builtRecord blocks format edge first n) ≡ placeSize
+unfolding builtRecord
 each-length blocks format edge first n = record-length blocks n (tileFor first n) format (placeFor edge n)
 
 pub record-is : (blocks : List ℕ) (format edge first n : ℕ) {tile : ℕ} {place : Place} → tile ≡ tileFor first n → place ≡ placeFor edge n
-    → recordWith blocks n tile format place ≡ recordOf blocks format edge first n
-unfolding recordOf
+    → recordWith blocks n tile format place ≡ builtRecord blocks format edge first n
+unfolding builtRecord
 record-is blocks format edge first n t p = rw (t, p)
 
 pub built-length : (blocks : List ℕ) (format edge first : ℕ) → length (builtOf blocks format edge first) ≡ placeSize * recordCount edge
 unfolding builtOf
-built-length blocks format edge first = run-length (recordOf blocks format edge first) placeSize (each-length blocks format edge first) (recordCount edge)
+built-length blocks format edge first = run-length (builtRecord blocks format edge first) placeSize (each-length blocks format edge first) (recordCount edge)
 
 -- a record that was written into its part
 pub record-shown : (blocks : List ℕ) (format edge first n : ℕ) (part : List ℕ) {tile : ℕ} {place : Place} {after : List ℕ} → tile ≡ tileFor first n → place ≡ placeFor edge n
-    → after ≡ recordWith blocks n tile format place ++ drop placeSize part → after ≡ recordOf blocks format edge first n ++ drop placeSize part
+    → after ≡ recordWith blocks n tile format place ++ drop placeSize part → after ≡ builtRecord blocks format edge first n ++ drop placeSize part
 record-shown blocks format edge first n part t p e = e ∙ ap (λ (l : List ℕ). l ++ drop placeSize part) (record-is blocks format edge first n t p)
 
 -- all records were written
 pub built-whole : (blocks : List ℕ) (format edge first : ℕ) (lent : List ℕ) {count : ℕ} {after : List ℕ} → count ≡ recordCount edge
-    → after ≡ join (made (recordOf blocks format edge first) count) ++ drop (placeSize * count) lent
+    → after ≡ join (made (builtRecord blocks format edge first) count) ++ drop (placeSize * count) lent
     → after ≡ builtOf blocks format edge first ++ drop (placeSize * recordCount edge) lent
 unfolding builtOf
 built-whole blocks format edge first lent c e = rw c at e

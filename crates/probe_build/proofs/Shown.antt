@@ -23,8 +23,8 @@ use Rattle.probe_faces.specs.Face.{faceRefusal, faceFault, FacePainted}
 use Rattle.probe_faces.proofs.Painting.{pixel-same}
 use Rattle.probe_faces.proofs.Painting as paint
 use Rattle.probe_places.specs.Faults.{noFault}
-use Rattle.probe_build.specs.Building.{recordCount, placeFor, tileFor, headOf, recordOf, builtOf}
-use Rattle.probe_build.specs.Pictures.{blockAt, blockTriple, pictureAt, Shows, BuildShows}
+use Rattle.probe_build.specs.Building.{recordCount, placeFor, tileFor, recordHead, builtRecord, builtOf}
+use Rattle.probe_build.specs.Pictures.{blockNumber, blockTriple, faceTriple, Shows, BuildShows}
 use Rattle.probe_build.proofs.Numbers.{count-small, column-small, row-small, face-small, number-of, place-number, number-small}
 use Rattle.probe_build.proofs.Records.{head-zero, record-head, record-block}
 use Rattle.probe_build.proofs.Builds.{each-length, built-length, was-buildable, front-is}
@@ -36,33 +36,33 @@ module _ (blocks : List ℕ) (format edge first : ℕ) where
 
   module _ (n : ℕ) (h : n < recordCount edge) where
     -- byte k of record n
-    pub byte-is : (k : ℕ) → k < 32 → byteAt (builtOf blocks format edge first) n k ≡ getD (recordOf blocks format edge first n) k 0
+    pub byte-is : (k : ℕ) → k < 32 → byteAt (builtOf blocks format edge first) n k ≡ getD (builtRecord blocks format edge first n) k 0
     unfolding builtOf
     byte-is k l =
         let e : n * 32 + k ≡ 32 * n + k = omega arith in
         ap (λ (i : ℕ). getD (builtOf blocks format edge first) i 0) e
         ∙ ap (λ (s : List ℕ). getD s (32 * n + k) 0) (sym (append-nil (builtOf blocks format edge first)))
-        ∙ run-value (recordOf blocks format edge first) placeSize (each-length blocks format edge first) (recordCount edge) n k [] h l
+        ∙ run-value (builtRecord blocks format edge first) placeSize (each-length blocks format edge first) (recordCount edge) n k [] h l
 
-    head-is : (k : ℕ) → k < 16 → byteAt (builtOf blocks format edge first) n k ≡ getD (headOf (tileFor first n) format (placeFor edge n)) k 0
-    unfolding recordOf
+    head-is : (k : ℕ) → k < 16 → byteAt (builtOf blocks format edge first) n k ≡ getD (recordHead (tileFor first n) format (placeFor edge n)) k 0
+    unfolding builtRecord
     head-is k l = byte-is k (omega arith) ∙ sym (record-head blocks n (tileFor first n) format (placeFor edge n) k l)
 
     pub built-format : formatIn (builtOf blocks format edge first) n ≡ format
-    unfolding headOf
+    unfolding recordHead
     built-format = head-is 4 (lit< tt)
 
     zeros-at : (k : ℕ) → k < 6 → byteAt (builtOf blocks format edge first) n (10 + k) ≡ 0
     zeros-at k l = head-is (10 + k) (omega arith) ∙ sym (head-zero (tileFor first n) format (placeFor edge n) (10 + k) (omega arith))
 
     pub built-tile : tileIn (builtOf blocks format edge first) n ≡ tileFor first n
-    unfolding tileIn headOf
+    unfolding tileIn recordHead
     built-tile =
         four-back (builtOf blocks format edge first) (n * placeSize) (tileFor first n) (omega arith) (head-is 0 (lit< tt)) (head-is 1 (lit< tt))
         (head-is 2 (lit< tt)) (head-is 3 (lit< tt))
 
     block-at : (k : ℕ) → k < 16 → byteAt (builtOf blocks format edge first) n (16 + k) ≡ getD blocks (16 * n + k) 0
-    unfolding recordOf
+    unfolding builtRecord
     block-at k l =
         let e : 16 + k - 16 ≡ k = omega arith in
         byte-is (16 + k) (omega arith)
@@ -84,7 +84,7 @@ module _ (blocks : List ℕ) (format edge first : ℕ) where
 
     module _ (a : 1 ≤ edge) (b : edge ≤ edgeLimit) where
       pub built-place : placeIn (builtOf blocks format edge first) n ≡ placeFor edge n
-      unfolding headOf placeFor
+      unfolding recordHead placeFor
       built-place =
           let c : n % edge < edge = column-small edge a n in
           let r : n % (edge * edge) / edge < edge = row-small edge a n in
@@ -193,11 +193,11 @@ module _ (blocks : List ℕ) (format edge first : ℕ) (a : 1 ≤ edge) (b : edg
       down : y / 4 < edge
       down = let l : y < 4 * edge = i .y-inside in omega arith
 
-      pub built-pixel : tripleFor (builtOf blocks format edge first) face x y ≡ pictureAt blocks format edge face x y
+      pub built-pixel : tripleFor (builtOf blocks format edge first) face x y ≡ faceTriple blocks format edge face x y
       unfolding tripleFor
       built-pixel =
           ap (λ (n : ℕ). tripleAt (builtOf blocks format edge first) n (4 * (y % 4) + x % 4)) (built-record face (x / 4) (y / 4) (i .face-inside) across down)
-          ∙ built-triple (blockAt edge face x y) (4 * (y % 4) + x % 4) (number-inside face (x / 4) (y / 4) (i .face-inside) across down)
+          ∙ built-triple (blockNumber edge face x y) (4 * (y % 4) + x % 4) (number-inside face (x / 4) (y / 4) (i .face-inside) across down)
 
       asked-answer : {q : ProbePixel} → Asked (builtOf blocks format edge first) edge face x y q → q .answer ≡ done
       asked-answer d =

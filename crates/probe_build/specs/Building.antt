@@ -29,8 +29,8 @@ abbrev pub tileFor : ℕ → ℕ → ℕ
 tileFor first n = (first + n) % 2 ^ 32
 
 -- S-53: tile number, format, face, column, row and six zeros, each number low byte first.
-unfoldable pub headOf : ℕ → ℕ → Place → List ℕ
-headOf tile format p =
+unfoldable pub recordHead : ℕ → ℕ → Place → List ℕ
+recordHead tile format p =
     tile % 0x100 ∷ tile / 0x100 % 0x100 ∷ tile / 0x10000 % 0x100 ∷ tile / 0x1000000 % 0x100 ∷ format ∷ p .face ∷
     p .column % 0x100 ∷ p .column / 0x100 % 0x100 ∷ p .row % 0x100 ∷ p .row / 0x100 % 0x100 ∷
     0 ∷ 0 ∷ 0 ∷ 0 ∷ 0 ∷ 0 ∷ []
@@ -39,19 +39,19 @@ headOf tile format p =
 unfoldable pub blockByte : List ℕ → ℕ → ℕ → ℕ
 blockByte blocks n k = getD blocks (blockSize * n + k) 0
 
-abbrev pub blockBytes : List ℕ → ℕ → List ℕ
-blockBytes blocks n = made (blockByte blocks n) blockSize
+abbrev pub bytesOfBlock : List ℕ → ℕ → List ℕ
+bytesOfBlock blocks n = made (blockByte blocks n) blockSize
 
 -- S-53, S-59: the head, and then the block.
 unfoldable pub recordWith : List ℕ → ℕ → ℕ → ℕ → Place → List ℕ
-recordWith blocks n tile format p = headOf tile format p ++ blockBytes blocks n
+recordWith blocks n tile format p = recordHead tile format p ++ bytesOfBlock blocks n
 
-unfoldable pub recordOf : List ℕ → ℕ → ℕ → ℕ → ℕ → List ℕ
-recordOf blocks format edge first n = recordWith blocks n (tileFor first n) format (placeFor edge n)
+unfoldable pub builtRecord : List ℕ → ℕ → ℕ → ℕ → ℕ → List ℕ
+builtRecord blocks format edge first n = recordWith blocks n (tileFor first n) format (placeFor edge n)
 
 -- S-59: the store: its records from the first
 unfoldable pub builtOf : List ℕ → ℕ → ℕ → ℕ → List ℕ
-builtOf blocks format edge first = join (made (recordOf blocks format edge first) (recordCount edge))
+builtOf blocks format edge first = join (made (builtRecord blocks format edge first) (recordCount edge))
 
 -- ---- the checks
 
@@ -113,6 +113,6 @@ unfolding placeFor
 first-row = refl
 
 -- the tile number wraps
-wrapped : headOf (tileFor 0xFFFFFFFF 5) 1 (placeOf 1 1 0) ≡ 4 ∷ 0 ∷ 0 ∷ 0 ∷ 1 ∷ 1 ∷ 1 ∷ 0 ∷ 0 ∷ 0 ∷ 0 ∷ 0 ∷ 0 ∷ 0 ∷ 0 ∷ 0 ∷ []
-unfolding headOf
+wrapped : recordHead (tileFor 0xFFFFFFFF 5) 1 (placeOf 1 1 0) ≡ 4 ∷ 0 ∷ 0 ∷ 0 ∷ 1 ∷ 1 ∷ 1 ∷ 0 ∷ 0 ∷ 0 ∷ 0 ∷ 0 ∷ 0 ∷ 0 ∷ 0 ∷ 0 ∷ []
+unfolding recordHead
 wrapped = refl

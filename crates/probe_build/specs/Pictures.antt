@@ -18,18 +18,18 @@ use Rattle.probe_build.specs.Building.{BuiltTo}
 use Rattle.probe_build.specs.Edges.{edgeOf}
 
 -- S-59: the bytes that were written.
-abbrev pub leftBy : Built → List ℕ → List ℕ
-leftBy r after = take (placeSize * r .records) after
+abbrev pub builtPart : Built → List ℕ → List ℕ
+builtPart r after = take (placeSize * r .records) after
 
 -- S-59: pixel (x, y) of a face is pixel (x mod 4, y mod 4) of the block at column x div 4, row y div 4 of that face's blocks.
-abbrev pub blockAt : ℕ → ℕ → ℕ → ℕ → ℕ
-blockAt edge face x y = face * (edge * edge) + y / 4 * edge + x / 4
+abbrev pub blockNumber : ℕ → ℕ → ℕ → ℕ → ℕ
+blockNumber edge face x y = face * (edge * edge) + y / 4 * edge + x / 4
 
 unfoldable pub blockTriple : List ℕ → ℕ → ℕ → ℕ → List ℕ
 blockTriple blocks format m pixel = tripleOf (pixelsOf (isSigned format) (take blockSize (drop (blockSize * m) blocks))) pixel
 
-abbrev pub pictureAt : List ℕ → ℕ → ℕ → ℕ → ℕ → ℕ → List ℕ
-pictureAt blocks format edge face x y = blockTriple blocks format (blockAt edge face x y) (4 * (y % 4) + x % 4)
+abbrev pub faceTriple : List ℕ → ℕ → ℕ → ℕ → ℕ → ℕ → List ℕ
+faceTriple blocks format edge face x y = blockTriple blocks format (blockNumber edge face x y) (4 * (y % 4) + x % 4)
 
 -- Over the calls' own statements: the check answers done, the edge call answers the edge, the pixel call answers each pixel's block, and so
 -- does the face call.
@@ -38,13 +38,13 @@ pub record Shows (blocks : List ℕ) (format edge : ℕ) (store : List ℕ) : Ty
   pub checked : {fault : Fault} → fault ≡ probeFault store edge → fault ≡ noFault
   pub by-length : {n : ℕ} → n ≡ edgeOf (length store) → n ≡ edge
   pub pixel : (face x y : ℕ) → InRange edge face x y → {q : ProbePixel} → Asked store edge face x y q
-      → (q .answer ≡ done) × (tripleIn q ≡ pictureAt blocks format edge face x y)
+      → (q .answer ≡ done) × (tripleIn q ≡ faceTriple blocks format edge face x y)
   pub painted : (face : ℕ) → face < faceCount → {lent after : List ℕ} {r : Fault} → FacePainted store edge face lent r after
       → 48 * edge * edge ≤ length lent → r ≡ noFault
   pub face : (face x y c : ℕ) → InRange edge face x y → c < 3 → {lent after : List ℕ} {r : Fault} → FacePainted store edge face lent r after → r .answer ≡ done
-      → getD after (12 * edge * y + (3 * x + c)) 0 ≡ getD (pictureAt blocks format edge face x y) c 0
+      → getD after (12 * edge * y + (3 * x + c)) 0 ≡ getD (faceTriple blocks format edge face x y) c 0
 
 abbrev pub BuildShows : Type 0
 BuildShows =
     (blocks : List ℕ) (format edge first : ℕ) (lent after : List ℕ) (r : Built) → BuiltTo blocks format edge first lent r after → r .answer ≡ done
-    → Shows blocks format edge (leftBy r after)
+    → Shows blocks format edge (builtPart r after)

@@ -6,8 +6,8 @@ ghost use Prim.Native.Nat.{_+_, _*_, _%_, _≤_, _<_};
 ghost use lib.ListN.{length, getD, drop};
 ghost use Rattle.bcn_spec.specs.Bits.{blockSize};
 ghost use Rattle.probe_places.specs.Places.{placeSize};
-ghost use Rattle.probe.specs.Probe.{edgeLimit};
-ghost use Rattle.probe_build.specs.Building.{recordCount, placeFor, tileFor, headOf, recordWith, builtOf, buildRefusal, builtAt, BuiltTo};
+ghost use Rattle.probe.specs.Probe.{edgeLimit, placeCount};
+ghost use Rattle.probe_build.specs.Building.{recordCount, placeFor, tileFor, recordHead, recordWith, builtOf, buildRefusal, builtAt, BuiltTo};
 ghost use Rattle.probe_build.specs.Edges.{edgeOf};
 use bcn_spec::Answer;
 use bcn_spec::Block;
@@ -41,7 +41,7 @@ impl Built {
 // The records of a probe of the edge.
 fn record_count(edge: usize) -> usize
     requires { ⌜ edge ≤ edgeLimit ⌝ }
-    ensures { λ r. ⌜ (r ≡ recordCount edge) × (r ≤ 1536) ⌝ }
+    ensures { λ r. ⌜ (r ≡ recordCount edge) × (r ≤ placeCount) ⌝ }
 {
     6 * edge * edge
 }
@@ -61,7 +61,7 @@ fn place_of(edge: usize, n: usize) -> Place
 
 // The tile number of record n.
 fn tile_of(first: u32, n: usize) -> u32
-    requires { ⌜ n < 1536 ⌝ }
+    requires { ⌜ n < placeCount ⌝ }
     ensures { λ r. ⌜ r ≡ tileFor first n ⌝ }
 {
     std::num::wrapping_add_u32(first, n as u32)
@@ -82,7 +82,7 @@ fn low_of_pair(value: u16) -> u8
 
 // Byte k of a record's head.
 fn head_byte(tile: u32, format: u8, place: Place, k: usize) -> u8
-    ensures { λ r. ⌜ r ≡ getD (headOf tile format place) k 0 ⌝ }
+    ensures { λ r. ⌜ r ≡ getD (recordHead tile format place) k 0 ⌝ }
 {
     match k {
         0 => low(tile),
@@ -101,7 +101,7 @@ fn head_byte(tile: u32, format: u8, place: Place, k: usize) -> u8
 
 // Byte k of a record.
 fn record_byte(blocks: &[u8], n: usize, tile: u32, format: u8, place: Place, k: usize) -> u8
-    requires { ⌜ (n < 1536) × (blockSize * n + blockSize ≤ length (now blocks)) × (k < placeSize) ⌝ }
+    requires { ⌜ (n < placeCount) × (blockSize * n + blockSize ≤ length (now blocks)) × (k < placeSize) ⌝ }
     ensures { λ r. ⌜ r ≡ getD (recordWith (now (blocks .entry)) n tile format place) k 0 ⌝ }
 {
     if k < Place::HEAD {
@@ -112,7 +112,7 @@ fn record_byte(blocks: &[u8], n: usize, tile: u32, format: u8, place: Place, k: 
 
 // A record into the first 32 bytes of `out`.
 fn write_record(blocks: &[u8], n: usize, tile: u32, format: u8, place: Place, out: &mut [u8])
-    requires { ⌜ (n < 1536) × (blockSize * n + blockSize ≤ length (now blocks)) × (placeSize ≤ length (now out)) ⌝ }
+    requires { ⌜ (n < placeCount) × (blockSize * n + blockSize ≤ length (now blocks)) × (placeSize ≤ length (now out)) ⌝ }
     ensures { λ _. ⌜ now (out .exit) ≡ recordWith (now (blocks .entry)) n tile format place ++ drop placeSize (now (out .entry)) ⌝ }
 {
     for k in 0..Place::SIZE {

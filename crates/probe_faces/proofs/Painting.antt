@@ -20,7 +20,7 @@ use Rattle.probe.specs.Held.{Checked}
 use Rattle.probe.proofs.Checking.{then-done, then-records, then-alone, in-range}
 use Rattle.probe.proofs.Probes.{passed-probe}
 use Rattle.probe.proofs.Telling.{answer-number, done-triple}
-use Rattle.probe_faces.specs.Face.{rowValue, rowOf, faceOf, faceChecks, faceRefusal, faceFault, FacePainted}
+use Rattle.probe_faces.specs.Face.{rowValue, faceRow, faceOf, faceChecks, faceRefusal, faceFault, FacePainted}
 use Rattle.probe_faces.specs.Strip.{fourRows}
 use Rattle.laws.proofs.Joined.{run-length, run-value}
 use Rattle.probe_faces.proofs.Strips.{row-length, four-length, by-fours}
@@ -114,12 +114,12 @@ module _ {store : List ℕ} {edge face : ℕ} {lent after : List ℕ} {r : Fault
 
     -- pixel by pixel it is what the pixel call answers: the three values of (x, y) stand at 3 (4 n y + x)
     pub pixel-same : (x y c : ℕ) → x < 4 * edge → y < 4 * edge → c < 3 → getD after (12 * edge * y + (3 * x + c)) 0 ≡ getD (tripleFor store face x y) c 0
-    unfolding faceOf rowOf rowValue
+    unfolding faceOf faceRow rowValue
     pixel-same x y c hx hy hc =
         let a : (3 * x + c) / 3 ≡ x = omega arith in
         let b : (3 * x + c) % 3 ≡ c = omega arith in
         ap (λ (t : List ℕ). getD t (12 * edge * y + (3 * x + c)) 0) whole
-        ∙ run-value (rowOf store edge face) (12 * edge) (row-length store edge face) (4 * edge) y (3 * x + c) _ hy (omega arith)
+        ∙ run-value (faceRow store edge face) (12 * edge) (row-length store edge face) (4 * edge) y (3 * x + c) _ hy (omega arith)
         ∙ getD-made (rowValue store face y) (12 * edge) (3 * x + c) 0 (omega arith)
         ∙ rw (a, b)
 

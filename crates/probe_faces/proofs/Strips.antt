@@ -9,8 +9,8 @@ use Rattle.laws.proofs.Rows.{length-made, getD-made, made-same, made-each}
 use Rattle.probe.specs.Probe.{placeOf, recordFor, shownIn, tripleOf, tripleAt, tripleFor}
 use Rattle.probe.specs.Held.{RecordOf}
 use Rattle.probe.proofs.Asking.{shown-length}
-use Rattle.probe_faces.specs.Face.{rowValue, rowOf}
-use Rattle.probe_faces.specs.Strip.{stripBlock, stripOf, pieceValue, stripPiece, stripValue, stripRow, rowIn, fourRows}
+use Rattle.probe_faces.specs.Face.{rowValue, faceRow}
+use Rattle.probe_faces.specs.Strip.{stripBlock, stripOf, pieceValue, stripPiece, stripValue, stripRow, pixelRow, fourRows}
 use Rattle.laws.proofs.Joined.{run-value, run-length, run-fours}
 
 -- ---- lengths
@@ -19,8 +19,8 @@ pub block-length : (store : List ℕ) (face row column : ℕ) → length (stripB
 unfolding stripBlock
 block-length store face row column = shown-length store (recordFor store (placeOf face column row))
 
-pub row-length : (store : List ℕ) (edge face y : ℕ) → length (rowOf store edge face y) ≡ 12 * edge
-unfolding rowOf
+pub row-length : (store : List ℕ) (edge face y : ℕ) → length (faceRow store edge face y) ≡ 12 * edge
+unfolding faceRow
 row-length store edge face y = length-made (rowValue store face y) (12 * edge)
 
 pub strip-row-length : (strip : List ℕ) (edge k : ℕ) → length (stripRow strip edge k) ≡ 12 * edge
@@ -28,9 +28,9 @@ unfolding stripRow
 strip-row-length strip edge k = length-made (stripValue strip k) (12 * edge)
 
 pub four-length : (store : List ℕ) (edge face row : ℕ) → length (fourRows store edge face row) ≡ 48 * edge
-unfolding fourRows rowIn
+unfolding fourRows pixelRow
 four-length store edge face row =
-    run-length (rowIn store edge face row) (12 * edge) (λ k. row-length store edge face (4 * row + k)) 4 ∙ omega arith
+    run-length (pixelRow store edge face row) (12 * edge) (λ k. row-length store edge face (4 * row + k)) 4 ∙ omega arith
 
 -- ---- a strip's row is copied piece by piece
 
@@ -89,8 +89,8 @@ module _ (store : List ℕ) (edge face row k : ℕ) (h : k < 4) where
       ∙ rw (a, b, c, d)
 
   -- a strip's row is the face's
-  pub row-same : (strip rest : List ℕ) → strip ≡ stripOf store face row edge ++ rest → stripRow strip edge k ≡ rowIn store edge face row k
-  unfolding stripRow rowIn rowOf stripValue
+  pub row-same : (strip rest : List ℕ) → strip ≡ stripOf store face row edge ++ rest → stripRow strip edge k ≡ pixelRow store edge face row k
+  unfolding stripRow pixelRow faceRow stripValue
   row-same strip rest e =
       made-same (stripValue strip k) (rowValue store face (4 * row + k)) (12 * edge) (λ i l.
       ap (λ (t : List ℕ). getD t (48 * (i / 12) + (12 * k + i % 12)) 0) e
@@ -101,7 +101,7 @@ pub four-same : (store : List ℕ) (edge face row : ℕ) (strip rest : List ℕ)
     → join (made (stripRow strip edge) 4) ≡ fourRows store edge face row
 unfolding fourRows
 four-same store edge face row strip rest e =
-    ap join (made-same (stripRow strip edge) (rowIn store edge face row) 4 (λ k h. row-same store edge face row k h strip rest e))
+    ap join (made-same (stripRow strip edge) (pixelRow store edge face row) 4 (λ k h. row-same store edge face row k h strip rest e))
 
 pub four-shown : (store : List ℕ) (edge face row : ℕ) (strip rest out : List ℕ) {part : List ℕ} → strip ≡ stripOf store face row edge ++ rest
     → part ≡ join (made (stripRow strip edge) 4) ++ out → part ≡ fourRows store edge face row ++ out
@@ -111,9 +111,9 @@ four-shown store edge face row strip rest out e q = q ∙ ap (λ (t : List ℕ).
 
 module _ (store : List ℕ) (edge face : ℕ) where
   fours : (row : ℕ) → fourRows store edge face row
-      ≡ rowOf store edge face (4 * row) ++ (rowOf store edge face (4 * row + 1) ++ (rowOf store edge face (4 * row + 2) ++ rowOf store edge face (4 * row + 3)))
-  unfolding fourRows rowIn made
+      ≡ faceRow store edge face (4 * row) ++ (faceRow store edge face (4 * row + 1) ++ (faceRow store edge face (4 * row + 2) ++ faceRow store edge face (4 * row + 3)))
+  unfolding fourRows pixelRow made
   fours row = let z : 4 * row + 0 ≡ 4 * row = omega arith in rw z (simp append-nil)
 
-  pub by-fours : (n : ℕ) → join (made (fourRows store edge face) n) ≡ join (made (rowOf store edge face) (4 * n))
-  by-fours n = sym (run-fours (rowOf store edge face) (fourRows store edge face) fours n)
+  pub by-fours : (n : ℕ) → join (made (fourRows store edge face) n) ≡ join (made (faceRow store edge face) (4 * n))
+  by-fours n = sym (run-fours (faceRow store edge face) (fourRows store edge face) fours n)

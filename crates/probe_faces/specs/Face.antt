@@ -16,12 +16,12 @@ use Rattle.probe.specs.Probe.{thenAlone, probeFault, tripleFor}
 unfoldable pub rowValue : List ℕ → ℕ → ℕ → ℕ → ℕ
 rowValue store face y i = getD (tripleFor store face (i / 3) y) (i % 3) 0
 
-unfoldable pub rowOf : List ℕ → ℕ → ℕ → ℕ → List ℕ
-rowOf store edge face y = made (rowValue store face y) (12 * edge)
+unfoldable pub faceRow : List ℕ → ℕ → ℕ → ℕ → List ℕ
+faceRow store edge face y = made (rowValue store face y) (12 * edge)
 
 -- the rows of a face, from the top
 unfoldable pub faceOf : List ℕ → ℕ → ℕ → List ℕ
-faceOf store edge face = join (made (rowOf store edge face) (4 * edge))
+faceOf store edge face = join (made (faceRow store edge face) (4 * edge))
 
 -- the probe's refusals first; then 24 for a face above 5, then 3 for fewer than 48 values a block
 abbrev pub faceChecks : ℕ → ℕ → ℕ → List (Bool × ℕ)

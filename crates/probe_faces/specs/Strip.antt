@@ -4,7 +4,11 @@ use Prim.Native.Nat.{ℕ, _+_, _*_, _/_, _%_}
 use lib.ListN.{getD}
 use Rattle.laws.specs.Made.{made, join}
 use Rattle.probe.specs.Probe.{placeOf, recordFor, shownIn}
-use Rattle.probe_faces.specs.Face.{rowOf}
+use Rattle.probe_faces.specs.Face.{faceRow}
+
+-- the values of a row of the most blocks
+abbrev pub stripSize : ℕ
+stripSize = 768
 
 -- the values of the block at a column of a row of blocks, and of the first blocks of the row
 unfoldable pub stripBlock : List ℕ → ℕ → ℕ → ℕ → List ℕ
@@ -28,8 +32,8 @@ unfoldable pub stripRow : List ℕ → ℕ → ℕ → List ℕ
 stripRow strip edge k = made (stripValue strip k) (12 * edge)
 
 -- the four rows of pixels of a row of blocks, of the face
-unfoldable pub rowIn : List ℕ → ℕ → ℕ → ℕ → ℕ → List ℕ
-rowIn store edge face row k = rowOf store edge face (4 * row + k)
+unfoldable pub pixelRow : List ℕ → ℕ → ℕ → ℕ → ℕ → List ℕ
+pixelRow store edge face row k = faceRow store edge face (4 * row + k)
 
 unfoldable pub fourRows : List ℕ → ℕ → ℕ → ℕ → List ℕ
-fourRows store edge face row = join (made (rowIn store edge face row) 4)
+fourRows store edge face row = join (made (pixelRow store edge face row) 4)

@@ -6,10 +6,10 @@ ghost use Prim.Native.Nat.{_+_, _*_, _≤_, _<_};
 ghost use lib.ListN.{length, drop};
 ghost use Rattle.laws.specs.Made.{made, join};
 ghost use Rattle.probe_places.specs.Places.{faceCount, placesIn};
-ghost use Rattle.probe.specs.Probe.{IsProbe};
+ghost use Rattle.probe.specs.Probe.{IsProbe, edgeLimit};
 ghost use Rattle.probe.specs.Held.{Held};
 ghost use Rattle.probe_faces.specs.Face.{faceOf, faceRefusal, FacePainted};
-ghost use Rattle.probe_faces.specs.Strip.{stripOf, pieceValue, stripRow};
+ghost use Rattle.probe_faces.specs.Strip.{stripOf, pieceValue, stripRow, stripSize};
 use bc6h_spec::Picture;
 use bcn_spec::Answer;
 use probe::ProbePixel;
@@ -17,6 +17,9 @@ use probe::check_places;
 use probe::held_record;
 use probe::show_block;
 use probe_places::Fault;
+
+// The values of a row of as many blocks as an edge may have.
+const STRIP: usize = 768;
 
 // The values of a row of blocks, block by block.
 fn hold_strip(
@@ -51,7 +54,7 @@ fn copy_piece(strip: &[u16], from: usize, out: &mut [u16])
 
 // Row k of the pixels in a strip: row k of each of its blocks, copied whole.
 fn write_row(strip: &[u16], edge: usize, k: usize, out: &mut [u16])
-    requires { ⌜ (edge ≤ 16) × (k < 4) × (length (now strip) ≡ 768) × (12 * edge ≤ length (now out)) ⌝ }
+    requires { ⌜ (edge ≤ edgeLimit) × (k < 4) × (length (now strip) ≡ stripSize) × (12 * edge ≤ length (now out)) ⌝ }
     ensures { λ _. ⌜ now (out .exit) ≡ stripRow (now (strip .entry)) edge k ++ drop (12 * edge) (now (out .entry)) ⌝ }
 {
     for column in 0..edge {
@@ -63,7 +66,7 @@ fn write_row(strip: &[u16], edge: usize, k: usize, out: &mut [u16])
 
 // The four rows of the pixels in a strip.
 fn write_strip(strip: &[u16], edge: usize, out: &mut [u16])
-    requires { ⌜ (edge ≤ 16) × (length (now strip) ≡ 768) × (48 * edge ≤ length (now out)) ⌝ }
+    requires { ⌜ (edge ≤ edgeLimit) × (length (now strip) ≡ stripSize) × (48 * edge ≤ length (now out)) ⌝ }
     ensures { λ _. ⌜ now (out .exit) ≡ join (made (stripRow (now (strip .entry)) edge) 4) ++ drop (48 * edge) (now (out .entry)) ⌝ }
 {
     for k in 0..4usize {
@@ -79,7 +82,7 @@ fn paint_rows(store: &[u8], edge: usize, holders: &[u16], face: usize, out: &mut
     requires { ⌜ (face < faceCount) × (48 * edge * edge ≤ length (now out)) ⌝ }
     ensures { λ _. ⌜ now (out .exit) ≡ faceOf (now (store .entry)) edge face ++ drop (48 * edge * edge) (now (out .entry)) ⌝ }
 {
-    let mut strip = [0u16; 768];
+    let mut strip = [0u16; STRIP];
     for row in 0..edge {
         hold_strip(store, edge, holders, face, row, &mut strip);
         let at = 48 * edge * row;
@@ -89,7 +92,7 @@ fn paint_rows(store: &[u8], edge: usize, holders: &[u16], face: usize, out: &mut
 
 // Why a face of a probe is not painted.
 fn face_refusal(edge: usize, face: usize, room: usize) -> u8
-    requires { ⌜ edge ≤ 16 ⌝ }
+    requires { ⌜ edge ≤ edgeLimit ⌝ }
     ensures { λ r. ⌜ r ≡ faceRefusal edge face room ⌝ }
 {
     if face >= ProbePixel::FACES {

@@ -5,9 +5,9 @@ use Prim.Native.Nat.{ℕ, zero, suc, _*_, _/_, _%_, _≤_, _<_}
 use borrow.Author.Tests.{lt-ltb, le-ltb, eq-eqb, ne-eqb, ltb-false, eqb-true, not-false}
 use Rattle.laws.specs.Pick.{pick}
 use Rattle.laws.proofs.Checks.{none-met}
+use Rattle.laws.specs.Checks.{orNext}
 use Rattle.bcn_spec.specs.Answers.{done, shortOutput, longStore, unevenStore, placedRecord}
 use Rattle.probe_places.specs.declared.Place.{Place}
-use Rattle.probe_places.specs.Faults.{orNext}
 use Rattle.probe_places.specs.Places.{faceCount, faceIn, placeIn, placed, placeRecordRefusal}
 use Rattle.probe_moves.specs.Moves.{sizeChecks, sizeRefusal, backRefusal}
 

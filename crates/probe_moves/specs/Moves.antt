@@ -6,12 +6,12 @@ use Prim.Native.Nat.{ℕ, zero, suc, _+_, _-_, _*_, _/_, _%_}
 use lib.Dec.{eqb, ltb}
 use lib.ListN.{length}
 use Rattle.laws.specs.Pick.{pick}
-use Rattle.laws.specs.Checks.{firstMet, leftBy}
+use Rattle.laws.specs.Checks.{firstMet, leftBy, orNext}
 use Rattle.laws.specs.Made.{made}
 use Rattle.bcn_spec.specs.Answers.{done, shortOutput, longStore, unevenStore, placedRecord}
 use Rattle.store_records.specs.Store.{recordSize, headSize, storeLimit, recordsIn, byteOf, recordRefusal}
 use Rattle.probe_places.specs.declared.Fault.{Fault}
-use Rattle.probe_places.specs.Faults.{orNext, firstFault, wholeFirst}
+use Rattle.probe_places.specs.Faults.{firstFault, wholeFirst}
 use Rattle.probe_places.specs.Places.{placeSize, placeHead, placeLimit, noFace, placesIn, byteAt, placeIn, placed, placeRecordRefusal}
 use Rattle.probe_moves.specs.declared.Moved.{Moved}
 

@@ -10,9 +10,9 @@ use lib.Seq.{getD-take}
 use borrow.Author.Tests.{lt-ltb, le-ltb, ltb-true, ltb-false}
 use Rattle.laws.specs.Pick.{pick, both}
 use Rattle.laws.proofs.Tests.{cases}
+use Rattle.laws.specs.Checks.{orNext}
 use Rattle.bcn_spec.specs.Answers.{done, badFormat, shortOutput, noRecord, badEdge, emptyPlace}
 use Rattle.probe_places.specs.declared.Fault.{Fault}
-use Rattle.probe_places.specs.Faults.{orNext}
 use Rattle.probe_places.specs.Places.{placesIn, formatIn}
 use Rattle.probe.specs.declared.ProbePixel.{ProbePixel}
 use Rattle.probe.specs.Probe.{edgeLimit, placeOf, placeCount, placeNumber, IsProbe, InRange, probeFault, questionRefusal, tripleAt, tripleFor, probeShown, probeRefused, probedAt, Asked}

@@ -5,9 +5,9 @@ use Prim.Native.Nat.{ℕ, zero, suc, _+_, _*_, _/_, _%_}
 use lib.Dec.{ltb}
 use lib.ListN.{length, getD, take, drop}
 use Rattle.laws.specs.Pick.{pick, both}
+use Rattle.laws.specs.Checks.{orNext}
 use Rattle.bcn_spec.specs.Answers.{done, badFormat, shortOutput, noRecord, badEdge, emptyPlace}
 use Rattle.probe_places.specs.declared.Fault.{Fault}
-use Rattle.probe_places.specs.Faults.{orNext}
 use Rattle.probe_places.specs.Places.{placesIn, formatIn}
 use Rattle.probe.specs.declared.ProbePixel.{ProbePixel}
 use Rattle.probe.specs.Probe.{edgeLimit, placeOf, placeCount, placeNumber, thenAlone, probeFault, questionRefusal, tripleAt, probeShown, probeRefused}

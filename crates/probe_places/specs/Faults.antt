@@ -7,11 +7,6 @@ use Rattle.laws.specs.First.{firstBelow}
 use Rattle.bcn_spec.specs.Answers.{done}
 use Rattle.probe_places.specs.declared.Fault.{Fault}
 
--- the second check where the first is not met
-abbrev pub orNext : ℕ → ℕ → ℕ
-orNext zero next = next
-orNext (suc number) next = suc number
-
 abbrev pub noFault : Fault
 noFault = record { answer = done; faulty = 0 }
 

@@ -24,6 +24,9 @@ placeHead = 16
 abbrev pub placeLimit : ℕ
 placeLimit = 64000
 
+abbrev pub mostPlaces : ℕ
+mostPlaces = 2000
+
 -- S-53: a face is 0 to 5, or 255 for a record that is not placed.
 abbrev pub faceCount : ℕ
 faceCount = 6

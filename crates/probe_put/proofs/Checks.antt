@@ -16,22 +16,22 @@ use Rattle.probe_places.specs.Places.{placeSize, placeLimit, placesIn, byteAt, 
 use Rattle.probe_places.proofs.Faults.{whole-done}
 use Rattle.probe_moves.specs.Moves.{sizeRefusal}
 use Rattle.probe_moves.proofs.Checks.{sized, enough}
-use Rattle.probe_put.specs.Put.{putSizes, headRefusal, recordFault, puttingFault}
+use Rattle.probe_put.specs.Put.{putSizes, ownRefusal, recordFault, puttingFault}
 
 -- ---- the record
 
 module _ (store : List ℕ) (n : ℕ) where
-  pub head-other : {r : ℕ} → r ≡ placeRecordRefusal store n → r ≡ badPlace → done ≡ headRefusal store n
-  unfolding headRefusal
+  pub head-other : {r : ℕ} → r ≡ placeRecordRefusal store n → r ≡ badPlace → done ≡ ownRefusal store n
+  unfolding ownRefusal
   head-other e p = rw (eq-eqb _ _ (sym e ∙ p))
 
-  pub head-own : {r : ℕ} → r ≡ placeRecordRefusal store n → (r ≡ badPlace → ⊥) → r ≡ headRefusal store n
-  unfolding headRefusal
+  pub head-own : {r : ℕ} → r ≡ placeRecordRefusal store n → (r ≡ badPlace → ⊥) → r ≡ ownRefusal store n
+  unfolding ownRefusal
   head-own e p = rw (ne-eqb _ _ (λ q. p (e ∙ q))) e
 
   -- a record with neither 1 nor 7
-  pub head-fine : headRefusal store n ≡ done → (formatIn store n ≤ 1) × ((j : ℕ) → j < 6 → byteAt store n (10 + j) ≡ 0)
-  unfolding headRefusal placeRecordRefusal zeroByte restZero
+  pub head-fine : ownRefusal store n ≡ done → (formatIn store n ≤ 1) × ((j : ℕ) → j < 6 → byteAt store n (10 + j) ≡ 0)
+  unfolding ownRefusal placeRecordRefusal zeroByte restZero
   head-fine z =
       cases (ltb 1 (formatIn store n)) (λ t. absurd (omega (arith, rw t at z)))
       (λ f. cases (restZero store n)
@@ -67,13 +67,13 @@ module _ (store : List ℕ) (n : ℕ) (p : Place) (room : ℕ) where
         put-past h e = e ∙ rw (sizes, le-ltb n (placesIn store) h)
 
         module _ (l : n < placesIn store) where
-          pub put-head : {r : ℕ} → r ≡ headRefusal store n → (r ≡ done → ⊥) → record { answer = r; faulty = n } ≡ puttingFault store n p room
+          pub put-head : {r : ℕ} → r ≡ ownRefusal store n → (r ≡ done → ⊥) → record { answer = r; faulty = n } ≡ puttingFault store n p room
           unfolding puttingFault recordFault
-          put-head e z = rw (sizes, lt-ltb n (placesIn store) l, ne-eqb (headRefusal store n) done (λ q. z (e ∙ q)), e)
+          put-head e z = rw (sizes, lt-ltb n (placesIn store) l, ne-eqb (ownRefusal store n) done (λ q. z (e ∙ q)), e)
 
-          pub put-place : {r : Fault} {k h : ℕ} → h ≡ headRefusal store n → h ≡ done → k ≡ placeRefusal p → r ≡ faultAlone k → r ≡ puttingFault store n p room
+          pub put-place : {r : Fault} {k h : ℕ} → h ≡ ownRefusal store n → h ≡ done → k ≡ placeRefusal p → r ≡ faultAlone k → r ≡ puttingFault store n p room
           unfolding puttingFault recordFault
-          put-place g z e q = q ∙ rw (sizes, lt-ltb n (placesIn store) l, eq-eqb (headRefusal store n) done (sym g ∙ z), e)
+          put-place g z e q = q ∙ rw (sizes, lt-ltb n (placesIn store) l, eq-eqb (ownRefusal store n) done (sym g ∙ z), e)
 
 -- ---- what "done" says
 
@@ -82,7 +82,7 @@ pub record Puttable (store : List ℕ) (n : ℕ) (p : Place) (room : ℕ) : Type
   pub even : length store % placeSize ≡ 0
   pub enough-room : length store ≤ room
   pub inside : n < placesIn store
-  pub head : headRefusal store n ≡ done
+  pub head : ownRefusal store n ≡ done
   pub place : placeRefusal p ≡ done
 
 pub puttable : (store : List ℕ) (n : ℕ) (p : Place) (room : ℕ) {fault : Fault} → fault ≡ puttingFault store n p room → fault .answer ≡ done → Puttable store n p room
@@ -94,7 +94,7 @@ puttable store n p room e y =
     let even : length store % placeSize ≡ 0 = s .even in
     let more : placesIn store * placeSize ≤ room = s .enough-room in
     cases (ltb n (placesIn store))
-    (λ t. cases (eqb (headRefusal store n) done)
+    (λ t. cases (eqb (ownRefusal store n) done)
     (λ h. record {
       fits = s .fits;
       even = even;

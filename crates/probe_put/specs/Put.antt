@@ -31,14 +31,14 @@ abbrev pub putSizes : ℕ → ℕ → ℕ
 putSizes size room = sizeRefusal placeLimit placeSize placeSize size room
 
 -- 1 and 7 of record n. The place that the record has does not matter, so a record with a bad one gets a good one.
-unfoldable pub headRefusal : List ℕ → ℕ → ℕ
-headRefusal store n = pick (eqb (placeRecordRefusal store n) badPlace) done (placeRecordRefusal store n)
+unfoldable pub ownRefusal : List ℕ → ℕ → ℕ
+ownRefusal store n = pick (eqb (placeRecordRefusal store n) badPlace) done (placeRecordRefusal store n)
 
 -- 17 is of the place that is given. A record is named only where its own bytes are why: 1 and 7.
 unfoldable pub recordFault : List ℕ → ℕ → Place → Fault
 recordFault store n p =
     pick (ltb n (placesIn store))
-    (pick (eqb (headRefusal store n) done) (faultAlone (placeRefusal p)) (record { answer = headRefusal store n; faulty = n }))
+    (pick (eqb (ownRefusal store n) done) (faultAlone (placeRefusal p)) (record { answer = ownRefusal store n; faulty = n }))
     (faultAlone noRecord)
 
 unfoldable pub puttingFault : List ℕ → ℕ → Place → ℕ → Fault

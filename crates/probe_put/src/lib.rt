@@ -4,8 +4,8 @@ ghost use mathlib.Core.Path.{_≡_};
 ghost use Prim.Native.Nat.{_+_, _*_, _≤_, _<_};
 ghost use lib.ListN.{length};
 ghost use lib.Seq.{sets};
-ghost use Rattle.probe_places.specs.Places.{placeSize, placesIn, placeRefusal};
-ghost use Rattle.probe_put.specs.Put.{placeBytes, headRefusal, puttingFault, PlacePut};
+ghost use Rattle.probe_places.specs.Places.{placeSize, placesIn, placeRefusal, mostPlaces};
+ghost use Rattle.probe_put.specs.Put.{placeBytes, ownRefusal, puttingFault, PlacePut};
 use bcn_spec::Answer;
 use probe_moves::Moved;
 use probe_places::Fault;
@@ -35,7 +35,7 @@ fn place_refusal(place: Place) -> u8
 // Why record n cannot have a place: its format or its spare bytes. The place that it has does not matter.
 fn head_refusal(store: &[u8], n: usize) -> u8
     requires { ⌜ n < placesIn (now store) ⌝ }
-    ensures { λ r. ⌜ r ≡ headRefusal (now (store .entry)) n ⌝ }
+    ensures { λ r. ⌜ r ≡ ownRefusal (now (store .entry)) n ⌝ }
 {
     let refusal = place_record_refusal(store, n);
     if refusal == Answer::BAD_PLACE {
@@ -72,7 +72,7 @@ fn putting_fault(store: &[u8], n: usize, place: Place, room: usize) -> Fault
 
 // The five bytes of a place, in record n.
 fn store_place(face: u8, column: u16, row: u16, out: &mut [u8], n: usize)
-    requires { ⌜ (n < 2000) × (n * placeSize + placeSize ≤ length (now out)) ⌝ }
+    requires { ⌜ (n < mostPlaces) × (n * placeSize + placeSize ≤ length (now out)) ⌝ }
     ensures { λ _. ⌜ now (out .exit) ≡ sets (now (out .entry)) (n * placeSize + 5) (placeBytes (record { face = face; column = column; row = row })) ⌝ }
 {
     let at = n * Place::SIZE + 5;

@@ -1,11 +1,11 @@
 // Bytes: wider numbers of them, numbers read from them with the lowest byte first, and bytes compared and copied.
 
 ghost use mathlib.Core.Path.{_≡_};
-ghost use Prim.Native.Nat.{_+_, _≤_, _<_};
+ghost use Prim.Native.Nat.{_+_, _/_, _%_, _≤_, _<_};
 ghost use lib.ListN.{length, drop};
 ghost use lib.Seq.{paste};
 ghost use Rattle.laws.specs.Every.{same};
-ghost use Rattle.raw_bytes.specs.Bytes.{lowFirst};
+ghost use Rattle.raw_bytes.specs.Bytes.{lowFirst, lowOrHigh};
 
 // ---- the same number in a wider type
 
@@ -80,6 +80,31 @@ pub fn u64_at(bytes: &[u8], at: usize) -> u64
     ensures { λ r. ⌜ r ≡ lowFirst (now (bytes .entry)) at 8 ⌝ }
 {
     half_at(bytes, at) + 0x100000000 * half_at(bytes, at + 4)
+}
+
+// ---- the two bytes of a number
+
+pub fn low_byte(value: u16) -> u8
+    ensures { λ r. ⌜ r ≡ value % 256 ⌝ }
+{
+    (value % 256) as u8
+}
+
+pub fn high_byte(value: u16) -> u8
+    ensures { λ r. ⌜ r ≡ value / 256 ⌝ }
+{
+    (value / 256) as u8
+}
+
+// The low byte at an even place, the high byte at an odd one.
+pub fn low_or_high(value: u16, k: usize) -> u8
+    ensures { λ r. ⌜ r ≡ lowOrHigh value k ⌝ }
+{
+    if k % 2 == 0 {
+        low_byte(value)
+    } else {
+        high_byte(value)
+    }
 }
 
 // ---- runs of bytes

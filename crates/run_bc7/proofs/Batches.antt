@@ -12,11 +12,11 @@ use Rattle.bcn_spec.specs.Answers.{done, unevenBlocks}
 use Rattle.bc7_blocks.specs.declared.Bc7BlocksPixels.{Bc7BlocksPixels}
 use Rattle.bc7_blocks.specs.Run.{runRefusal, RunPainted}
 use Rattle.bc7_blocks.proofs.Calls.{blocks-refused, run-when}
-use Rattle.run_bc7.specs.Batch.{countOf, Decoded}
+use Rattle.run_bc7.specs.Batch.{blocksTaken, Decoded}
 
 module _ (input out : List ℕ) (r : Bc7BlocksPixels) (after : List ℕ) (p : RunPainted input out r after) where
   whole : length input % 16 ≡ 0 → 64 * (length input / 16) ≤ length out → Decoded input out (64 * r .blocks) after
-  unfolding countOf
+  unfolding blocksTaken
   whole s h =
       let z : runRefusal (length input) (length out) ≡ done = run-when (length input) (length out) s h in
       let b : r .blocks ≡ length input / 16 = ap (λ (x : Bc7BlocksPixels). x .blocks) (rw z at (p .answers)) in
@@ -27,7 +27,7 @@ module _ (input out : List ℕ) (r : Bc7BlocksPixels) (after : List ℕ) (p : Ru
       }
 
   uneven : (length input % 16 ≡ 0 → ⊥) → Decoded input out (64 * r .blocks) after
-  unfolding countOf made
+  unfolding blocksTaken made
   uneven n =
       let z : runRefusal (length input) (length out) ≡ unevenBlocks = blocks-refused (length input) (length out) n in
       let b : r .blocks ≡ 0 = ap (λ (x : Bc7BlocksPixels). x .blocks) (rw z at (p .answers)) in

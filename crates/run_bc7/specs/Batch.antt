@@ -9,11 +9,11 @@ use Rattle.bcn_spec.specs.Bits.{blockSize, blocksIn}
 use Rattle.bc7_spec.specs.Block.{byteCount}
 use Rattle.bc7_blocks.specs.Run.{runOf}
 
-unfoldable pub countOf : List ℕ → ℕ
-countOf input = pick (eqb (length input % blockSize) 0) (blocksIn input) 0
+unfoldable pub blocksTaken : List ℕ → ℕ
+blocksTaken input = pick (eqb (length input % blockSize) 0) (blocksIn input) 0
 
 -- What `decode_batch` answers: how many bytes it wrote, and the lent bytes `after`.
 pub record Decoded (input out : List ℕ) (r : ℕ) (after : List ℕ) : Type 0 where
-  pub answers : r ≡ byteCount * countOf input
-  pub holds : after ≡ runOf input (countOf input) ++ drop (byteCount * countOf input) out
+  pub answers : r ≡ byteCount * blocksTaken input
+  pub holds : after ≡ runOf input (blocksTaken input) ++ drop (byteCount * blocksTaken input) out
   pub fits : r ≤ length out

@@ -5,9 +5,10 @@ use Prim.Native.Nat.{ℕ, zero, suc, _+_, _≤_}
 use lib.Dec.{eqb}
 use borrow.Author.Tests.{eq-eqb, ne-eqb}
 use Rattle.laws.proofs.Tests.{picks}
+use Rattle.bcn_spec.specs.Bits.{sizeLimit}
 use Rattle.bcn_spec.specs.Answers.{done, foreignHeader}
 use Rattle.dds.specs.declared.DdsRead.{DdsRead}
-use Rattle.dds.specs.Dds.{bc6hFirst, bc7First, sizeLimit, SizedReadAs}
+use Rattle.dds.specs.Dds.{bc6hFirst, bc7First, SizedReadAs}
 use Rattle.dds.proofs.Reading.{read-most}
 use Rattle.run_dds.specs.Told.{reportOf, bc7At, toldOf, toldAs}
 

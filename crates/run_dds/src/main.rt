@@ -13,7 +13,7 @@ use raw_bytes::same_bytes;
 use raw_bytes::u32_at;
 ghost use mathlib.Core.Path.{_≡_};
 ghost use Prim.Native.Nat.{_/_, _%_, _≤_};
-ghost use Rattle.dds.specs.Dds.{sizeLimit};
+ghost use Rattle.bcn_spec.specs.Bits.{sizeLimit};
 ghost use Rattle.run_dds.specs.Told.{reportOf, toldOf, oneTold, firstTold};
 
 // The most bytes that blocks have, those of 13 levels.

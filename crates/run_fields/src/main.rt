@@ -4,12 +4,13 @@
 use bc6_fields::FieldsRead;
 use libc::STDIN_FILENO;
 use libc::STDOUT_FILENO;
+use raw_bytes::low_or_high;
 ghost use mathlib.Core.Path.{_≡_};
 ghost use mathlib.Core.List.{_++_};
 ghost use Prim.Native.Nat.{_+_, _*_, _/_, _^_, _<_, _≤_};
 ghost use lib.ListN.{length, drop};
 ghost use Rattle.laws.specs.Made.{made};
-ghost use Rattle.run_fields.specs.Record.{halfOf, byteOf};
+ghost use Rattle.run_fields.specs.Record.{fieldsByte};
 
 // What is read, what is written for it, and how many are read at a time.
 const INPUT_SIZE: usize = 17;
@@ -18,21 +19,10 @@ const RECORD_SIZE: usize = 45;
 
 const BATCH: usize = 1024;
 
-// Of an endpoint's value the low byte at an even place, the high byte at an odd one.
-fn half_of(value: u16, k: usize) -> u8
-    ensures { λ r. ⌜ r ≡ halfOf value k ⌝ }
-{
-    if k % 2 == 0 {
-        (value % 256) as u8
-    } else {
-        (value / 256) as u8
-    }
-}
-
 // Byte k of what is written for a block.
 fn byte_of(read: FieldsRead, k: usize) -> u8
     requires { ⌜ k < 45 ⌝ }
-    ensures { λ r. ⌜ r ≡ byteOf read k ⌝ }
+    ensures { λ r. ⌜ r ≡ fieldsByte read k ⌝ }
 {
     let fields = read.fields;
     if k == 0 {
@@ -46,7 +36,7 @@ fn byte_of(read: FieldsRead, k: usize) -> u8
     }
     if k < 27 {
         let endpoints = fields.endpoints;
-        return half_of(endpoints[(k - 3) / 2], k - 3);
+        return low_or_high(endpoints[(k - 3) / 2], k - 3);
     }
     if k == 27 {
         return fields.partition;
@@ -60,7 +50,7 @@ fn byte_of(read: FieldsRead, k: usize) -> u8
 
 fn write_record(read: FieldsRead, out: &mut [u8])
     requires { ⌜ 45 ≤ length (now out) ⌝ }
-    ensures { λ r. ⌜ now (out .exit) ≡ made (byteOf read) 45 ++ drop 45 (now (out .entry)) ⌝ }
+    ensures { λ r. ⌜ now (out .exit) ≡ made (fieldsByte read) 45 ++ drop 45 (now (out .entry)) ⌝ }
 {
     let mut k = 0;
     while k < RECORD_SIZE {

@@ -11,12 +11,12 @@ use Rattle.laws.proofs.Tests.{cases}
 use Rattle.laws.proofs.Checks.{none-met}
 use Rattle.bcn_spec.specs.Answers.{done, badSize, blocksMisfit}
 use Rattle.dds.specs.declared.DdsRead.{DdsRead}
-use Rattle.dds.specs.Dds.{headerSize, bc6hFirst, oneBytes, headerOurs, sizeOurs, blocksAlong, widthOf, heightOf, formatOf, headRefusal, HeadRead, FileRead, BlocksRead}
+use Rattle.dds.specs.Dds.{headerSize, bc6hFirst, oneBytes, headerOurs, sizeOurs, blocksAlong, widthOf, heightOf, ddsFormat, headRefusal, HeadRead, FileRead, BlocksRead}
 use Rattle.dds.specs.Dds as dds
 use Rattle.dds.proofs.Headers.{ours-so, size-so}
 use Rattle.dds.proofs.Reading.{head-foreign, head-size, head-done, head-known, head-number, head-is, sized-blocks, sized-done, read-number, read-is, read-known, part-is, part-length}
 use Rattle.pfm.specs.declared.PfmWritten.{PfmWritten}
-use Rattle.pfm.specs.File.{SideEven, sizeWritable, blockBytes, fileLength, refusalFor, writeRefusal, PictureWritten}
+use Rattle.pfm.specs.File.{SideEven, sizeWritable, evenBytes, fileLength, refusalFor, writeRefusal, PictureWritten}
 use Rattle.pfm.proofs.Calls.{size-means}
 use Rattle.run_pfm.specs.Export.{sizeSmall, exportChecks, exportRefusal, Exported}
 
@@ -30,8 +30,8 @@ one-outcome d e = (d .answers ∙ sym (e .answers), d .holds ∙ sym (e .holds))
 blocks-whole : {side : ℕ} → SideEven side → blocksAlong side ≡ side / 4
 blocks-whole e = omega (arith, e .fours)
 
-bytes-same : (width height : ℕ) → sizeWritable width height ≡ true → dds.blockBytes width height ≡ blockBytes width height
-unfolding blockBytes dds.blockBytes
+bytes-same : (width height : ℕ) → sizeWritable width height ≡ true → dds.blockBytes width height ≡ evenBytes width height
+unfolding evenBytes dds.blockBytes
 bytes-same width height s = let e = size-means width height s in ap₂ (λ (a b : ℕ). a * b * 16) (blocks-whole (e .0)) (blocks-whole (e .1))
 
 -- ---- the order
@@ -65,10 +65,10 @@ module _ (file : List ℕ) (room : ℕ) where
 
       -- what is left is what the writing call refuses
       refused-last : (size : ℕ) → size ≡ dds.blockBytes (widthOf file) (heightOf file) → length file ≡ headerSize + dds.blockBytes (widthOf file) (heightOf file)
-          → exportRefusal file room ≡ writeRefusal size (formatOf file) (widthOf file) (heightOf file) room
+          → exportRefusal file room ≡ writeRefusal size (ddsFormat file) (widthOf file) (heightOf file) room
       unfolding exportRefusal refusalFor
       refused-last size b l =
-          let f : formatOf file ≤ 1 = ⊎-elim (λ e. omega arith) (λ e. omega arith) (head-known bc6hFirst 1 file h .ours .dxgi) in
+          let f : ddsFormat file ≤ 1 = ⊎-elim (λ e. omega arith) (λ e. omega arith) (head-known bc6hFirst 1 file h .ours .dxgi) in
           cases (sizeWritable (widthOf file) (heightOf file))
           (λ s. rw (ours, sized, small, eq-eqb _ _ l, le-ltb _ _ f, s, eq-eqb _ _ (b ∙ bytes-same (widthOf file) (heightOf file) s)))
           (λ s. rw (ours, sized, small, eq-eqb _ _ l, le-ltb _ _ f, s))
@@ -124,7 +124,7 @@ module _ (file out : List ℕ) where
         pub told-written : read .answer ≡ done → {part : List ℕ} → BlocksRead file part → {p : PfmWritten} {after : List ℕ}
             → PictureWritten part (read .format) (read .width) (read .height) out p after → Exported file out p after
         told-written q {part} b {p} {after} w =
-            let picture : PictureWritten (drop headerSize file) (formatOf file) (widthOf file) (heightOf file) out p after =
+            let picture : PictureWritten (drop headerSize file) (ddsFormat file) (widthOf file) (heightOf file) out p after =
             rw (part-is f b q, read-is f q) at w in
             let k = read-known f q in
             let same = refused-last file (length out) fine small (length (drop headerSize file)) (sym (ap length (part-is f b q)) ∙ part-length f b q) (k .bytes) in

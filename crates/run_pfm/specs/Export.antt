@@ -8,7 +8,7 @@ use lib.ListN.{length, drop}
 use Rattle.laws.specs.Pick.{both}
 use Rattle.laws.specs.Checks.{firstMet}
 use Rattle.bcn_spec.specs.Answers.{shortOutput, foreignHeader, badSize, blocksMisfit, unevenSize}
-use Rattle.dds.specs.Dds.{headerSize, headerOurs, sizeOurs, blockBytes, widthOf, heightOf, formatOf}
+use Rattle.dds.specs.Dds.{headerSize, headerOurs, sizeOurs, blockBytes, widthOf, heightOf, ddsFormat}
 use Rattle.pfm.specs.declared.PfmWritten.{PfmWritten}
 use Rattle.pfm.specs.File.{sizeWritable, fileLength, writtenAt, leftAt}
 
@@ -33,4 +33,4 @@ exportRefusal file room = firstMet (exportChecks file room)
 -- The statement of `export`: its answer r, and the lent bytes `after`, which are the picture's file where it is done.
 pub record Exported (file out : List ℕ) (r : PfmWritten) (after : List ℕ) : Type 0 where
   pub answers : r ≡ writtenAt (exportRefusal file (length out)) (widthOf file) (heightOf file)
-  pub holds : after ≡ leftAt (exportRefusal file (length out)) (drop headerSize file) (formatOf file) (widthOf file) (heightOf file) out
+  pub holds : after ≡ leftAt (exportRefusal file (length out)) (drop headerSize file) (ddsFormat file) (widthOf file) (heightOf file) out

@@ -4,34 +4,24 @@
 use bc6::Pixels;
 use libc::STDIN_FILENO;
 use libc::STDOUT_FILENO;
+use raw_bytes::high_byte;
+use raw_bytes::low_byte;
 ghost use mathlib.Core.Path.{_≡_};
 ghost use mathlib.Core.List.{_++_};
-ghost use Prim.Native.Nat.{_+_, _*_, _/_, _%_, _^_, _<_, _≤_};
+ghost use Prim.Native.Nat.{_+_, _*_, _/_, _^_, _<_, _≤_};
 ghost use lib.ListN.{length, drop};
 ghost use Rattle.laws.specs.Made.{made};
-ghost use Rattle.run_pixels.specs.Shown.{halfAt, shownBytes, recordBytes};
+ghost use Rattle.run_pixels.specs.Shown.{valueByte, shownBytes, recordBytes};
 
 // The bytes of what is read, and of what is written for it.
 const SIZE: usize = 17;
 
 const SHOWN: usize = 100;
 
-fn low_byte(value: u16) -> u8
-    ensures { λ r. ⌜ r ≡ value % 256 ⌝ }
-{
-    (value % 256) as u8
-}
-
-fn high_byte(value: u16) -> u8
-    ensures { λ r. ⌜ r ≡ value / 256 ⌝ }
-{
-    (value / 256) as u8
-}
-
 // The values' bytes, the low one of each first.
 fn put_values(values: [u16; 48], out: &mut [u8])
     requires { ⌜ 96 ≤ length (now out) ⌝ }
-    ensures { λ r. ⌜ now (out .exit) ≡ made (halfAt values) 96 ++ drop 96 (now (out .entry)) ⌝ }
+    ensures { λ r. ⌜ now (out .exit) ≡ made (valueByte values) 96 ++ drop 96 (now (out .entry)) ⌝ }
 {
     for j in 0..48usize {
         let at = 2 * j;

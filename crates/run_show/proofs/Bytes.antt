@@ -15,7 +15,7 @@ use Rattle.bc6h_spec.specs.Fields.{noFields}
 use Rattle.bc6h_spec.specs.Picture.{valueCount}
 use Rattle.bc6_numbers.specs.Numbers.{numberCount, fieldsFrom}
 use Rattle.bc6_palette.specs.Call.{refusalOf, valuesAt, FieldsShown}
-use Rattle.run_show.specs.Picture.{inputSize, outputSize, numberIn, fieldsIn, byteOf, pictureBytes}
+use Rattle.run_show.specs.Picture.{inputSize, outputSize, numberIn, fieldsIn, pictureByte, pictureBytes}
 
 module _ (input : List ℕ) where
   pub no-record : {f : Fields} → (length input ≡ 64 → ⊥) → f ≡ noFields → f ≡ fieldsIn input
@@ -27,11 +27,11 @@ module _ (input : List ℕ) where
   a-record l {f} {numbers} e g = rw (eq-eqb (length input) 64 l) (g ∙ ap fieldsFrom e)
 
   pub all-bytes : {f : Fields} {answer : ℕ} {values : List ℕ} → f ≡ fieldsIn input → FieldsShown f (replicate valueCount 0) answer values
-      → made (byteOf answer values) 97 ≡ pictureBytes input
+      → made (pictureByte answer values) 97 ≡ pictureBytes input
   unfolding pictureBytes
   all-bytes {f} {answer} {values} e w =
-      ap₂ (λ (a : ℕ) (v : List ℕ). made (byteOf a v) 97) (w .answers) (w .holds)
-      ∙ ap (λ (g : Fields). made (byteOf (refusalOf g valueCount) (valuesAt (refusalOf g valueCount) g (replicate valueCount 0))) 97) e
+      ap₂ (λ (a : ℕ) (v : List ℕ). made (pictureByte a v) 97) (w .answers) (w .holds)
+      ∙ ap (λ (g : Fields). made (pictureByte (refusalOf g valueCount) (valuesAt (refusalOf g valueCount) g (replicate valueCount 0))) 97) e
 
 -- ---- what goes out
 

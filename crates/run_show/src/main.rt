@@ -5,29 +5,24 @@
 use bc6_numbers::NUMBERS;
 use bc6h_spec::Fields;
 use bc6h_spec::Picture;
+use raw_bytes::low_or_high;
+use raw_bytes::u16_at;
 use run_streams::Input;
 use run_streams::first_bytes;
 use run_streams::read_input;
 use run_streams::write_text;
 ghost use mathlib.Core.Path.{_≡_};
 ghost use mathlib.Core.List.{_++_};
-ghost use Prim.Native.Nat.{_+_, _*_, _/_, _%_, _<_, _≤_};
+ghost use Prim.Native.Nat.{_<_, _≤_};
 ghost use lib.ListN.{length, drop};
-ghost use Rattle.laws.specs.Pick.{pick};
 ghost use Rattle.laws.specs.Made.{made};
 ghost use Rattle.bc6_numbers.specs.Numbers.{numberCount};
 ghost use Rattle.run_streams.specs.Output.{Outgoing};
-ghost use Rattle.run_show.specs.Picture.{inputSize, outputSize, numberIn, fieldsIn, byteOf, pictureBytes};
+ghost use Rattle.run_show.specs.Picture.{inputSize, outputSize, numberIn, fieldsIn, pictureByte, pictureBytes};
 
 const INPUT_SIZE: usize = 64;
 
 const OUTPUT_SIZE: usize = 97;
-
-fn two_bytes(low: u8, high: u8) -> u16
-    ensures { λ r. ⌜ r ≡ low + 256 * high ⌝ }
-{
-    (low as u16) + 256 * (high as u16)
-}
 
 fn numbers_in(input: &[u8]) -> [u16; NUMBERS]
     requires { ⌜ length (now input) ≡ inputSize ⌝ }
@@ -35,7 +30,7 @@ fn numbers_in(input: &[u8]) -> [u16; NUMBERS]
 {
     let mut numbers = [0u16; NUMBERS];
     for k in 0..NUMBERS {
-        numbers[k] = two_bytes(input[2 * k], input[2 * k + 1]);
+        numbers[k] = u16_at(input, 2 * k);
     }
     numbers
 }
@@ -50,30 +45,20 @@ fn fields_in(input: &[u8]) -> Fields
     bc6_numbers::fields_from(&numbers)
 }
 
-// The low byte of a value, or its high one.
-fn half_of(value: u16, low: bool) -> u8
-    ensures { λ r. ⌜ r ≡ pick low (value % 256) (value / 256) ⌝ }
-{
-    if low {
-        return (value % 256) as u8;
-    }
-    (value / 256) as u8
-}
-
 // Byte k of what is written: the answer, then each value's low byte and its high byte.
 fn byte_of(answer: u8, values: [u16; Picture::VALUES], k: usize) -> u8
     requires { ⌜ k < outputSize ⌝ }
-    ensures { λ r. ⌜ r ≡ byteOf answer values k ⌝ }
+    ensures { λ r. ⌜ r ≡ pictureByte answer values k ⌝ }
 {
     if k == 0 {
         return answer;
     }
-    half_of(values[(k - 1) / 2], k % 2 == 1)
+    low_or_high(values[(k - 1) / 2], k - 1)
 }
 
 fn put_answer(answer: u8, values: [u16; Picture::VALUES], out: &mut [u8])
     requires { ⌜ outputSize ≤ length (now out) ⌝ }
-    ensures { λ _. ⌜ now (out .exit) ≡ made (byteOf answer values) outputSize ++ drop outputSize (now (out .entry)) ⌝ }
+    ensures { λ _. ⌜ now (out .exit) ≡ made (pictureByte answer values) outputSize ++ drop outputSize (now (out .entry)) ⌝ }
 {
     for k in 0..OUTPUT_SIZE {
         out[k] = byte_of(answer, values, k);

@@ -5,13 +5,15 @@ use bc6_numbers::NUMBERS;
 use bc6h_spec::Fields;
 use libc::STDIN_FILENO;
 use libc::STDOUT_FILENO;
+use raw_bytes::u8_to_u16;
+use raw_bytes::u16_at;
 ghost use mathlib.Core.Path.{_≡_};
 ghost use mathlib.Core.List.{_++_};
 ghost use Prim.Native.Nat.{_+_, _*_, _/_, _^_, _<_, _≤_};
 ghost use lib.ListN.{length, drop};
 ghost use Rattle.laws.specs.Made.{made};
 ghost use Rattle.bc6_numbers.specs.Numbers.{numberCount};
-ghost use Rattle.run_write.specs.Record.{numberIn, fieldsIn, byteOf, recordBytes};
+ghost use Rattle.run_write.specs.Record.{numberIn, fieldsIn, answerByte, recordBytes};
 
 // What is read, what is written for it, and how many are read at a time.
 const RECORD_SIZE: usize = 44;
@@ -20,24 +22,18 @@ const OUTPUT_SIZE: usize = 17;
 
 const BATCH: usize = 1024;
 
-fn two_bytes(low: u8, high: u8) -> u16
-    ensures { λ r. ⌜ r ≡ low + 256 * high ⌝ }
-{
-    (low as u16) + 256 * (high as u16)
-}
-
 // Number k of the record that a piece holds.
 fn number_in(piece: &[u8], k: usize) -> u16
     requires { ⌜ (length (now piece) ≡ 44) × (k < numberCount) ⌝ }
     ensures { λ r. ⌜ r ≡ numberIn (now (piece .entry)) k ⌝ }
 {
     if k < 2 {
-        return two_bytes(piece[k], 0);
+        return u8_to_u16(piece[k]);
     }
     if k < 14 {
-        return two_bytes(piece[2 * k - 2], piece[2 * k - 1]);
+        return u16_at(piece, 2 * k - 2);
     }
-    two_bytes(piece[k + 12], 0)
+    u8_to_u16(piece[k + 12])
 }
 
 fn numbers_in(piece: &[u8]) -> [u16; NUMBERS]
@@ -64,7 +60,7 @@ fn fields_in(piece: &[u8]) -> Fields
 // Byte k of what is written for a record.
 fn byte_of(answer: u8, block: [u8; 16], k: usize) -> u8
     requires { ⌜ k < 17 ⌝ }
-    ensures { λ r. ⌜ r ≡ byteOf answer block k ⌝ }
+    ensures { λ r. ⌜ r ≡ answerByte answer block k ⌝ }
 {
     if k == 0 {
         return answer;
@@ -74,7 +70,7 @@ fn byte_of(answer: u8, block: [u8; 16], k: usize) -> u8
 
 fn put_answer(answer: u8, block: [u8; 16], out: &mut [u8])
     requires { ⌜ 17 ≤ length (now out) ⌝ }
-    ensures { λ r. ⌜ now (out .exit) ≡ made (byteOf answer block) 17 ++ drop 17 (now (out .entry)) ⌝ }
+    ensures { λ r. ⌜ now (out .exit) ≡ made (answerByte answer block) 17 ++ drop 17 (now (out .entry)) ⌝ }
 {
     for k in 0..OUTPUT_SIZE {
         out[k] = byte_of(answer, block, k);

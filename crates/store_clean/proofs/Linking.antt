@@ -20,21 +20,21 @@ use Rattle.store_spec.specs.Shown.{Reserved, isRecord}
 use Rattle.store_spec.proofs.Shown.{is-record, is-refused}
 use Rattle.store_spec.specs.Scratch.{mixedOn}
 use Rattle.store_clean.specs.Clean.{Repeats, repeats, firstOf, goes}
-use Rattle.store_clean.specs.Links.{bucketCount, mixedUpto, bucketOf, bucketAt, isOf, lastOf, Linked, Met}
+use Rattle.store_clean.specs.Links.{bucketCount, blockMixed, bucketOf, bucketAt, isOf, lastOf, Linked, Met}
 use Rattle.store_clean.proofs.Repeating.{repeats-means, repeats-so, refused-stays, reserved-stays, goes-first, first-repeated, goes-by}
 
 -- ---- the bucket
 
-pub mixed-none : (format : ℕ) (block : List ℕ) (k : ℕ) → k ≡ format → k + 1 ≡ mixedUpto format block 0
-unfolding mixedUpto
+pub mixed-none : (format : ℕ) (block : List ℕ) (k : ℕ) → k ≡ format → k + 1 ≡ blockMixed format block 0
+unfolding blockMixed
 mixed-none format block k e = rw e
 
-pub mixed-more : (format : ℕ) (block : List ℕ) (k mix on byte : ℕ) → mix ≡ mixedUpto format block k → on ≡ mixedOn mix → byte ≡ getD block k 0
-    → on + byte ≡ mixedUpto format block (k + 1)
-unfolding mixedUpto
+pub mixed-more : (format : ℕ) (block : List ℕ) (k mix on byte : ℕ) → mix ≡ blockMixed format block k → on ≡ mixedOn mix → byte ≡ getD block k 0
+    → on + byte ≡ blockMixed format block (k + 1)
+unfolding blockMixed
 mixed-more format block k mix on byte p o b = rw (add-one k, o, p, b)
 
-pub bucket-is : (format : ℕ) (block : List ℕ) {mix : ℕ} → mix ≡ mixedUpto format block blockSize → mix / 0x1000000 % bucketCount ≡ bucketOf format block
+pub bucket-is : (format : ℕ) (block : List ℕ) {mix : ℕ} → mix ≡ blockMixed format block blockSize → mix / 0x1000000 % bucketCount ≡ bucketOf format block
 unfolding bucketOf
 bucket-is format block e = rw e
 

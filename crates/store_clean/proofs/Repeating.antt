@@ -5,21 +5,17 @@ use mathlib.Core.List.{List}
 use Prim.Native.Nat.{ℕ, _≤_, _<_}
 use native.Mathlib.Omega.{arith}
 use lib.Dec.{eqb}
-use borrow.Author.Tests.{eq-eqb, ne-eqb, eqb-true, eqb-false, lt-ltb, le-ltb, ltb-true, ltb-false}
+use borrow.Author.Tests.{not-true, eq-eqb, ne-eqb, eqb-true, eqb-false, lt-ltb, le-ltb, ltb-true, ltb-false}
 use Rattle.laws.specs.Every.{same}
 use Rattle.laws.proofs.Tests.{cases, both-true}
 use Rattle.laws.proofs.Firsts.{first-passes, first-least, first-never}
-use Rattle.laws.proofs.Sameness.{true-false, not-so, same-so, same-means}
+use Rattle.laws.proofs.Sameness.{not-so, same-so, same-means}
 use Rattle.bc6h_spec.specs.Fields.{modeOf}
 use Rattle.store_records.specs.Store.{formatOf, blockOf, recordRefusal, Unrefused, partAt}
 use Rattle.store_records.proofs.Readings.{part-of}
 use Rattle.store_spec.specs.Shown.{Reserved, isRecord, isReserved}
 use Rattle.store_spec.proofs.Shown.{is-record, is-refused}
 use Rattle.store_clean.specs.Clean.{Repeats, repeats, firstOf, goes, Goes}
-
-not-means : (b : Bool) → not b ≡ true → b ≡ false
-not-means true e = absurd (true-false (sym e))
-not-means false e = refl
 
 -- ---- one test after the other
 
@@ -66,7 +62,7 @@ module _ (store : List ℕ) (n earlier : ℕ) where
       let b = both-true (isRecord store earlier) _ (a .1) in
       let d = both-true (eqb (formatOf store n) (formatOf store earlier)) _ (b .1) in
       let e = both-true (not (isReserved store n)) _ (d .1) in
-      let z : Reserved store n → ⊥ = eqb-false _ _ (not-means (isReserved store n) (e .0)) in
+      let z : Reserved store n → ⊥ = eqb-false _ _ (not-true (isReserved store n) (e .0)) in
       let bytes = same-means (blockOf store n) (blockOf store earlier) (e .1) in
       record {
         unrefused = eqb-true _ _ (a .0);

@@ -19,7 +19,7 @@ use Rattle.store_spec.proofs.Listing as listing
 use Rattle.store_spec.proofs.Listing.{marked-first}
 use Rattle.store_clean.specs.declared.Cleaned.{Cleaned}
 use Rattle.store_clean.specs.Clean.{Repeats, firstOf, goes, recordOf, staying, cleanedOf, stayCount, CleanedInto}
-use Rattle.store_clean.specs.Theorems.{EachHasOne, OnlyThose, StaysInOrder, Held, NoneLost, Again, CleanAgain, NoCopy, TwinsLeft, GoneAreTwins}
+use Rattle.store_clean.specs.Theorems.{EachHasOne, OnlyThose, StaysInOrder, BlockHeld, NoneLost, Again, CleanAgain, NoCopy, TwinsLeft, GoneAreTwins}
 use Rattle.store_clean.proofs.Repeating as repeating
 use Rattle.store_clean.proofs.Leaving.{record-front, staying-less, place-of, left-at}
 use Rattle.store_clean.proofs.Cleaning as cleaning
@@ -73,14 +73,14 @@ module _ {store lent after : List ℕ} {r : Cleaned} (d : CleanedInto store lent
   room : r .kept * recordSize ≤ length after
   room = omega (arith, cleaning.cleaned-length d z, simp length-append at (ap length (cleaning.after-is d z)))
 
-  stays-held : (n : ℕ) → n < recordsIn store → goes store n ≡ false → Held store r after n
+  stays-held : (n : ℕ) → n < recordsIn store → goes store n ≡ false → BlockHeld store r after n
   stays-held n h f =
       let w = stays-in-order store lent after r d z .written n h f in
       let l = w .there in
       let m : Moved after store (staying (goes store) n) n = record { here = omega (arith, room); there = h; same-record = w .same-record } in
       record { place = staying (goes store) n; there = l; same-format = format-moved m; same-bytes = block-moved m }
 
-  pub held : (n : ℕ) → n < recordsIn store → Held store r after n
+  pub held : (n : ℕ) → n < recordsIn store → BlockHeld store r after n
   held n h =
       cases (goes store n)
       (λ t. let g = each-has-one store n t in

@@ -6,6 +6,7 @@ use Prim.Native.Nat.{ℕ, zero, suc, _+_, _*_, _/_, _<_}
 use lib.Dec.{eqb, ltb}
 use lib.ListN.{length, take, drop}
 use Rattle.laws.specs.Pick.{pick, both}
+use Rattle.laws.specs.Checks.{ifDone}
 use Rattle.laws.specs.Every.{same}
 use Rattle.laws.specs.First.{firstBelow}
 use Rattle.bcn_spec.specs.Answers.{done}
@@ -92,8 +93,7 @@ answerAt (suc number) store = refusal (suc number)
 
 -- the records that stay, at the front of the lent bytes, whose rest is as it was; a refusal changes none
 abbrev pub bytesAt : ℕ → List ℕ → List ℕ → List ℕ
-bytesAt zero store lent = cleanedOf store ++ drop (stayCount store * recordSize) lent
-bytesAt (suc number) store lent = lent
+bytesAt number store lent = ifDone number (cleanedOf store ++ drop (stayCount store * recordSize) lent) lent
 
 pub record CleanedInto (store lent : List ℕ) (r : Cleaned) (after : List ℕ) : Type 0 where
   pub answers : r ≡ answerAt (cleanRefusal (length store) (length lent)) store

@@ -17,13 +17,13 @@ abbrev pub bucketCount : ℕ
 bucketCount = 2048
 
 -- a number made of the format and the first bytes; that records with one bucket are the same is nowhere used
-unfoldable pub mixedUpto : ℕ → List ℕ → ℕ → ℕ
-mixedUpto format block zero = format + 1
-mixedUpto format block (suc k) = mixedOn (mixedUpto format block k) + getD block k 0
+unfoldable pub blockMixed : ℕ → List ℕ → ℕ → ℕ
+blockMixed format block zero = format + 1
+blockMixed format block (suc k) = mixedOn (blockMixed format block k) + getD block k 0
 
 -- eleven bits of it, to which every byte comes
 unfoldable pub bucketOf : ℕ → List ℕ → ℕ
-bucketOf format block = mixedUpto format block blockSize / 0x1000000 % bucketCount
+bucketOf format block = blockMixed format block blockSize / 0x1000000 % bucketCount
 
 abbrev pub bucketAt : List ℕ → ℕ → ℕ
 bucketAt store n = bucketOf (formatOf store n) (blockOf store n)

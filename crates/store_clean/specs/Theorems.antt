@@ -49,7 +49,7 @@ abbrev pub StaysInOrder : Type 0
 StaysInOrder = (store lent after : List ℕ) (r : Cleaned) → CleanedInto store lent r after → r .answer ≡ done → AllThere store r after
 
 -- S-46: a record of the result that has the format of record n of the store and its sixteen block bytes
-pub record Held (store : List ℕ) (r : Cleaned) (after : List ℕ) (n : ℕ) : Type 0 where
+pub record BlockHeld (store : List ℕ) (r : Cleaned) (after : List ℕ) (n : ℕ) : Type 0 where
   pub place : ℕ
   pub there : place < r .kept
   pub same-format : formatOf after place ≡ formatOf store n
@@ -57,7 +57,7 @@ pub record Held (store : List ℕ) (r : Cleaned) (after : List ℕ) (n : ℕ) : 
 
 -- S-46: no tile is lost: for every record of the store, removed or not, the result has one. (What is lost is a removed record's tile number.)
 abbrev pub NoneLost : Type 0
-NoneLost = (store lent after : List ℕ) (r : Cleaned) → CleanedInto store lent r after → r .answer ≡ done → (n : ℕ) → n < recordsIn store → Held store r after n
+NoneLost = (store lent after : List ℕ) (r : Cleaned) → CleanedInto store lent r after → r .answer ≡ done → (n : ℕ) → n < recordsIn store → BlockHeld store r after n
 
 -- ---- a cleaned store
 

@@ -8,7 +8,7 @@ ghost use lib.Seq.{paste};
 ghost use Rattle.bcn_spec.specs.Bits.{blockSize};
 ghost use Rattle.store_records.specs.Store.{recordSize, recordsIn, mostRecords};
 ghost use Rattle.store_clean.specs.Clean.{repeats, firstOf, recordOf, refusal, CleanedInto};
-ghost use Rattle.store_clean.specs.Links.{bucketCount, mixedUpto, bucketOf, Linked, Met};
+ghost use Rattle.store_clean.specs.Links.{bucketCount, blockMixed, bucketOf, Linked, Met};
 use bcn_spec::Answer;
 use bcn_spec::Block;
 use raw_bytes::copy_part;
@@ -50,7 +50,7 @@ impl Cleaned {
 // A number that records of another format or with other bytes seldom share.
 fn mixed(format: u8, block: &[u8]) -> u64
     requires { ⌜ length (now block) ≡ blockSize ⌝ }
-    ensures { λ r. ⌜ r ≡ mixedUpto format (now (block .entry)) blockSize ⌝ }
+    ensures { λ r. ⌜ r ≡ blockMixed format (now (block .entry)) blockSize ⌝ }
 {
     let mut mix: u64 = u8_to_u64(format) + 1;
     for k in 0..Block::SIZE {

@@ -27,7 +27,7 @@ use Rattle.bc6h_spec.specs.Block.{pixelsOf}
 use Rattle.bc6h_spec.proofs.Reading.{fields-mode}
 use Rattle.store_copies.specs.Words.{PixelAt, ChannelDiffers, Eligible}
 use Rattle.store_copies.specs.Wide.{regions, lastIndex, Reaches, Differs, NoLeast, Spanning, Suited, Matched}
-use Rattle.store_copies.specs.Trust.{Trusted, isBlock, modeCovered, isAt, reaches, channelDiffers, differs, isLeast, leastAt, hasLeast, regionTrusted, fieldsTrusted, trusted}
+use Rattle.store_copies.specs.Trust.{Trusted, isBlock, modeCovered, indexedAt, reaches, channelDiffers, differs, isLeast, leastEnd, hasLeast, regionTrusted, fieldsTrusted, trusted}
 use Rattle.store_copies.proofs.Wide.{copies}
 
 -- ---- clause by clause
@@ -50,7 +50,7 @@ block-complete block b =
 pub reaches-sound : (f : Fields) (r n : ℕ) → T (reaches f r n) → Reaches f r n
 unfolding reaches
 reaches-sound f r n t =
-    let k : Found (isAt f r n) 16 = some-found (isAt f r n) 16 t in
+    let k : Found (indexedAt f r n) 16 = some-found (indexedAt f r n) 16 t in
     let region = eqb (regionOf (f .mode) (f .partition) (k .place)) r in
     record {
       pixel = k .place;
@@ -62,7 +62,7 @@ reaches-sound f r n t =
 pub reaches-complete : (f : Fields) (r n : ℕ) → Reaches f r n → T (reaches f r n)
 unfolding reaches
 reaches-complete f r n p =
-    some-at (isAt f r n) 16 (p .pixel) (p .is-pixel)
+    some-at (indexedAt f r n) 16 (p .pixel) (p .is-pixel)
     (both-hold (eqb (regionOf (f .mode) (f .partition) (p .pixel)) r) (eqb (indexOf f (p .pixel)) n)
     (holds (eq-eqb _ _ (p .in-region))) (holds (eq-eqb _ _ (p .at-index))))
 
@@ -96,15 +96,15 @@ least-complete p z e = subst (λ (y : ℤ). T (isLeast p y)) (sym e) (at (2 ^ (p
 -- an endpoint below 2 * regions at −2^(p−1), in a signed block
 module _ (f : Fields) where
   has-least : (e c : ℕ) → e < 2 * regions (f .mode) → c < 3 → endpoint true f e c ≡ negℤ (pos (2 ^ (precision (f .mode) - 1))) → T (hasLeast f)
-  unfolding hasLeast leastAt
+  unfolding hasLeast leastEnd
   has-least e c he hc q =
-      some-at (leastAt f) (2 * regions (f .mode)) e he
+      some-at (leastEnd f) (2 * regions (f .mode)) e he
       (some-at (λ k. isLeast (precision (f .mode)) (endpoint true f e k)) 3 c hc (least-complete (precision (f .mode)) (endpoint true f e c) q))
 
   has-no-least : NoLeast true f → T (hasLeast f) → ⊥
-  unfolding hasLeast leastAt
+  unfolding hasLeast leastEnd
   has-no-least q t =
-      let e : Found (leastAt f) (2 * regions (f .mode)) = some-found (leastAt f) (2 * regions (f .mode)) t in
+      let e : Found (leastEnd f) (2 * regions (f .mode)) = some-found (leastEnd f) (2 * regions (f .mode)) t in
       let c : Found (λ k. isLeast (precision (f .mode)) (endpoint true f (e .place) k)) 3 =
       some-found (λ k. isLeast (precision (f .mode)) (endpoint true f (e .place) k)) 3 (e .there) in
       q refl (e .place) (c .place) (e .inside) (c .inside) (least-sound (precision (f .mode)) (endpoint true f (e .place) (c .place)) (c .there))

@@ -24,7 +24,7 @@ use Rattle.bc6h_spec.specs.Picture.{firstEnd, delta, otherEnd, endpoint, betwee
 use Rattle.bc6h_spec.specs.Block.{pixelsOf}
 use Rattle.bc6h_spec.specs.Named.{B3}
 use Rattle.store_copies.specs.Wide.{regions, lastIndex, AllReach, NoLeast, RegionsDiffer}
-use Rattle.store_copies.specs.Trust.{Trusted, reaches, channelDiffers, differs, leastAt, hasLeast, regionTrusted, fieldsTrusted, trusted}
+use Rattle.store_copies.specs.Trust.{Trusted, reaches, channelDiffers, differs, leastEnd, hasLeast, regionTrusted, fieldsTrusted, trusted}
 use Rattle.store_copies.proofs.Wide.{copies}
 use Rattle.store_copies.proofs.Trust.{reaches-sound, differs-sound, not-least-sound, sound}
 use Rattle.store_copies.proofs.Premises.{Pair, Premise, Claim, Row, Without, fools?, all-refuted}
@@ -147,7 +147,7 @@ against =
 all-fool : T (every (fools? clauses no-least) against)
 unfolding made countOf transformed rows row1 row2 row3 row4 row5 row6 row7 row8 row9 row10 row11 row12 row13 row14
     partitions regionOf region1Of modeIn modeOf gathered before unpacked fieldsAt fieldsOf signExtend keep transform unquantizeU unquantizeM unquantized interpolated finishU scaled finishS finished
-    firstEnd delta otherEnd endpoint between palette value pictureAs picture pixelsOf some reaches channelDiffers differs leastAt hasLeast
+    firstEnd delta otherEnd endpoint between palette value pictureAs picture pixelsOf some reaches channelDiffers differs leastEnd hasLeast
 all-fool = tt
 
 -- the theorem without any one of its clauses, by each pair
@@ -162,7 +162,7 @@ met? x y = both (trusted 0 x) (trusted 1 y)
 all-met : T (both (met? B3 (least .y)) (met? (two-partitions .x) (least-of-region .y)))
 unfolding made countOf transformed rows row1 row2 row3 row4 row5 row6 row7 row8 row9 row10 row11 row12 row13 row14
     partitions regionOf region1Of modeIn modeOf gathered before unpacked fieldsAt fieldsOf signExtend keep transform unquantizeU unquantizeM unquantized interpolated finishU scaled finishS finished
-    firstEnd delta otherEnd endpoint between palette some reaches channelDiffers differs leastAt hasLeast regionTrusted fieldsTrusted trusted
+    firstEnd delta otherEnd endpoint between palette some reaches channelDiffers differs leastEnd hasLeast regionTrusted fieldsTrusted trusted
 all-met = tt
 
 pub met : (Trusted 0 B3 × Trusted 1 (least .y)) × (Trusted 0 (two-partitions .x) × Trusted 1 (least-of-region .y))

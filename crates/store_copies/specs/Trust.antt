@@ -31,11 +31,11 @@ abbrev pub modeCovered : ℕ → Bool
 modeCovered mode = both (leb 1 mode) (leb mode 13)
 
 -- pixel k lies in region r and has the index n
-abbrev pub isAt : Fields → ℕ → ℕ → ℕ → Bool
-isAt f r n k = both (eqb (regionOf (f .mode) (f .partition) k) r) (eqb (indexOf f k) n)
+abbrev pub indexedAt : Fields → ℕ → ℕ → ℕ → Bool
+indexedAt f r n k = both (eqb (regionOf (f .mode) (f .partition) k) r) (eqb (indexOf f k) n)
 
 unfoldable pub reaches : Fields → ℕ → ℕ → Bool
-reaches f r n = some (isAt f r n) 16
+reaches f r n = some (indexedAt f r n) 16
 
 unfoldable pub channelDiffers : Bool → Fields → ℕ → ℕ → Bool
 channelDiffers signed f r channel = distinct (palette signed f r channel) (suc (lastIndex (f .mode)))
@@ -49,11 +49,11 @@ isLeast p (pos n) = false
 isLeast p (negsuc n) = eqb (suc n) (2 ^ (p - 1))
 
 -- endpoint e has a channel at −2^(p−1)
-unfoldable pub leastAt : Fields → ℕ → Bool
-leastAt f e = some (λ c. isLeast (precision (f .mode)) (endpoint true f e c)) 3
+unfoldable pub leastEnd : Fields → ℕ → Bool
+leastEnd f e = some (λ c. isLeast (precision (f .mode)) (endpoint true f e c)) 3
 
 unfoldable pub hasLeast : Fields → Bool
-hasLeast f = some (leastAt f) (2 * regions (f .mode))
+hasLeast f = some (leastEnd f) (2 * regions (f .mode))
 
 -- region r reaches both ends of its palette, and has a channel whose palette values differ
 unfoldable pub regionTrusted : Bool → Fields → ℕ → Bool

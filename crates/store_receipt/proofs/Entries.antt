@@ -15,7 +15,7 @@ use Rattle.laws.proofs.Tests.{cases}
 use Rattle.raw_bytes.specs.Bytes.{lowFirst}
 use Rattle.store_records.specs.Store.{recordsIn, byteOf}
 use Rattle.store_clean.specs.Clean.{firstOf, goes, going, goneCount}
-use Rattle.store_receipt.specs.Receipt.{entrySize, low, high, entryOf, entriesIn, entryByte, numberAt, staysAt, receiptUpto, receiptOf}
+use Rattle.store_receipt.specs.Receipt.{entrySize, low, high, entryOf, entriesIn, entryByte, removedNumber, staysAt, receiptUpto, receiptOf}
 
 -- ---- one entry
 
@@ -121,7 +121,7 @@ module _ (store : List ℕ) where
         sym (entry-byte (receiptOf store) (going (goes store) n) k l)
         ∙ ap (λ (x : List ℕ). getD x k 0) (entry-there (recordsIn store) n h t)
 
-    pub number-told : numberAt (receiptOf store) (going (goes store) n) ≡ n
+    pub number-told : removedNumber (receiptOf store) (going (goes store) n) ≡ n
     unfolding entryOf lowFirst
     number-told =
         let a : entryByte (receiptOf store) (going (goes store) n) 0 ≡ low n = at-byte 0 (lit< tt) in

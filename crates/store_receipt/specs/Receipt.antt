@@ -4,10 +4,11 @@ use mathlib.Core.List.{List, [], _∷_, _++_}
 use Prim.Native.Nat.{ℕ, zero, suc, _+_, _*_, _/_, _%_, _≤_, _<_}
 use lib.ListN.{length, getD, take, drop}
 use Rattle.laws.specs.Pick.{pick}
+use Rattle.laws.specs.Checks.{ifDone, orNext}
 use Rattle.bcn_spec.specs.Answers.{done}
 use Rattle.raw_bytes.specs.Bytes.{lowFirst}
 use Rattle.store_records.specs.Store.{recordsIn, byteOf, mostRecords}
-use Rattle.store_spec.specs.Twins.{listRefusal, firstRefusal}
+use Rattle.store_spec.specs.Twins.{listRefusal}
 use Rattle.store_clean.specs.declared.Cleaned.{Cleaned}
 use Rattle.store_clean.specs.Clean.{firstOf, goes, goneCount, cleanRefusal, answerAt, bytesAt, CleanedInto}
 use Rattle.store_clean.specs.Links.{Linked}
@@ -39,14 +40,14 @@ entriesIn receipt = length receipt / entrySize
 abbrev pub entryByte : List ℕ → ℕ → ℕ → ℕ
 entryByte receipt e k = getD receipt (e * entrySize + k) 0
 
-abbrev pub numberAt : List ℕ → ℕ → ℕ
-numberAt receipt e = lowFirst receipt (e * entrySize) 2
+abbrev pub removedNumber : List ℕ → ℕ → ℕ
+removedNumber receipt e = lowFirst receipt (e * entrySize) 2
 
 abbrev pub staysAt : List ℕ → ℕ → ℕ
 staysAt receipt e = lowFirst receipt (e * entrySize + 2) 2
 
 abbrev pub entryAt : List ℕ → ℕ → Entry
-entryAt receipt e = record { number = numberAt receipt e; stays = staysAt receipt e }
+entryAt receipt e = record { number = removedNumber receipt e; stays = staysAt receipt e }
 
 -- the four tile bytes of entry e
 abbrev pub tileBytes : List ℕ → ℕ → List ℕ
@@ -66,12 +67,11 @@ receiptOf store = receiptUpto store (recordsIn store)
 
 -- 5, 6 and 3 as for the clean-up; 3 also where the receipt's room is below 8 bytes a record of the store, since how many go is not known before
 unfoldable pub receiptRefusal : ℕ → ℕ → ℕ → ℕ
-receiptRefusal size room paper = firstRefusal (cleanRefusal size room) (listRefusal size (paper / entrySize))
+receiptRefusal size room paper = orNext (cleanRefusal size room) (listRefusal size (paper / entrySize))
 
 -- the receipt at the front of the lent bytes, whose rest stays as it was; a refusal changes no byte
 abbrev pub paperAt : ℕ → List ℕ → List ℕ → List ℕ
-paperAt zero store lent = receiptOf store ++ drop (goneCount store * entrySize) lent
-paperAt (suc number) store lent = lent
+paperAt number store lent = ifDone number (receiptOf store ++ drop (goneCount store * entrySize) lent) lent
 
 -- The answer, the bytes lent for the cleaned store and the bytes lent for the receipt, for every input.
 pub record ReceiptInto (store lent paper : List ℕ) (r : Cleaned) (after written : List ℕ) : Type 0 where

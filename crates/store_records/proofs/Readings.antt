@@ -9,7 +9,7 @@ use Rattle.bcn_spec.specs.Answers.{done}
 use Rattle.store_records.specs.declared.Record.{Record}
 use Rattle.store_records.specs.declared.RecordReading.{RecordReading}
 use Rattle.store_records.specs.declared.RecordReading.the-variants as reading
-use Rattle.store_records.specs.Store.{recordsIn, tileOf, formatOf, tileAt, blockOf, recordRefusal, Unrefused, valuesAt, partAt, Read}
+use Rattle.store_records.specs.Store.{recordsIn, tileOf, formatOf, tileAt, blockOf, recordRefusal, Unrefused, valuesAt, partAt, RecordRead}
 use Rattle.store_records.proofs.Refusals.{known, block-length}
 
 -- ---- the tile
@@ -27,18 +27,18 @@ one-tile store n d e = d ∙ sym e
 
 -- ---- the record call
 
-pub read-refused : (store : List ℕ) (n k : ℕ) → recordRefusal store n ≡ suc k → Read store n (reading.Refused (suc k))
+pub read-refused : (store : List ℕ) (n k : ℕ) → recordRefusal store n ≡ suc k → RecordRead store n (reading.Refused (suc k))
 read-refused store n k e = record { answers = sym e; gives = rw e }
 
 pub read-record : (store : List ℕ) (n tile : ℕ) → Unrefused store n → tile ≡ tileAt store n
-    → Read store n (reading.Record (record { tile = tile; format = formatOf store n }))
+    → RecordRead store n (reading.Record (record { tile = tile; format = formatOf store n }))
 read-record store n tile u e = record { answers = sym u; gives = rw (u, e ∙ sym (tile-there store n (known store n u .below))) }
 
 -- a reading that is a record: it is not refused, and its format is the store's
-pub unrefused : {store : List ℕ} {n : ℕ} {x : RecordReading} {r : Record} → Read store n x → x ≡ reading.Record r → Unrefused store n
+pub unrefused : {store : List ℕ} {n : ℕ} {x : RecordReading} {r : Record} → RecordRead store n x → x ≡ reading.Record r → Unrefused store n
 unrefused d e = cc (d .answers)
 
-pub format-is : {store : List ℕ} {n : ℕ} {x : RecordReading} {r : Record} → Read store n x → x ≡ reading.Record r → r .format ≡ formatOf store n
+pub format-is : {store : List ℕ} {n : ℕ} {x : RecordReading} {r : Record} → RecordRead store n x → x ≡ reading.Record r → r .format ≡ formatOf store n
 format-is {store} {n} {x} {r} d e =
     let u = unrefused d e in
     let v : r .tile ∷ r .format ∷ [] ≡ tileOf store n ∷ formatOf store n ∷ [] = rw (e, u) at (d .gives) in
@@ -49,10 +49,10 @@ refused-at : (store : List ℕ) (n a k : ℕ) → [] ≡ valuesAt a store n → 
 refused-at store n zero k v z = omega (arith, ap length v)
 refused-at store n (suc a) k v z = omega arith
 
-pub refused : {store : List ℕ} {n k : ℕ} {x : RecordReading} → Read store n x → x ≡ reading.Refused k → Unrefused store n → ⊥
+pub refused : {store : List ℕ} {n k : ℕ} {x : RecordReading} → RecordRead store n x → x ≡ reading.Refused k → Unrefused store n → ⊥
 refused {store} {n} {k} {x} d e u = refused-at store n (recordRefusal store n) k (rw e at (d .gives)) u
 
-same-reading : (a b : RecordReading) (store : List ℕ) (n : ℕ) → Read store n a → Read store n b → a ≡ b
+same-reading : (a b : RecordReading) (store : List ℕ) (n : ℕ) → RecordRead store n a → RecordRead store n b → a ≡ b
 same-reading (reading.Record q) (reading.Record r) store n d e =
     let v : q .tile ∷ q .format ∷ [] ≡ r .tile ∷ r .format ∷ [] = d .gives ∙ sym (e .gives) in
     let t : q .tile ≡ r .tile = cc in
@@ -62,7 +62,7 @@ same-reading (reading.Record q) (reading.Refused k) store n d e = absurd (refuse
 same-reading (reading.Refused k) (reading.Record r) store n d e = absurd (refused d refl (sym (e .answers)))
 same-reading (reading.Refused j) (reading.Refused k) store n d e = ap reading.Refused (d .answers ∙ sym (e .answers))
 
-pub one-reading : {store : List ℕ} {n : ℕ} {a b : RecordReading} → Read store n a → Read store n b → a ≡ b
+pub one-reading : {store : List ℕ} {n : ℕ} {a b : RecordReading} → RecordRead store n a → RecordRead store n b → a ≡ b
 one-reading {store} {n} {a} {b} d e = same-reading a b store n d e
 
 -- ---- the block call

@@ -82,7 +82,7 @@ valuesAt zero store n = tileOf store n ∷ formatOf store n ∷ []
 valuesAt (suc number) store n = []
 
 -- S-40: tile number and format, or the number of the refusal alone.
-pub record Read (store : List ℕ) (n : ℕ) (r : RecordReading) : Type 0 where
+pub record RecordRead (store : List ℕ) (n : ℕ) (r : RecordReading) : Type 0 where
   pub answers : readingNumber r ≡ recordRefusal store n
   pub gives : valuesOf r ≡ valuesAt (recordRefusal store n) store n
 

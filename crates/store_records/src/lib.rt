@@ -2,7 +2,7 @@
 
 ghost use mathlib.Core.Path.{_≡_};
 ghost use mathlib.Core.List.{[], _∷_};
-ghost use Rattle.store_records.specs.Store.{recordSize, headSize, storeLimit, recordsIn, tileAt, readingNumber, partAt, recordRefusal, Read};
+ghost use Rattle.store_records.specs.Store.{recordSize, headSize, storeLimit, recordsIn, tileAt, readingNumber, partAt, recordRefusal, RecordRead};
 use bcn_spec::Answer;
 use bcn_spec::Block;
 use raw_bytes::u32_at;
@@ -66,7 +66,7 @@ pub fn tile_at(store: &[u8], n: usize) -> u32
 
 // Record n of a store.
 pub fn record_at(store: &[u8], n: usize) -> RecordReading
-    ensures { λ r. ⌜ Read (now (store .entry)) n r ⌝ }
+    ensures { λ r. ⌜ RecordRead (now (store .entry)) n r ⌝ }
 {
     if store.len() > Record::STORE {
         return RecordReading::Refused(Answer::LONG_STORE);

@@ -17,35 +17,35 @@ use Rattle.laws.proofs.Below.{below-all, below-fails, below-upto}
 use Rattle.bcn_spec.specs.Answers.{done, shortOutput, longStore, unevenStore, badReceipt}
 use Rattle.store_records.specs.Store.{recordSize, storeLimit, mostRecords}
 use Rattle.store_receipt.specs.declared.Entry.{Entry}
-use Rattle.store_receipt.specs.Receipt.{entrySize, entriesIn, numberAt, staysAt, entryAt}
+use Rattle.store_receipt.specs.Receipt.{entrySize, entriesIn, removedNumber, staysAt, entryAt}
 use Rattle.store_restore.specs.Restore.{totalOf, leastAt, entryFits, receiptFits, restoreChecks, restoreRefusal}
 
 -- ---- an entry
 
 module _ (receipt : List ℕ) (total e : ℕ) where
-  pub entry-low : numberAt receipt e < leastAt receipt e → entryFits receipt total e ≡ false
+  pub entry-low : removedNumber receipt e < leastAt receipt e → entryFits receipt total e ≡ false
   unfolding entryFits
   entry-low h = rw (lt-ltb _ _ h)
 
-  module _ (l : leastAt receipt e ≤ numberAt receipt e) where
-    pub entry-high : total ≤ numberAt receipt e → entryFits receipt total e ≡ false
+  module _ (l : leastAt receipt e ≤ removedNumber receipt e) where
+    pub entry-high : total ≤ removedNumber receipt e → entryFits receipt total e ≡ false
     unfolding entryFits
     entry-high h = rw (le-ltb _ _ l, le-ltb _ _ h)
 
-    pub entry-last : numberAt receipt e < total → ltb (staysAt receipt e) (numberAt receipt e) ≡ entryFits receipt total e
+    pub entry-last : removedNumber receipt e < total → ltb (staysAt receipt e) (removedNumber receipt e) ≡ entryFits receipt total e
     unfolding entryFits
     entry-last h = rw (le-ltb _ _ l, lt-ltb _ _ h)
 
   pub record Fits : Type 0 where
-    pub least : leastAt receipt e ≤ numberAt receipt e
-    pub inside : numberAt receipt e < total
-    pub before : staysAt receipt e < numberAt receipt e
+    pub least : leastAt receipt e ≤ removedNumber receipt e
+    pub inside : removedNumber receipt e < total
+    pub before : staysAt receipt e < removedNumber receipt e
 
   pub fits-means : entryFits receipt total e ≡ true → Fits
   unfolding entryFits
   fits-means t =
-      let a = both-true (not (ltb (numberAt receipt e) (leastAt receipt e))) _ t in
-      let b = both-true (ltb (numberAt receipt e) total) _ (a .1) in
+      let a = both-true (not (ltb (removedNumber receipt e) (leastAt receipt e))) _ t in
+      let b = both-true (ltb (removedNumber receipt e) total) _ (a .1) in
       record { least = ltb-false _ _ (not-true _ (a .0)); inside = ltb-true _ _ (b .0); before = ltb-true _ _ (b .1) }
 
   pub fits-so : Fits → entryFits receipt total e ≡ true
@@ -54,7 +54,7 @@ module _ (receipt : List ℕ) (total e : ℕ) where
 
 -- as the code asks them, of an entry that was read
 module _ (receipt : List ℕ) (total e least : ℕ) (x : Entry) (q : x ≡ entryAt receipt e) (p : least ≡ leastAt receipt e) where
-  number : x .number ≡ numberAt receipt e
+  number : x .number ≡ removedNumber receipt e
   number = ap (λ (y : Entry). y .number) q
 
   stays : x .stays ≡ staysAt receipt e
@@ -72,7 +72,7 @@ module _ (receipt : List ℕ) (total e least : ℕ) (x : Entry) (q : x ≡ entry
 
 -- ---- the loop over the entries
 
-pub least-next : (receipt : List ℕ) (e number : ℕ) → number ≡ numberAt receipt e → number + 1 ≡ leastAt receipt (e + 1)
+pub least-next : (receipt : List ℕ) (e number : ℕ) → number ≡ removedNumber receipt e → number + 1 ≡ leastAt receipt (e + 1)
 least-next receipt e number q = rw (add-one e, q)
 
 module _ (receipt : List ℕ) (total : ℕ) where
@@ -110,25 +110,25 @@ module _ (receipt : List ℕ) (total : ℕ) where
 
   -- each number is above the one before, so that d entries on it is at least d more
   module _ (w : FitReceipt) where
-    rises : (e : ℕ) → suc e < entriesIn receipt → numberAt receipt e + 1 ≤ numberAt receipt (suc e)
+    rises : (e : ℕ) → suc e < entriesIn receipt → removedNumber receipt e + 1 ≤ removedNumber receipt (suc e)
     rises e h = w .fits (suc e) h .least
 
-    pub climbs : (d e : ℕ) → e + d < entriesIn receipt → numberAt receipt e + d ≤ numberAt receipt (e + d)
+    pub climbs : (d e : ℕ) → e + d < entriesIn receipt → removedNumber receipt e + d ≤ removedNumber receipt (e + d)
     climbs zero e h = rw (add-zero e) (omega arith)
     climbs (suc d) e h =
         let s : suc (e + d) < entriesIn receipt = omega arith in
-        let a : numberAt receipt e + d ≤ numberAt receipt (e + d) = climbs d e (omega arith) in
-        let b : numberAt receipt (e + d) + 1 ≤ numberAt receipt (suc (e + d)) = rises (e + d) s in
-        let g : numberAt receipt e + suc d ≤ numberAt receipt (suc (e + d)) = omega (arith, a, b) in
+        let a : removedNumber receipt e + d ≤ removedNumber receipt (e + d) = climbs d e (omega arith) in
+        let b : removedNumber receipt (e + d) + 1 ≤ removedNumber receipt (suc (e + d)) = rises (e + d) s in
+        let g : removedNumber receipt e + suc d ≤ removedNumber receipt (suc (e + d)) = omega (arith, a, b) in
         rw (add-suc e d) g
 
     -- the number of a later entry is at least as many more as it is later
-    pub climbs-to : (e f : ℕ) → e ≤ f → f < entriesIn receipt → numberAt receipt e + (f - e) ≤ numberAt receipt f
+    pub climbs-to : (e f : ℕ) → e ≤ f → f < entriesIn receipt → removedNumber receipt e + (f - e) ≤ removedNumber receipt f
     climbs-to e f l h =
         let q : e + (f - e) ≡ f = omega arith in
         ap-le q (climbs (f - e) e (omega arith))
       where
-        ap-le : {x y : ℕ} → x ≡ y → numberAt receipt e + (f - e) ≤ numberAt receipt x → numberAt receipt e + (f - e) ≤ numberAt receipt y
+        ap-le : {x y : ℕ} → x ≡ y → removedNumber receipt e + (f - e) ≤ removedNumber receipt x → removedNumber receipt e + (f - e) ≤ removedNumber receipt y
         ap-le q m = rw q at m
 
 -- ---- the call's checks

@@ -22,7 +22,7 @@ use Rattle.store_records.specs.Store.{recordSize, recordsIn}
 use Rattle.store_clean.specs.Clean.{recordOf, staying}
 use Rattle.store_clean.proofs.Leaving.{record-length, staying-none, staying-gone, staying-more}
 use Rattle.store_receipt.specs.declared.Entry.{Entry}
-use Rattle.store_receipt.specs.Receipt.{entrySize, entriesIn, numberAt, staysAt, entryAt, tileBytes}
+use Rattle.store_receipt.specs.Receipt.{entrySize, entriesIn, removedNumber, staysAt, entryAt, tileBytes}
 use Rattle.laws.proofs.Pasting.{pasted}
 use Rattle.store_restore.specs.declared.Restored.{Restored}
 use Rattle.store_restore.specs.Restore.{totalOf, isFor, entryFor, isTold, putBack, restoredUpto, restoredOf, restoredAt, RestoredInto, restoreRefusal, withTile, putInto}
@@ -33,7 +33,7 @@ use Rattle.store_restore.proofs.Fitting.{FitReceipt, climbs-to, Restora
 -- an entry with the number, if there is one
 pub record Entered (receipt : List ℕ) (n : ℕ) : Type 0 where
   pub there : entryFor receipt n < entriesIn receipt
-  pub number : numberAt receipt (entryFor receipt n) ≡ n
+  pub number : removedNumber receipt (entryFor receipt n) ≡ n
 
 module _ (receipt : List ℕ) (n : ℕ) where
   pub told-means : isTold receipt n ≡ true → Entered receipt n
@@ -42,32 +42,32 @@ module _ (receipt : List ℕ) (n : ℕ) where
       let l : firstBelow (isFor receipt n) (entriesIn receipt) < entriesIn receipt = ltb-true _ _ t in
       record { there = l; number = eqb-true _ _ (first-passes (isFor receipt n) (entriesIn receipt) l) }
 
-  pub told-low : (e : ℕ) → e < entriesIn receipt → numberAt receipt e ≡ n → entryFor receipt n ≤ e
+  pub told-low : (e : ℕ) → e < entriesIn receipt → removedNumber receipt e ≡ n → entryFor receipt n ≤ e
   unfolding entryFor
   told-low e h q = first-least (isFor receipt n) (entriesIn receipt) e h (eq-eqb _ _ q)
 
-  pub told-so : (e : ℕ) → e < entriesIn receipt → numberAt receipt e ≡ n → isTold receipt n ≡ true
+  pub told-so : (e : ℕ) → e < entriesIn receipt → removedNumber receipt e ≡ n → isTold receipt n ≡ true
   unfolding isTold
   told-so e h q = lt-ltb (entryFor receipt n) (entriesIn receipt) (omega (arith, told-low e h q))
 
 -- the first `used` entries are of records below n, and the others are not
 pub record Split (receipt : List ℕ) (n used : ℕ) : Type 0 where
   pub some : used ≤ entriesIn receipt
-  pub passed : (k : ℕ) → k < used → numberAt receipt k < n
-  pub ahead : (k : ℕ) → used ≤ k → k < entriesIn receipt → n ≤ numberAt receipt k
+  pub passed : (k : ℕ) → k < used → removedNumber receipt k < n
+  pub ahead : (k : ℕ) → used ≤ k → k < entriesIn receipt → n ≤ removedNumber receipt k
 
 abbrev pub next : List ℕ → ℕ → ℕ → Bool
-next receipt e n = both (ltb e (entriesIn receipt)) (eqb (numberAt receipt e) n)
+next receipt e n = both (ltb e (entriesIn receipt)) (eqb (removedNumber receipt e) n)
 
 pub record IsNext (receipt : List ℕ) (e n : ℕ) : Type 0 where
   pub there : e < entriesIn receipt
-  pub number : numberAt receipt e ≡ n
+  pub number : removedNumber receipt e ≡ n
 
 pub is-next : (receipt : List ℕ) (e n : ℕ) → next receipt e n ≡ true → IsNext receipt e n
 is-next receipt e n t =
     let a = both-true (ltb e (entriesIn receipt)) _ t in record { there = ltb-true _ _ (a .0); number = eqb-true _ _ (a .1) }
 
-pub not-next : (receipt : List ℕ) (e n : ℕ) → next receipt e n ≡ false → e < entriesIn receipt → numberAt receipt e ≡ n → ⊥
+pub not-next : (receipt : List ℕ) (e n : ℕ) → next receipt e n ≡ false → e < entriesIn receipt → removedNumber receipt e ≡ n → ⊥
 not-next receipt e n f h q = true-false (sym (rw (lt-ltb _ _ h, eq-eqb _ _ q)) ∙ f)
 
 -- as the code asks it
@@ -100,10 +100,10 @@ module _ {receipt : List ℕ} {total n used : ℕ} (w : FitReceipt receipt total
       }
 
   module _ (f : next receipt used n ≡ false) where
-    past : (k : ℕ) → used ≤ k → k < entriesIn receipt → n < numberAt receipt k
+    past : (k : ℕ) → used ≤ k → k < entriesIn receipt → n < removedNumber receipt k
     past k l h =
-        let a : numberAt receipt used + (k - used) ≤ numberAt receipt k = climbs-to receipt total w used k l h in
-        let b : n ≤ numberAt receipt used = s .ahead used (omega arith) (omega arith) in
+        let a : removedNumber receipt used + (k - used) ≤ removedNumber receipt k = climbs-to receipt total w used k l h in
+        let b : n ≤ removedNumber receipt used = s .ahead used (omega arith) (omega arith) in
         ⊎-elim (λ q. absurd (not-next receipt used n f (omega arith) (sym q))) (λ m. omega (arith, a, m)) (eq-or-lt-of-le b)
 
     pub not-told : isTold receipt n ≡ false
@@ -130,9 +130,9 @@ module _ {receipt : List ℕ} {total n used : ℕ} (w : FitReceipt receipt total
         ⊎-elim (λ q. omega (arith, q, e))
         (λ l. let last : ℕ = entriesIn receipt - 1 in
         let b : last < entriesIn receipt = omega (arith, l) in
-        let c : numberAt receipt used + (last - used) ≤ numberAt receipt last = climbs-to receipt total w used last (omega (arith, l)) b in
-        let d : n < numberAt receipt used = past used (omega arith) l in
-        let g : numberAt receipt last < total = w .fits last b .inside in
+        let c : removedNumber receipt used + (last - used) ≤ removedNumber receipt last = climbs-to receipt total w used last (omega (arith, l)) b in
+        let d : n < removedNumber receipt used = past used (omega arith) l in
+        let g : removedNumber receipt last < total = w .fits last b .inside in
         omega (arith, l, c, d, g, e))
         (eq-or-lt-of-le m)
 

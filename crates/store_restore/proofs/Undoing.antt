@@ -18,7 +18,7 @@ use Rattle.store_clean.specs.Clean.{Repeats, firstOf, goes, recordOf, staying, 
 use Rattle.store_clean.proofs.Repeating.{goes-first, first-repeated}
 use Rattle.store_clean.proofs.Leaving.{record-length, record-byte, staying-adds, staying-same, left-at}
 use Rattle.store_clean.proofs.Moving.{Sized, cleaned-records}
-use Rattle.store_receipt.specs.Receipt.{entrySize, entriesIn, numberAt, staysAt, tileBytes, receiptOf}
+use Rattle.store_receipt.specs.Receipt.{entrySize, entriesIn, removedNumber, staysAt, tileBytes, receiptOf}
 use Rattle.store_receipt.proofs.Entries.{Gone, gone-of, going-less, number-told, stays-told, tile-told, entries-count, receipt-length}
 use Rattle.store_restore.specs.Restore.{totalOf, leastAt, receiptFits, entryFor, isTold, putBack, restoredUpto, restoredOf}
 use Rattle.store_restore.proofs.Fitting.{Fits, each-fits}
@@ -50,10 +50,10 @@ module _ (store : List ℕ) where
   at : (k : ℕ) → k < entriesIn (receiptOf store) → Gone (goes store) (recordsIn store) k
   at k h = gone-of (goes store) (recordsIn store) k (omega (arith, entries-count store))
 
-  number-at : (k : ℕ) (h : k < entriesIn (receiptOf store)) → numberAt (receiptOf store) k ≡ at k h .number
+  number-at : (k : ℕ) (h : k < entriesIn (receiptOf store)) → removedNumber (receiptOf store) k ≡ at k h .number
   number-at k h =
       let g = at k h in
-      ap (λ (e : ℕ). numberAt (receiptOf store) e) (sym (g .place)) ∙ number-told store (g .number) (g .below) (g .goes-too)
+      ap (λ (e : ℕ). removedNumber (receiptOf store) e) (sym (g .place)) ∙ number-told store (g .number) (g .below) (g .goes-too)
 
   stays-at : (k : ℕ) (h : k < entriesIn (receiptOf store)) → staysAt (receiptOf store) k ≡ firstOf store (at k h .number)
   stays-at k h =
@@ -70,7 +70,7 @@ module _ (store : List ℕ) where
       (λ m. absurd (omega (arith, l, p .place, q .place, going-less (goes store) (q .number) (p .number) m (q .goes-too))))
       (eq-or-lt-of-le (ltb-false (p .number) (q .number) f)))
 
-  least : (e : ℕ) → e < entriesIn (receiptOf store) → leastAt (receiptOf store) e ≤ numberAt (receiptOf store) e
+  least : (e : ℕ) → e < entriesIn (receiptOf store) → leastAt (receiptOf store) e ≤ removedNumber (receiptOf store) e
   least zero h = omega arith
   least (suc e) h =
       let hj : e < entriesIn (receiptOf store) = omega arith in

@@ -7,13 +7,13 @@ use lib.Dec.{eqb, ltb}
 use lib.ListN.{length, take, drop}
 use lib.Seq.{paste}
 use Rattle.laws.specs.Pick.{pick, both}
-use Rattle.laws.specs.Checks.{firstMet}
+use Rattle.laws.specs.Checks.{firstMet, ifDone}
 use Rattle.laws.specs.Every.{below}
 use Rattle.laws.specs.First.{firstBelow}
 use Rattle.bcn_spec.specs.Answers.{done, shortOutput, longStore, unevenStore, badReceipt}
 use Rattle.store_records.specs.Store.{recordSize, storeLimit, recordsIn, mostRecords}
 use Rattle.store_clean.specs.Clean.{recordOf, staying}
-use Rattle.store_receipt.specs.Receipt.{entrySize, entriesIn, numberAt, staysAt, tileBytes}
+use Rattle.store_receipt.specs.Receipt.{entrySize, entriesIn, removedNumber, staysAt, tileBytes}
 use Rattle.store_restore.specs.declared.Restored.{Restored}
 
 -- how many records the restored store has: those of the cleaned store and one for each entry
@@ -25,12 +25,12 @@ totalOf cleaned receipt = recordsIn cleaned + entriesIn receipt
 -- the least number that entry e may have: one above that of the entry before
 abbrev pub leastAt : List ℕ → ℕ → ℕ
 leastAt receipt zero = 0
-leastAt receipt (suc e) = numberAt receipt e + 1
+leastAt receipt (suc e) = removedNumber receipt e + 1
 
 -- an entry fits if its number is above that of the entry before and below the total, and the record that stays is below its number
 unfoldable pub entryFits : List ℕ → ℕ → ℕ → Bool
 entryFits receipt total e =
-    both (not (ltb (numberAt receipt e) (leastAt receipt e))) (both (ltb (numberAt receipt e) total) (ltb (staysAt receipt e) (numberAt receipt e)))
+    both (not (ltb (removedNumber receipt e) (leastAt receipt e))) (both (ltb (removedNumber receipt e) total) (ltb (staysAt receipt e) (removedNumber receipt e)))
 
 unfoldable pub receiptFits : List ℕ → ℕ → Bool
 receiptFits receipt total = both (eqb (length receipt % entrySize) 0) (below (entryFits receipt total) (entriesIn receipt))
@@ -51,7 +51,7 @@ restoreRefusal cleaned receipt room = firstMet (restoreChecks cleaned receipt ro
 
 -- entry e has number n
 abbrev pub isFor : List ℕ → ℕ → ℕ → Bool
-isFor receipt n e = eqb (numberAt receipt e) n
+isFor receipt n e = eqb (removedNumber receipt e) n
 
 -- the first such entry; the number of entries where there is none
 unfoldable pub entryFor : List ℕ → ℕ → ℕ
@@ -85,8 +85,7 @@ restoredAt (suc number) count = record { answer = suc number; records = 0 }
 
 -- the store at the front of the lent bytes, whose rest stays as it was; a refusal changes no byte
 abbrev pub bytesAt : ℕ → List ℕ → List ℕ → List ℕ → List ℕ
-bytesAt zero cleaned receipt lent = restoredOf cleaned receipt ++ drop (totalOf cleaned receipt * recordSize) lent
-bytesAt (suc number) cleaned receipt lent = lent
+bytesAt number cleaned receipt lent = ifDone number (restoredOf cleaned receipt ++ drop (totalOf cleaned receipt * recordSize) lent) lent
 
 -- The answer and the lent bytes, for every input.
 pub record RestoredInto (cleaned receipt lent : List ℕ) (r : Restored) (after : List ℕ) : Type 0 where

@@ -4,7 +4,7 @@ ghost use mathlib.Core.Path.{_≡_};
 ghost use Prim.Native.Nat.{_<_};
 ghost use lib.Dec.{eqb, ltb};
 ghost use Rattle.laws.specs.Pick.{both};
-ghost use Rattle.store_receipt.specs.Receipt.{entriesIn, numberAt};
+ghost use Rattle.store_receipt.specs.Receipt.{entriesIn, removedNumber};
 ghost use Rattle.store_restore.specs.Restore.{leastAt, entryFits, receiptFits, restoreRefusal, putInto, PutBack, RestoredInto};
 use bcn_spec::Answer;
 use raw_bytes::copy_part;
@@ -107,7 +107,7 @@ fn put_back(receipt: &[u8], e: usize, out: &mut [u8], n: usize)
 
 // Whether there is an entry e, and its number is n.
 fn is_next(receipt: &[u8], e: usize, n: usize) -> bool
-    ensures { λ r. ⌜ r ≡ both (ltb e (entriesIn (now (receipt .entry)))) (eqb (numberAt (now (receipt .entry)) e) n) ⌝ }
+    ensures { λ r. ⌜ r ≡ both (ltb e (entriesIn (now (receipt .entry)))) (eqb (removedNumber (now (receipt .entry)) e) n) ⌝ }
 {
     if e >= receipt.len() / Entry::SIZE {
         return false;

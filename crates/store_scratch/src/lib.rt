@@ -9,7 +9,7 @@ ghost use Rattle.laws.specs.Made.{made};
 ghost use Rattle.bc6h_spec.specs.Fields.{modeOf};
 ghost use Rattle.bc6h_spec.specs.Picture.{valueCount};
 ghost use Rattle.store_records.specs.Store.{recordsIn, formatOf, blockOf, Unrefused};
-ghost use Rattle.store_spec.specs.Scratch.{scratchEntry, kindAt, mixedOn, mixedUpto, printOf, printAt, pictureIn, Pictured};
+ghost use Rattle.store_spec.specs.Scratch.{scratchEntry, kindAt, mixedOn, pictureMixed, printOf, printAt, pictureIn, Pictured};
 use bc6_mode::extract_mode;
 use bc6h_spec::Picture;
 use bcn_util::BitStream;
@@ -30,7 +30,7 @@ pub fn mixed_on(mix: u64) -> u64
 // A number that records of another kind or with other values seldom share, from the three values of each pixel in turn.
 fn mixed(kind: u64, picture: &[u16]) -> u64
     requires { ⌜ length (now picture) ≡ valueCount ⌝ }
-    ensures { λ r. ⌜ r ≡ mixedUpto kind (now (picture .entry)) 16 ⌝ }
+    ensures { λ r. ⌜ r ≡ pictureMixed kind (now (picture .entry)) 16 ⌝ }
 {
     let mut mix: u64 = kind;
     for pixel in 0..16usize {

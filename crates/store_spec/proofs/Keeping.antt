@@ -16,7 +16,7 @@ use Rattle.laws.proofs.Joined.{run-more, run-step, run-end, run-at}
 use Rattle.bc6h_spec.specs.Picture.{valueCount}
 use Rattle.store_records.specs.Store.{recordsIn, formatOf, Unrefused}
 use Rattle.store_spec.specs.Shown.{pictureAt, Reserved, isRecord}
-use Rattle.store_spec.specs.Scratch.{noPicture, kindAt, mixedOn, mixedUpto, printOf, printAt, valueAt, slotAt, picturesOf, scratchOf, pictureIn, Pictured, Kept}
+use Rattle.store_spec.specs.Scratch.{noPicture, kindAt, mixedOn, pictureMixed, printOf, printAt, scratchValue, slotAt, picturesOf, scratchOf, pictureIn, Pictured, Kept}
 use Rattle.store_spec.proofs.Shown.{is-record, is-refused, picture-length}
 
 -- ---- the fingerprint
@@ -30,10 +30,10 @@ unfolding kindAt
 kind-format store n e = rw (ne-eqb _ _ e)
 
 -- a pixel more
-pub mixed-more : (kind : ℕ) (picture : List ℕ) (pixel mix on red green blue : ℕ) → mix ≡ mixedUpto kind picture pixel → on ≡ mixedOn mix
+pub mixed-more : (kind : ℕ) (picture : List ℕ) (pixel mix on red green blue : ℕ) → mix ≡ pictureMixed kind picture pixel → on ≡ mixedOn mix
     → red ≡ getD picture (pixel * 3) 0 → green ≡ getD picture (pixel * 3 + 1) 0 → blue ≡ getD picture (pixel * 3 + 2) 0
-    → on + red + green * 0x1000 + blue * 0x1000000 ≡ mixedUpto kind picture (pixel + 1)
-unfolding mixedUpto
+    → on + red + green * 0x1000 + blue * 0x1000000 ≡ pictureMixed kind picture (pixel + 1)
+unfolding pictureMixed
 mixed-more kind picture pixel mix on red green blue p o r g b = rw (add-one pixel, o, p, r, g, b)
 
 -- the picture of a record, in scratch space with a fingerprint for each record
@@ -51,16 +51,16 @@ picture-in-length scratch count n room = simp (length-take, length-drop) (omega 
 module _ (store lent : List ℕ) where
   pub slot-length : (n : ℕ) → length (slotAt store lent n) ≡ valueCount
   unfolding slotAt
-  slot-length n = length-made (valueAt store lent n) valueCount
+  slot-length n = length-made (scratchValue store lent n) valueCount
 
   pub slot-picture : (n : ℕ) → Unrefused store n → slotAt store lent n ≡ pictureAt store n
-  unfolding slotAt valueAt
-  slot-picture n u = sym (made-each (valueAt store lent n) (pictureAt store n) valueCount (picture-length store n) (λ k h. rw (is-record store n u)))
+  unfolding slotAt scratchValue
+  slot-picture n u = sym (made-each (scratchValue store lent n) (pictureAt store n) valueCount (picture-length store n) (λ k h. rw (is-record store n u)))
 
   slot-lent : (n : ℕ) → (Unrefused store n → ⊥) → valueCount * n + valueCount ≤ length lent → slotAt store lent n ≡ take valueCount (drop (valueCount * n) lent)
-  unfolding slotAt valueAt
+  unfolding slotAt scratchValue
   slot-lent n r room =
-      sym (made-each (valueAt store lent n) (take valueCount (drop (valueCount * n) lent)) valueCount
+      sym (made-each (scratchValue store lent n) (take valueCount (drop (valueCount * n) lent)) valueCount
       (length-take-le valueCount (drop (valueCount * n) lent) (simp length-drop (omega arith)))
       (λ k h. rw (is-refused store n r) (getD-take valueCount (drop (valueCount * n) lent) k 0 h ∙ getD-drop (valueCount * n) lent k 0)))
 

@@ -6,12 +6,12 @@ use Prim.Native.Nat.{ℕ, _≤_, _<_}
 use native.Mathlib.Omega.{arith}
 use lib.Dec.{eqb, ltb}
 use lib.ListN.{length, getD}
-use borrow.Author.Tests.{eq-eqb, ne-eqb, eqb-true, eqb-false, lt-ltb, le-ltb, ltb-true, ltb-false}
+use borrow.Author.Tests.{not-true, eq-eqb, ne-eqb, eqb-true, eqb-false, lt-ltb, le-ltb, ltb-true, ltb-false}
 use Rattle.laws.specs.Every.{same}
 use Rattle.laws.specs.First.{firstBelow}
 use Rattle.laws.proofs.Tests.{cases, both-true}
 use Rattle.laws.proofs.Firsts.{first-end, first-at, first-passes, first-least, first-never}
-use Rattle.laws.proofs.Sameness.{true-false, not-so, same-so, same-means}
+use Rattle.laws.proofs.Sameness.{not-so, same-so, same-means}
 use Rattle.bc6h_spec.specs.Fields.{modeOf}
 use Rattle.bc6h_spec.specs.Picture.{valueCount}
 use Rattle.store_records.specs.Store.{recordsIn, formatOf, blockOf, Unrefused}
@@ -22,10 +22,6 @@ use Rattle.store_spec.proofs.Keeping.{kind-format, at-count}
 use Rattle.store_spec.specs.Twins.{Alike, Twin, Marked, keptMark, twinMark, badMark, holding, showing, alike, firstTwin, markAt}
 
 -- ---- which records hold a picture
-
-not-means : (b : Bool) → not b ≡ true → b ≡ false
-not-means true e = absurd (true-false (sym e))
-not-means false e = refl
 
 -- record n is not refused, of the format and not reserved
 pub record Holds (store : List ℕ) (n format : ℕ) : Type 0 where
@@ -66,7 +62,7 @@ module _ (store : List ℕ) (n format : ℕ) where
       record {
         unrefused = eqb-true _ _ (a .0);
         of-format = eqb-true _ _ (b .0);
-        unreserved = eqb-false _ _ (not-means (isReserved store n) (b .1));
+        unreserved = eqb-false _ _ (not-true (isReserved store n) (b .1));
       }
 
 -- ---- alike

@@ -27,15 +27,15 @@ abbrev pub mixedOn : ℕ → ℕ
 mixedOn mix = mix % 0x10000000000 * 0x9E3779
 
 -- a number made of the kind and the first pixels' values; that records with one fingerprint show the same is nowhere used
-unfoldable pub mixedUpto : ℕ → List ℕ → ℕ → ℕ
-mixedUpto kind picture zero = kind
-mixedUpto kind picture (suc pixel) =
-    mixedOn (mixedUpto kind picture pixel) + getD picture (pixel * 3) 0 + getD picture (pixel * 3 + 1) 0 * 0x1000
+unfoldable pub pictureMixed : ℕ → List ℕ → ℕ → ℕ
+pictureMixed kind picture zero = kind
+pictureMixed kind picture (suc pixel) =
+    mixedOn (pictureMixed kind picture pixel) + getD picture (pixel * 3) 0 + getD picture (pixel * 3 + 1) 0 * 0x1000
     + getD picture (pixel * 3 + 2) 0 * 0x1000000
 
 -- sixteen bits of it, to which every value comes
 abbrev pub printOf : ℕ → List ℕ → ℕ
-printOf kind picture = mixedUpto kind picture 16 / 0x1000000 % 0x10000
+printOf kind picture = pictureMixed kind picture 16 / 0x1000000 % 0x10000
 
 -- ---- a done list's scratch space; of a record that is refused, what was lent
 
@@ -43,11 +43,11 @@ unfoldable pub printAt : List ℕ → List ℕ → ℕ → ℕ
 printAt store lent n = pick (isRecord store n) (printOf (kindAt store n) (pictureAt store n)) (getD lent n 0)
 
 -- value v of the 48 where record n's picture stands among the pictures
-unfoldable pub valueAt : List ℕ → List ℕ → ℕ → ℕ → ℕ
-valueAt store lent n v = pick (isRecord store n) (getD (pictureAt store n) v 0) (getD lent (valueCount * n + v) 0)
+unfoldable pub scratchValue : List ℕ → List ℕ → ℕ → ℕ → ℕ
+scratchValue store lent n v = pick (isRecord store n) (getD (pictureAt store n) v 0) (getD lent (valueCount * n + v) 0)
 
 unfoldable pub slotAt : List ℕ → List ℕ → ℕ → List ℕ
-slotAt store lent n = made (valueAt store lent n) valueCount
+slotAt store lent n = made (scratchValue store lent n) valueCount
 
 -- the pictures, one after the other, and the rest of the lent values
 unfoldable pub picturesOf : List ℕ → List ℕ → List ℕ

@@ -6,7 +6,7 @@ use Prim.Native.Nat.{ℕ, zero, suc, _/_, _%_, _<_}
 use lib.Dec.{eqb, ltb}
 use lib.ListN.{length, getD, drop}
 use Rattle.laws.specs.Pick.{pick, both}
-use Rattle.laws.specs.Checks.{firstMet}
+use Rattle.laws.specs.Checks.{firstMet, ifDone, orNext}
 use Rattle.laws.specs.Every.{same}
 use Rattle.laws.specs.Made.{made, countOf}
 use Rattle.laws.specs.First.{firstBelow}
@@ -108,8 +108,7 @@ answerAt (suc number) store = refusal (suc number)
 
 -- S-30: done writes exactly one mark a record; a refusal writes nothing.
 abbrev pub marksAt : ℕ → List ℕ → List ℕ → List ℕ
-marksAt zero store lent = marksOf store ++ drop (recordsIn store) lent
-marksAt (suc number) store lent = lent
+marksAt number store lent = ifDone number (marksOf store ++ drop (recordsIn store) lent) lent
 
 -- S-43: the statement of `twin_list`: its answer r, and the lent marks `after`.
 pub record Listed (store lent : List ℕ) (r : TwinList) (after : List ℕ) : Type 0 where
@@ -118,19 +117,13 @@ pub record Listed (store lent : List ℕ) (r : TwinList) (after : List ℕ) : Ty
 
 -- ---- the call over lent scratch space
 
--- the first number that is not 0
-abbrev pub firstRefusal : ℕ → ℕ → ℕ
-firstRefusal zero next = next
-firstRefusal (suc number) next = suc number
-
 -- S-85: 5, 6, 3, where 3 is also met by scratch space for fewer records than the store has.
 unfoldable pub scratchRefusal : ℕ → ℕ → ℕ → ℕ
-scratchRefusal size room space = firstRefusal (listRefusal size room) (listRefusal size (space / scratchEntry))
+scratchRefusal size room space = orNext (listRefusal size room) (listRefusal size (space / scratchEntry))
 
 -- S-85: a refusal changes no lent value either
 abbrev pub scratchAt : ℕ → List ℕ → List ℕ → List ℕ
-scratchAt zero store lent = scratchOf store lent
-scratchAt (suc number) store lent = lent
+scratchAt number store lent = ifDone number (scratchOf store lent) lent
 
 pub record ListedIn (store lent space : List ℕ) (r : TwinList) (after spaceAfter : List ℕ) : Type 0 where
   pub answers : r ≡ answerAt (scratchRefusal (length store) (length lent) (length space)) store

@@ -2,11 +2,12 @@
 use mathlib.Core.Path.{_≡_}
 use mathlib.Core.Bool.{Bool}
 use mathlib.Core.List.{List}
-use Prim.Native.Nat.{ℕ, zero, suc}
+use Prim.Native.Nat.{ℕ}
 use lib.Dec.{ltb}
 use lib.ListN.{length}
 use Rattle.laws.specs.Pick.{pick, both}
 use Rattle.laws.specs.First.{firstBelow}
+use Rattle.laws.specs.Checks.{orNext}
 use Rattle.bcn_spec.specs.Answers.{done, reservedBlock}
 use Rattle.store_records.specs.Store.{recordsIn, Unrefused}
 use Rattle.store_spec.specs.declared.TwinList.{TwinList}
@@ -28,8 +29,7 @@ firstDamaged store = firstBelow (damaged store) (recordsIn store)
 
 -- S-44: 5, 6, 3, 12: the ordinary list's refusals come first.
 abbrev pub orDamaged : ℕ → List ℕ → ℕ
-orDamaged zero store = pick (ltb (firstDamaged store) (recordsIn store)) reservedBlock done
-orDamaged (suc number) store = suc number
+orDamaged number store = orNext number (pick (ltb (firstDamaged store) (recordsIn store)) reservedBlock done)
 
 unfoldable pub strictRefusal : List ℕ → ℕ → ℕ
 strictRefusal store room = orDamaged (listRefusal (length store) room) store

@@ -14,7 +14,7 @@ use Rattle.store_clean.specs.Theorems.{cleanedBytes}
 -- ---- record by record
 
 -- a store of whole records that is not too long
-pub record Whole (store : List ℕ) : Type 0 where
+pub record WholeStore (store : List ℕ) : Type 0 where
   pub fits : length store ≤ storeLimit
   pub even : length store % recordSize ≡ 0
 
@@ -28,7 +28,7 @@ pub record SameChoice (store longer : List ℕ) (n : ℕ) : Type 0 where
 
 -- Appended records change nothing of the earlier ones.
 abbrev pub Appended : Type 0
-Appended = (store more : List ℕ) → Whole store → Whole (store ++ more) → (n : ℕ) → n < recordsIn store → SameChoice store (store ++ more) n
+Appended = (store more : List ℕ) → WholeStore store → WholeStore (store ++ more) → (n : ℕ) → n < recordsIn store → SameChoice store (store ++ more) n
 
 -- ---- call by call
 

@@ -19,11 +19,11 @@ use Rattle.bc6h_spec.specs.Fields.{Valid}
 use Rattle.bc6h_spec.specs.Picture.{endpoint}
 use Rattle.bc6_mode.specs.declared.ModeBits.{ModeBits}
 use Rattle.bc6_colour.specs.declared.Colour.{Colour}
-use Rattle.bc6_mode.specs.Modes.{bitsOf}
+use Rattle.bc6_mode.specs.Modes.{bitsFor}
 use Rattle.bc6_colour.specs.Colours.{endOf}
 use Rattle.bc6_colour.proofs.Ends.{a0-is}
 use Rattle.store_copies.specs.Wide.{regions}
-use Rattle.store_copies.specs.Trust.{isLeast, leastAt, hasLeast}
+use Rattle.store_copies.specs.Trust.{isLeast, leastEnd, hasLeast}
 use Rattle.store_trust.specs.Least.{leastOf, endCount}
 
 -- of the numbers of p bits only the lowest is below −(2 ^ (p − 1) − 1)
@@ -68,9 +68,9 @@ turned false true false = refl
 turned false false true = refl
 turned false false false = refl
 
-module _ (f : Fields) (v : Valid f) (bits : ModeBits) (told : bits ≡ bitsOf (f .mode)) (e : ℕ) (h : e < 4) (c : Colour) (end : c ≡ endOf true f e) where
-  pub end-least : {r : Bool} → r ≡ leastOf (bits .a0) c → r ≡ leastAt f e
-  unfolding leastAt some endOf
+module _ (f : Fields) (v : Valid f) (bits : ModeBits) (told : bits ≡ bitsFor (f .mode)) (e : ℕ) (h : e < 4) (c : Colour) (end : c ≡ endOf true f e) where
+  pub end-least : {r : Bool} → r ≡ leastOf (bits .a0) c → r ≡ leastEnd f e
+  unfolding leastEnd some endOf
   end-least q =
       q ∙ (λ i. leastOf (a0-is true f v bits told i) (end i))
       ∙ turned (isLeast (precision (f .mode)) (endpoint true f e 0)) (isLeast (precision (f .mode)) (endpoint true f e 1)) (isLeast (precision (f .mode)) (endpoint true f e 2))
@@ -88,20 +88,20 @@ module _ (f : Fields) where
   pub end-inside : (e n : ℕ) → n ≡ endCount f → e < n → e < 4
   end-inside e n q h = omega (arith, ends-few (f .mode) .1)
 
-  pub first-least : leastAt f 0 ≡ true → true ≡ hasLeast f
+  pub first-least : leastEnd f 0 ≡ true → true ≡ hasLeast f
   unfolding hasLeast
-  first-least t = some-here (leastAt f) _ 0 t (omega (arith, ends-few (f .mode) .0))
+  first-least t = some-here (leastEnd f) _ 0 t (omega (arith, ends-few (f .mode) .0))
 
-  pub first-other : leastAt f 0 ≡ false → some (leastAt f) 1 ≡ false
-  first-other t = some-more (leastAt f) 0 (some-none (leastAt f)) t
+  pub first-other : leastEnd f 0 ≡ false → some (leastEnd f) 1 ≡ false
+  first-other t = some-more (leastEnd f) 0 (some-none (leastEnd f)) t
 
   pub some-end : (n : ℕ) → n ≡ endCount f → 1 ≤ n
   some-end n q = omega (arith, ends-few (f .mode) .0)
 
-  pub later-least : (e n : ℕ) → n ≡ endCount f → e < n → leastAt f e ≡ true → true ≡ hasLeast f
+  pub later-least : (e n : ℕ) → n ≡ endCount f → e < n → leastEnd f e ≡ true → true ≡ hasLeast f
   unfolding hasLeast
-  later-least e n q h t = some-here (leastAt f) _ e t (omega arith)
+  later-least e n q h t = some-here (leastEnd f) _ e t (omega arith)
 
-  pub none-least : (e n : ℕ) → n ≡ endCount f → some (leastAt f) e ≡ false → e ≤ n → n ≤ e → false ≡ hasLeast f
+  pub none-least : (e n : ℕ) → n ≡ endCount f → some (leastEnd f) e ≡ false → e ≤ n → n ≤ e → false ≡ hasLeast f
   unfolding hasLeast
-  none-least e n q t low high = some-upto (leastAt f) _ e t (omega arith) (omega arith)
+  none-least e n q t low high = some-upto (leastEnd f) _ e t (omega arith) (omega arith)

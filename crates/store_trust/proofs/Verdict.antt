@@ -26,7 +26,7 @@ use Rattle.bc6.proofs.Calls.{done-when, written}
 use Rattle.store_copies.specs.Wide.{regions, lastIndex}
 use Rattle.store_copies.specs.Trust.{Trusted, isBlock, modeCovered, reaches, channelDiffers, differs, hasLeast, regionTrusted, fieldsTrusted, trusted}
 use Rattle.store_copies.proofs.Trust.{block-complete, sound, not-least-complete}
-use Rattle.store_trust.specs.Ramp.{rampedOne, rampedTwo, ramped, entry, entriesDiffer, regionPasses, allPass}
+use Rattle.store_trust.specs.Ramp.{rampedOne, rampedTwo, ramped, rampEntry, entriesDiffer, regionPasses, allPass}
 use Rattle.store_trust.proofs.Ramp.{regionAt, indexAt, one-shown, two-shown}
 
 -- the values that the pixels call leaves in 48 places that were lent to it
@@ -40,7 +40,7 @@ values-written {block} {out} format p k l h =
 
 -- what settles a region: its palette's entries, in order or from the end
 passes-as : (signed : Bool) (f : Fields) (palettes : List ℕ) (r first : ℕ)
-    → ((c : ℕ) → c < 3 → distinct (entry palettes first c) (suc (lastIndex (f .mode))) ≡ distinct (palette signed f r c) (suc (lastIndex (f .mode))))
+    → ((c : ℕ) → c < 3 → distinct (rampEntry palettes first c) (suc (lastIndex (f .mode))) ≡ distinct (palette signed f r c) (suc (lastIndex (f .mode))))
     → regionPasses f palettes r first (suc (lastIndex (f .mode))) ≡ regionTrusted signed f r
 unfolding regionPasses regionTrusted differs channelDiffers entriesDiffer
 passes-as signed f palettes r first e =
@@ -68,7 +68,7 @@ module _ (signed : Bool) (block : List ℕ) (b : IsBlock block) (palettes : List
     one : twoRegions (f .mode) ≡ false
     one = lt-leb (f .mode) 10 from
 
-    one-entry : (c : ℕ) → c < 3 → (i : ℕ) → i < 16 → entry palettes 0 c i ≡ palette signed f 0 c i
+    one-entry : (c : ℕ) → c < 3 → (i : ℕ) → i < 16 → rampEntry palettes 0 c i ≡ palette signed f 0 c i
     one-entry c hc i hi =
         let z : 0 + i ≡ i = omega arith in
         ap (λ (l : List ℕ). getD l (3 * (0 + i) + c) 0) shown
@@ -83,7 +83,7 @@ module _ (signed : Bool) (block : List ℕ) (b : IsBlock block) (palettes : List
       where
         sixteen : regionPasses f palettes 0 0 16 ≡ regionTrusted signed f 0
         sixteen =
-            rw one at (passes-as signed f palettes 0 0 (rw one (λ c hc. distinct-same (entry palettes 0 c) (palette signed f 0 c) 16 (one-entry c hc))))
+            rw one at (passes-as signed f palettes 0 0 (rw one (λ c hc. distinct-same (rampEntry palettes 0 c) (palette signed f 0 c) 16 (one-entry c hc))))
 
   module _ (from : 1 ≤ f .mode) (to : f .mode ≤ 10) (shown : palettes ≡ pixelsOf signed (rampedTwo block)) where
     two : twoRegions (f .mode) ≡ true
@@ -94,14 +94,14 @@ module _ (signed : Bool) (block : List ℕ) (b : IsBlock block) (palettes : List
         ap (λ (l : List ℕ). getD l (3 * k + c) 0) shown
         ∙ two-shown block b (omega (arith, fields-mode (formatNumber signed) block)) (omega (arith, fields-mode (formatNumber signed) block)) signed k c hk hc
 
-    lower : (c : ℕ) → c < 3 → (i : ℕ) → i < 8 → entry palettes 0 c i ≡ palette signed f 0 c i
+    lower : (c : ℕ) → c < 3 → (i : ℕ) → i < 8 → rampEntry palettes 0 c i ≡ palette signed f 0 c i
     lower c hc i hi =
         let z : 0 + i ≡ i = omega arith in
         let r : regionAt i ≡ 0 = omega arith in
         ap (λ (k : ℕ). getD palettes (3 * k + c) 0) z ∙ two-entry c hc i (omega arith)
         ∙ ap₂ (λ (x y : ℕ). palette signed f x c y) r (ap (λ (t : Bool). pick t i (15 - i)) (lt-ltb i 8 hi))
 
-    upper : (c : ℕ) → c < 3 → (i : ℕ) → i < 8 → entry palettes 8 c i ≡ palette signed f 1 c (8 - 1 - i)
+    upper : (c : ℕ) → c < 3 → (i : ℕ) → i < 8 → rampEntry palettes 8 c i ≡ palette signed f 1 c (8 - 1 - i)
     upper c hc i hi =
         let r : regionAt (8 + i) ≡ 1 = omega arith in
         let s : 15 - (8 + i) ≡ 8 - 1 - i = omega arith in
@@ -113,13 +113,13 @@ module _ (signed : Bool) (block : List ℕ) (b : IsBlock block) (palettes : List
     two-passes = rw two (ap₂ both region-0 region-1 ∙ turn (regionTrusted signed f 0) (regionTrusted signed f 1))
       where
         region-0 : regionPasses f palettes 0 0 8 ≡ regionTrusted signed f 0
-        region-0 = rw two at (passes-as signed f palettes 0 0 (rw two (λ c hc. distinct-same (entry palettes 0 c) (palette signed f 0 c) 8 (lower c hc))))
+        region-0 = rw two at (passes-as signed f palettes 0 0 (rw two (λ c hc. distinct-same (rampEntry palettes 0 c) (palette signed f 0 c) 8 (lower c hc))))
 
         region-1 : regionPasses f palettes 1 8 8 ≡ regionTrusted signed f 1
         region-1 =
             rw two at
             (passes-as signed f palettes 1 8 (rw two (λ c hc.
-            distinct-same (entry palettes 8 c) (λ i. palette signed f 1 c (8 - 1 - i)) 8 (upper c hc) ∙ distinct-turned (palette signed f 1 c) 8)))
+            distinct-same (rampEntry palettes 8 c) (λ i. palette signed f 1 c (8 - 1 - i)) 8 (upper c hc) ∙ distinct-turned (palette signed f 1 c) 8)))
 
 -- ---- the whole test
 

@@ -21,12 +21,12 @@ rampedTwo block = take 9 block ++ ((getD block 9 0 % 32 + 0xA0) ∷ 0x11 ∷ 0x8
 unfoldable pub ramped : Bool → List ℕ → List ℕ
 ramped two block = pick two (rampedTwo block) (rampedOne block)
 
--- entry i of a channel, in the 48 values of palettes, of the palette that starts at pixel `first`
-abbrev pub entry : List ℕ → ℕ → ℕ → ℕ → ℕ
-entry palettes first channel i = getD palettes (3 * (first + i) + channel) 0
+-- rampEntry i of a channel, in the 48 values of palettes, of the palette that starts at pixel `first`
+abbrev pub rampEntry : List ℕ → ℕ → ℕ → ℕ → ℕ
+rampEntry palettes first channel i = getD palettes (3 * (first + i) + channel) 0
 
 unfoldable pub entriesDiffer : List ℕ → ℕ → ℕ → ℕ → Bool
-entriesDiffer palettes first count channel = distinct (entry palettes first channel) count
+entriesDiffer palettes first count channel = distinct (rampEntry palettes first channel) count
 
 -- region r's indices reach both ends of its palette of `count` entries, which starts at pixel `first`, and a channel of it differs
 unfoldable pub regionPasses : Fields → List ℕ → ℕ → ℕ → ℕ → Bool

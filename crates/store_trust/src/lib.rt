@@ -17,8 +17,8 @@ ghost use Rattle.bc6h_spec.specs.Fields.{Valid};
 ghost use Rattle.bc6h_spec.specs.Picture.{isSigned};
 ghost use Rattle.bc6h_spec.specs.Block.{pixelsOf};
 ghost use Rattle.bc6_colour.specs.Colours.{OfBits};
-ghost use Rattle.store_copies.specs.Trust.{isAt, reaches, isLeast, hasLeast, trusted};
-ghost use Rattle.store_trust.specs.Ramp.{rampedOne, rampedTwo, ramped, entry, entriesDiffer, regionPasses, allPass};
+ghost use Rattle.store_copies.specs.Trust.{indexedAt, reaches, isLeast, hasLeast, trusted};
+ghost use Rattle.store_trust.specs.Ramp.{rampedOne, rampedTwo, ramped, rampEntry, entriesDiffer, regionPasses, allPass};
 ghost use Rattle.store_trust.specs.Least.{leastOf, endCount};
 
 // The region of a pixel.
@@ -36,7 +36,7 @@ fn region_of(fields: Fields, k: usize) -> u8
 // Pixel k lies in the region and has the index n.
 fn is_at(fields: Fields, region: u8, n: u8, k: usize) -> bool
     requires { ⌜ (fields .partition < 32) × (k < 16) ⌝ }
-    ensures { λ r. ⌜ r ≡ isAt fields region n k ⌝ }
+    ensures { λ r. ⌜ r ≡ indexedAt fields region n k ⌝ }
 {
     if region_of(fields, k) != region {
         return false;
@@ -119,7 +119,7 @@ fn ramped(block: &[u8], two: bool) -> [u8; 16]
     ramped_one(block)
 }
 
-// The palettes of a block, three values an entry.
+// The palettes of a block, three values an rampEntry.
 fn palettes_of(block: &[u8], two: bool, format: u8) -> [u16; 48]
     requires { ⌜ (length (now block) ≡ 16) × (format ≤ 1) ⌝ }
     ensures { λ r. ⌜ r ≡ pixelsOf (isSigned format) (ramped two (now (block .entry))) ⌝ }
@@ -133,7 +133,7 @@ fn palettes_of(block: &[u8], two: bool, format: u8) -> [u16; 48]
 // Entry i of a channel is one of the entries before it. The palette starts at the pixel `first`.
 fn is_repeated(palettes: &[u16; 48], first: usize, channel: usize, i: usize) -> bool
     requires { ⌜ (channel < 3) × (first + i < 16) ⌝ }
-    ensures { λ r. ⌜ r ≡ repeated (entry (now (palettes .entry)) first channel) i ⌝ }
+    ensures { λ r. ⌜ r ≡ repeated (rampEntry (now (palettes .entry)) first channel) i ⌝ }
 {
     let value = palettes[3 * (first + i) + channel];
     for k in 0..i {

@@ -23,11 +23,11 @@ use Rattle.store_clean.proofs.Leaving.{going-same}
 use Rattle.store_clean.proofs.Cleaning as cleaning
 use Rattle.store_clean.proofs.Theorems.{gone-are-twins}
 use Rattle.text_audit.specs.Audit.{staysFor, findingOf, isTwin, twinsWith, isCopy}
-use Rattle.text_audit.specs.Verdicts.{Whole, toldCopy, CopiesGo, CopiesRemoved, BesideStays, AlikeUncovered}
+use Rattle.text_audit.specs.Verdicts.{NotRefused, toldCopy, CopiesGo, CopiesRemoved, BesideStays, AlikeUncovered}
 
 -- ---- what goes is a twin
 
-module _ (store : List ℕ) (w : Whole store) where
+module _ (store : List ℕ) (w : NotRefused store) where
   -- the list of a store that is not refused, over room for a mark a record
   room-is : length (marksOf store) ≡ recordsIn store
   unfolding marksOf
@@ -65,7 +65,7 @@ pub copies-removed : CopiesRemoved
 copies-removed store lent after r d z =
     let f = cleaning.whole d z in
     let fits = f .fits in
-    let w : Whole store = listing.fine (length store) mostRecords fits (f .even) (omega arith) in
+    let w : NotRefused store = listing.fine (length store) mostRecords fits (f .even) (omega arith) in
     told store (recordsIn store) ∙ going-same (toldCopy store) (goes store) (recordsIn store) (copies-go store w) ∙ sym (cleaning.removed-count d z)
 
 module _ (store : List ℕ) (n : ℕ) where

@@ -13,8 +13,8 @@ use Rattle.store_clean.specs.Clean.{Repeats, goes, CleanedInto}
 use Rattle.text_audit.specs.Audit.{staysFor, findingOf, isTwin, twinsWith, isCopy}
 
 -- a store that is not refused
-abbrev pub Whole : List ℕ → Type 0
-Whole store = listRefusal (length store) mostRecords ≡ done
+abbrev pub NotRefused : List ℕ → Type 0
+NotRefused store = listRefusal (length store) mostRecords ≡ done
 
 -- record n has a line with the verdict `copy`
 abbrev pub toldCopy : List ℕ → ℕ → Bool
@@ -22,7 +22,7 @@ toldCopy store n = both (isTwin store n) (findingOf store n .copy)
 
 -- A record is told as a copy exactly where the clean-up removes it.
 abbrev pub CopiesGo : Type 0
-CopiesGo = (store : List ℕ) → Whole store → (n : ℕ) → n < recordsIn store → toldCopy store n ≡ goes store n
+CopiesGo = (store : List ℕ) → NotRefused store → (n : ℕ) → n < recordsIn store → toldCopy store n ≡ goes store n
 
 -- And as many are counted as copies as any clean-up of the store counts as removed.
 abbrev pub CopiesRemoved : Type 0
@@ -35,7 +35,7 @@ pub record Beside (store : List ℕ) (n : ℕ) : Type 0 where
   pub copy-of : findingOf store n .copy ≡ true → Repeats store n (staysFor store n)
 
 abbrev pub BesideStays : Type 0
-BesideStays = (store : List ℕ) → Whole store → (n : ℕ) → n < recordsIn store → isTwin store n ≡ true → Beside store n
+BesideStays = (store : List ℕ) → NotRefused store → (n : ℕ) → n < recordsIn store → isTwin store n ≡ true → Beside store n
 
 -- A twin that only looks alike is never told as covered: where the copies theorem speaks, the bytes are the same.
 abbrev pub AlikeUncovered : Type 0

@@ -24,7 +24,7 @@ use Rattle.text.proofs.Texts.{said}
 use Rattle.text_moves.specs.Output.{movedOutput}
 use Rattle.text_moves.proofs.Heads.{Put, fitting, nothing, rest-whole, low-cut}
 use Rattle.text_moves.proofs.Outputs.{part-length, answered-refused, answered-done}
-use Rattle.text_build.specs.Output.{buildHead, buildLimit, builtRoom, edgeIn, firstIn, buildOutput}
+use Rattle.text_build.specs.Output.{buildHead, buildLimit, builtRoom, edgeIn, firstTileIn, buildOutput}
 
 pub no-wish : (input out : List ℕ) → length input < buildHead → Put out (buildOutput input) 0 out
 unfolding buildOutput
@@ -46,7 +46,7 @@ module _ (input : List ℕ) (h : buildHead ≤ length input) where
     format = getD input 0 0
 
     lent : (room : ℕ) → room ≡ builtRoom → movedOutput (buildRefusal (length blocks) format edge room) (builtOf blocks format edge first) ≡ buildOutput input
-    unfolding buildOutput edgeIn firstIn
+    unfolding buildOutput edgeIn firstTileIn
     lent room e = rw (e, rest-whole buildHead input h, le-ltb _ _ h, is-edge, is-first)
 
     module _ (out after : List ℕ) {r : Built} (room : length out ≡ 1 + builtRoom) (d : BuiltTo blocks format edge first (midOf 1 (length out - 1) out) r after) where
@@ -91,7 +91,7 @@ refused-same (suc k) n a b = refl
 
 module _ (input : List ℕ) (room : ℕ) (h : buildLimit < room) where
   longer : room < length input → buildOutput (take room input) ≡ buildOutput input
-  unfolding buildOutput edgeIn firstIn
+  unfolding buildOutput edgeIn firstTileIn
   longer l =
       let size : length (take room input) ≡ room = length-take-le room input (omega arith) in
       let whole : buildHead ≤ length input = omega arith in

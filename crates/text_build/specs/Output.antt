@@ -28,12 +28,12 @@ builtRoom = placeSize * placeCount
 unfoldable pub edgeIn : List ℕ → ℕ
 edgeIn input = lowFirst input 1 4
 
-unfoldable pub firstIn : List ℕ → ℕ
-firstIn input = lowFirst input 5 4
+unfoldable pub firstTileIn : List ℕ → ℕ
+firstTileIn input = lowFirst input 5 4
 
 -- S-59, S-101: a wish that has no blocks is not answered.
 unfoldable pub buildOutput : List ℕ → List ℕ
 buildOutput input =
     let blocks = drop buildHead input in
     pick (ltb (length input) buildHead) []
-    (movedOutput (buildRefusal (length blocks) (getD input 0 0) (edgeIn input) builtRoom) (builtOf blocks (getD input 0 0) (edgeIn input) (firstIn input)))
+    (movedOutput (buildRefusal (length blocks) (getD input 0 0) (edgeIn input) builtRoom) (builtOf blocks (getD input 0 0) (edgeIn input) (firstTileIn input)))

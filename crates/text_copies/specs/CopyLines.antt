@@ -12,7 +12,7 @@ use Rattle.laws.specs.Made.{made, join}
 use Rattle.store_records.specs.Store.{recordsIn}
 use Rattle.text.specs.Text.{lineFeed}
 use Rattle.text_audit.specs.Audit.{auditLine}
-use Rattle.text_audit.specs.Verdicts.{Whole}
+use Rattle.text_audit.specs.Verdicts.{NotRefused}
 use Rattle.text_clean.specs.CleanText.{lineOf, removedLines}
 
 -- ---- the words of a line
@@ -41,11 +41,11 @@ removalOf line = pick (saysCopy line) (before 3 line ++ lineFeed) []
 
 -- Of a store that is not refused: the clean-up prints of record n what is left of the audit's line.
 abbrev pub RemovalsAreCopies : Type 0
-RemovalsAreCopies = (store : List ℕ) → Whole store → (n : ℕ) → n < recordsIn store → lineOf store n ≡ removalOf (auditLine store n)
+RemovalsAreCopies = (store : List ℕ) → NotRefused store → (n : ℕ) → n < recordsIn store → lineOf store n ≡ removalOf (auditLine store n)
 
 -- And so it prints the audit's copies, all of them and in their order.
 abbrev pub copiesOf : List ℕ → ℕ → List ℕ
 copiesOf store n = removalOf (auditLine store n)
 
 abbrev pub AllCopies : Type 0
-AllCopies = (store : List ℕ) → Whole store → removedLines store (recordsIn store) ≡ join (made (copiesOf store) (recordsIn store))
+AllCopies = (store : List ℕ) → NotRefused store → removedLines store (recordsIn store) ≡ join (made (copiesOf store) (recordsIn store))

@@ -13,14 +13,14 @@ use Rattle.store_spec.specs.Shown.{pictureAt}
 use Rattle.store_spec.specs.Twins.{markAt}
 use Rattle.text.specs.Text.{field, Written}
 use Rattle.text.proofs.Texts.{then, said}
-use Rattle.text_list.specs.Lines.{tripleOf, shownRest, refusedRest, restAt, lineOf, linesOf}
+use Rattle.text_list.specs.Lines.{hexTriple, shownRest, refusedRest, restAt, lineOf, linesOf}
 
 -- ---- a line
 
 module _ (store : List ℕ) (n : ℕ) where
   pub shown : {l m₁ m₂ m₃ : List ℕ} {at e₁ e₂ e₃ mode mark : ℕ} (picture : List ℕ) → mode ≡ modeOf (blockOf store n) → mark ≡ markAt store n
       → picture ≡ pictureAt store n → Written l at (field mode) e₁ m₁ → Written m₁ e₁ (field mark) e₂ m₂
-      → Written m₂ e₂ (tripleOf (getD picture 45 0) (getD picture 46 0) (getD picture 47 0)) e₃ m₃ → Written l at (shownRest store n) e₃ m₃
+      → Written m₂ e₂ (hexTriple (getD picture 45 0) (getD picture 46 0) (getD picture 47 0)) e₃ m₃ → Written l at (shownRest store n) e₃ m₃
   unfolding shownRest
   shown picture m k p x y z = said (then (then x y) z) (rw (m, k, p))
 

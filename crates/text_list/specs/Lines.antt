@@ -10,14 +10,14 @@ use Rattle.store_spec.specs.Twins.{markAt}
 use Rattle.text.specs.Text.{blank, lineFeed, decimal, hex, field}
 
 -- S-73: a triple in hex digits, and the end of the line.
-unfoldable pub tripleOf : ℕ → ℕ → ℕ → List ℕ
-tripleOf red green blue = hex red ++ blank ++ hex green ++ blank ++ hex blue ++ lineFeed
+unfoldable pub hexTriple : ℕ → ℕ → ℕ → List ℕ
+hexTriple red green blue = hex red ++ blank ++ hex green ++ blank ++ hex blue ++ lineFeed
 
 -- S-73: mode, mark and pixel 15's triple.
 unfoldable pub shownRest : List ℕ → ℕ → List ℕ
 shownRest store n =
     field (modeOf (blockOf store n)) ++ field (markAt store n)
-    ++ tripleOf (getD (pictureAt store n) 45 0) (getD (pictureAt store n) 46 0) (getD (pictureAt store n) 47 0)
+    ++ hexTriple (getD (pictureAt store n) 45 0) (getD (pictureAt store n) 46 0) (getD (pictureAt store n) 47 0)
 
 -- S-73: a refused record has `-` for its mode and for each value of the triple.
 unfoldable pub refusedRest : List ℕ → ℕ → List ℕ

@@ -7,7 +7,7 @@ ghost use Rattle.store_records.specs.Store.{recordsIn, formatOf, Unrefused};
 ghost use Rattle.store_spec.specs.Shown.{pictureAt};
 ghost use Rattle.store_spec.specs.Twins.{markAt, Marks};
 ghost use Rattle.text.specs.Text.{Written};
-ghost use Rattle.text_list.specs.Lines.{tripleOf, shownRest, refusedRest, lineOf, linesOf, countsLine};
+ghost use Rattle.text_list.specs.Lines.{hexTriple, shownRest, refusedRest, lineOf, linesOf, countsLine};
 use bc6::block_pixels;
 use bc6h_spec::Picture;
 use store_records::RecordReading;
@@ -37,7 +37,7 @@ fn picture_of(store: &[u8], n: usize, format: u8) -> [u16; Picture::VALUES]
 pub fn put_triple(text: &mut [u8], at: usize, red: u16, green: u16, blue: u16) -> usize
     requires { ⌜ at + 15 ≤ length (now text) ⌝ }
     ensures { λ r. ⌜ r ≡ at + 15 ⌝ }
-    ensures { λ r. ⌜ Written (now (text .entry)) at (tripleOf red green blue) r (now (text .exit)) ⌝ }
+    ensures { λ r. ⌜ Written (now (text .entry)) at (hexTriple red green blue) r (now (text .exit)) ⌝ }
 {
     let mut end = put_hex(text, at, red);
     end = put(text, end, b" ");

@@ -21,7 +21,7 @@ use Rattle.probe.specs.Probe.{tripleAt}
 use Rattle.store_faulty.specs.Faulty.{formOf}
 use Rattle.text.specs.Text.{blank, field, decimal, Written}
 use Rattle.text.proofs.Texts.{then, said}
-use Rattle.text_list.specs.Lines.{tripleOf}
+use Rattle.text_list.specs.Lines.{hexTriple}
 use Rattle.text_places.specs.Lines.{placeWords, recordWords, shownRest, refusedRest, restAt, lineOf, linesOf}
 
 -- ---- a place
@@ -59,7 +59,7 @@ module _ (store : List ℕ) (n : ℕ) where
 
   pub shown : {l m₁ m₂ m₃ m₄ : List ℕ} {at e₁ e₂ e₃ e₄ mode : ℕ} {place : Place} (triple : List ℕ) → mode ≡ modeOf (formOf 32 .block store n)
       → place ≡ placeIn store n → triple ≡ tripleAt store n 15 → Written l at (field mode) e₁ m₁ → Written m₁ e₁ (placeWords place) e₂ m₂
-      → Written m₂ e₂ blank e₃ m₃ → Written m₃ e₃ (tripleOf (getD triple 0 0) (getD triple 1 0) (getD triple 2 0)) e₄ m₄
+      → Written m₂ e₂ blank e₃ m₃ → Written m₃ e₃ (hexTriple (getD triple 0 0) (getD triple 1 0) (getD triple 2 0)) e₄ m₄
       → Written l at (shownRest store n) e₄ m₄
   unfolding shownRest formOf
   shown triple m p t x y z w = said (then (then (then x y) z) w) (rw (m, p, t))

@@ -8,6 +8,7 @@ use lib.Dec.{eqb}
 use lib.ListN.{length, getD, take, drop, length-drop}
 use lib.Seq.{take-all}
 use borrow.Author.Tests.{lt-ltb, le-ltb}
+use Rattle.laws.specs.Checks.{orNext}
 use Rattle.bcn_spec.specs.Answers.{done, reservedBlock}
 use Rattle.store_records.specs.Store.{mostRecords}
 use Rattle.probe_places.specs.Places.{placesIn}
@@ -18,7 +19,7 @@ use Rattle.text.specs.Text.{refusalLine, Written}
 use Rattle.text.proofs.Texts.{then, said}
 use Rattle.text_places.specs.declared.PlaceCounts.{PlaceCounts}
 use Rattle.text_places.specs.Lines.{linesOf, placeCounts, countsLine}
-use Rattle.text_places.specs.Listing.{orDamaged, listingRefusal, listingText, listingOf}
+use Rattle.text_places.specs.Listing.{strictNumber, listingRefusal, listingText, listingOf}
 
 -- ---- why it is refused
 
@@ -27,7 +28,7 @@ module _ (store : List ℕ) (strict : Bool) where
   unfolding listingRefusal formOf
   store-refused {r} e z = go (storeRefusal placedForm (length store)) e
     where
-      go : (a : ℕ) → r ≡ a → r ≡ orDamaged a strict store
+      go : (a : ℕ) → r ≡ a → r ≡ orNext a (strictNumber strict store)
       go zero q = absurd (z q)
       go (suc a) q = q
 
@@ -49,7 +50,7 @@ module _ (store : List ℕ) (strict : Bool) where
   unfolding listingRefusal
   is-whole e = go (storeRefusal placedForm (length store)) e
     where
-      go : (a : ℕ) → orDamaged a strict store ≡ done → a ≡ done
+      go : (a : ℕ) → orNext a (strictNumber strict store) ≡ done → a ≡ done
       go zero q = refl
       go (suc a) q = absurd (omega arith)
 

@@ -14,7 +14,7 @@ use Rattle.probe_places.specs.Readings.{placedRefusal}
 use Rattle.probe.specs.Probe.{tripleAt}
 use Rattle.store_faulty.specs.Faulty.{placedForm, howMany, countsOf}
 use Rattle.text.specs.Text.{blank, lineFeed, decimal, field}
-use Rattle.text_list.specs.Lines.{tripleOf, badWord}
+use Rattle.text_list.specs.Lines.{hexTriple, badWord}
 use Rattle.text_places.specs.declared.PlaceCounts.{PlaceCounts}
 
 -- S-103: face, column and row; `-` for each where the record is not placed.
@@ -29,7 +29,7 @@ recordWords store n = field n ++ field (tileIn store n)
 unfoldable pub shownRest : List ℕ → ℕ → List ℕ
 shownRest store n =
     field (modeOf (blockIn store n)) ++ placeWords (placeIn store n) ++ blank
-    ++ tripleOf (getD (tripleAt store n 15) 0 0) (getD (tripleAt store n 15) 1 0) (getD (tripleAt store n 15) 2 0)
+    ++ hexTriple (getD (tripleAt store n 15) 0 0) (getD (tripleAt store n 15) 1 0) (getD (tripleAt store n 15) 2 0)
 
 -- S-103: a refused record has `-` for its mode, its place and each value of the triple.
 abbrev pub refusedRest : List ℕ

@@ -5,6 +5,7 @@ use Prim.Native.Nat.{ℕ, zero, suc}
 use lib.Dec.{eqb, ltb}
 use lib.ListN.{length, getD, drop}
 use Rattle.laws.specs.Pick.{pick}
+use Rattle.laws.specs.Checks.{orNext}
 use Rattle.bcn_spec.specs.Answers.{done, reservedBlock}
 use Rattle.probe_places.specs.Places.{placesIn}
 use Rattle.store_faulty.specs.Faulty.{placedForm, storeRefusal, countsOf}
@@ -16,12 +17,8 @@ abbrev pub strictNumber : Bool → List ℕ → ℕ
 strictNumber strict store = pick strict (pick (ltb 0 (countsOf placedForm store .damaged)) reservedBlock done) done
 
 -- S-103: 5, then 6, and strictly then 12.
-abbrev pub orDamaged : ℕ → Bool → List ℕ → ℕ
-orDamaged zero strict store = strictNumber strict store
-orDamaged (suc number) strict store = suc number
-
 unfoldable pub listingRefusal : Bool → List ℕ → ℕ
-listingRefusal strict store = orDamaged (storeRefusal placedForm (length store)) strict store
+listingRefusal strict store = orNext (storeRefusal placedForm (length store)) (strictNumber strict store)
 
 abbrev pub textAt : ℕ → List ℕ → List ℕ
 textAt zero store = linesOf store (placesIn store) ++ countsLine (placeCounts store)

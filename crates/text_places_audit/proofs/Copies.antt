@@ -1,4 +1,4 @@
--- Laws of `repeats` over any form of a record: what each test gives, and that the computing definitions are what the words say. Assumes nothing.
+-- Laws of `repeatsIn` over any form of a record: what each test gives, and that the computing definitions are what the words say. Assumes nothing.
 use mathlib.Core.Path.{_≡_, refl, sym, _∙_, ap₂}
 use mathlib.Core.Bool.{Bool, true, false, not}
 use mathlib.Core.List.{List}
@@ -14,24 +14,24 @@ use Rattle.bcn_spec.specs.Answers.{done}
 use Rattle.bc6h_spec.specs.Fields.{modeOf}
 use Rattle.store_clean.specs.Clean as clean
 use Rattle.store_faulty.specs.Faulty.{RecordForm}
-use Rattle.text_places_audit.specs.Copies.{Repeats, repeats, firstIn, isCopy}
+use Rattle.text_places_audit.specs.Copies.{RepeatsIn, repeatsIn, firstIn, isCopy}
 use Rattle.text_places_audit.specs.Theorems.{CopiesBeside, AllTold, AsCleaned}
 
 -- ---- one test after the other
 
 module _ (form : RecordForm) (store : List ℕ) (n earlier : ℕ) where
-  pub refused : (form .refusal store n ≡ done → ⊥) → false ≡ repeats form store n earlier
-  unfolding repeats
+  pub refused : (form .refusal store n ≡ done → ⊥) → false ≡ repeatsIn form store n earlier
+  unfolding repeatsIn
   refused r = rw (ne-eqb (form .refusal store n) done r)
 
   module _ (u : form .refusal store n ≡ done) where
-    pub other-refused : (form .refusal store earlier ≡ done → ⊥) → false ≡ repeats form store n earlier
-    unfolding repeats
+    pub other-refused : (form .refusal store earlier ≡ done → ⊥) → false ≡ repeatsIn form store n earlier
+    unfolding repeatsIn
     other-refused r = rw (eq-eqb (form .refusal store n) done u, ne-eqb (form .refusal store earlier) done r)
 
     module _ (v : form .refusal store earlier ≡ done) {f g : ℕ} (ef : f ≡ form .format store n) (eg : g ≡ form .format store earlier) where
-      pub two-formats : (f ≡ g → ⊥) → false ≡ repeats form store n earlier
-      unfolding repeats
+      pub two-formats : (f ≡ g → ⊥) → false ≡ repeatsIn form store n earlier
+      unfolding repeatsIn
       two-formats d =
           rw (
             eq-eqb (form .refusal store n) done u,
@@ -40,8 +40,8 @@ module _ (form : RecordForm) (store : List ℕ) (n earlier : ℕ) where
           )
 
       module _ (d : f ≡ g) {mode : ℕ} (em : mode ≡ modeOf (form .block store n)) where
-        pub reserved : mode ≡ 0 → false ≡ repeats form store n earlier
-        unfolding repeats
+        pub reserved : mode ≡ 0 → false ≡ repeatsIn form store n earlier
+        unfolding repeatsIn
         reserved z =
             rw (
               eq-eqb (form .refusal store n) done u,
@@ -51,8 +51,8 @@ module _ (form : RecordForm) (store : List ℕ) (n earlier : ℕ) where
             )
 
         pub same-blocks : (mode ≡ 0 → ⊥) → {r : Bool} {x y : List ℕ} → x ≡ form .block store n → y ≡ form .block store earlier → r ≡ same x y
-            → r ≡ repeats form store n earlier
-        unfolding repeats
+            → r ≡ repeatsIn form store n earlier
+        unfolding repeatsIn
         same-blocks z ex ey e =
             e ∙ ap₂ same ex ey
             ∙ rw (
@@ -62,8 +62,8 @@ module _ (form : RecordForm) (store : List ℕ) (n earlier : ℕ) where
               ne-eqb (modeOf (form .block store n)) 0 (λ q. z (em ∙ q)),
             ) refl
 
-  pub repeats-means : repeats form store n earlier ≡ true → Repeats form store n earlier
-  unfolding repeats
+  pub repeats-means : repeatsIn form store n earlier ≡ true → RepeatsIn form store n earlier
+  unfolding repeatsIn
   repeats-means t =
       let a = both-true (eqb (form .refusal store n) done) _ t in
       let b = both-true (eqb (form .refusal store earlier) done) _ (a .1) in
@@ -77,7 +77,7 @@ module _ (form : RecordForm) (store : List ℕ) (n earlier : ℕ) where
         same-bytes = same-means (form .block store n) (form .block store earlier) (e .1);
       }
 
-  pub repeats-so : Repeats form store n earlier → repeats form store n earlier ≡ true
+  pub repeats-so : RepeatsIn form store n earlier → repeatsIn form store n earlier ≡ true
   repeats-so p =
       sym (same-blocks (p .unrefused) (p .earlier-unrefused) refl refl (p .same-format) refl (p .unreserved) refl refl
       (sym (same-so (form .block store n) (form .block store earlier) (p .same-bytes))))
@@ -85,13 +85,13 @@ module _ (form : RecordForm) (store : List ℕ) (n earlier : ℕ) where
 -- ---- the first that is repeated
 
 module _ (form : RecordForm) (store : List ℕ) (n : ℕ) where
-  pub first-repeated : firstIn form store n < n → Repeats form store n (firstIn form store n)
+  pub first-repeated : firstIn form store n < n → RepeatsIn form store n (firstIn form store n)
   unfolding firstIn
-  first-repeated h = repeats-means form store n _ (first-passes (repeats form store n) n h)
+  first-repeated h = repeats-means form store n _ (first-passes (repeatsIn form store n) n h)
 
-  pub no-earlier : (k : ℕ) → k < n → Repeats form store n k → firstIn form store n ≤ k
+  pub no-earlier : (k : ℕ) → k < n → RepeatsIn form store n k → firstIn form store n ≤ k
   unfolding firstIn
-  no-earlier k h p = first-least (repeats form store n) n k h (repeats-so form store n k p)
+  no-earlier k h p = first-least (repeatsIn form store n) n k h (repeats-so form store n k p)
 
   pub copy-when : firstIn form store n < n → isCopy form store n ≡ true
   unfolding isCopy
@@ -105,8 +105,8 @@ module _ (form : RecordForm) (store : List ℕ) (n : ℕ) where
   unfolding isCopy
   copy-first t = ltb-true _ _ t
 
-through : {form : RecordForm} {store : List ℕ} {n middle first : ℕ} → Repeats form store n middle → Repeats form store middle first
-    → Repeats form store n first
+through : {form : RecordForm} {store : List ℕ} {n middle first : ℕ} → RepeatsIn form store n middle → RepeatsIn form store middle first
+    → RepeatsIn form store n first
 through a b =
     record {
       unrefused = a .unrefused;
@@ -134,5 +134,5 @@ all-told form store n earlier h p = copy-when form store n (omega (arith, no-ear
 
 -- one definition for both forms: at 24-byte records it computes to the clean-up's
 pub as-cleaned : AsCleaned
-unfolding firstIn repeats clean.firstOf clean.repeats
+unfolding firstIn repeatsIn clean.firstOf clean.repeats
 as-cleaned store n = refl

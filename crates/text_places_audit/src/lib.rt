@@ -9,7 +9,7 @@ ghost use Rattle.store_records.specs.Store.{mostRecords};
 ghost use Rattle.store_faulty.specs.Faulty.{placedForm};
 ghost use Rattle.probe_places.specs.Places.{placesIn};
 ghost use Rattle.text.specs.Text.{Written};
-ghost use Rattle.text_places_audit.specs.Copies.{repeats, firstIn};
+ghost use Rattle.text_places_audit.specs.Copies.{repeatsIn, firstIn};
 ghost use Rattle.text_places_audit.specs.Audit.{whereOf, copyLine, copyLines, tallyLine, tallyOf, auditOf};
 use bcn_spec::Answer;
 use bcn_spec::Block;
@@ -41,7 +41,7 @@ pub const INPUT: usize = Place::STORE + 1;
 
 // Record n is record `earlier` once more.
 fn is_repeat(store: &[u8], n: usize, earlier: usize) -> bool
-    ensures { λ r. ⌜ r ≡ repeats placedForm (now (store .entry)) n earlier ⌝ }
+    ensures { λ r. ⌜ r ≡ repeatsIn placedForm (now (store .entry)) n earlier ⌝ }
 {
     let PlacedReading::Record(again) = placed_record_at(store, n) else {
         return false;
@@ -62,7 +62,7 @@ fn is_repeat(store: &[u8], n: usize, earlier: usize) -> bool
     )
 }
 
-// The first record that record n repeats; n where there is none.
+// The first record that record n repeatsIn; n where there is none.
 fn first_of(store: &[u8], n: usize) -> usize
     ensures { λ r. ⌜ r ≤ n ⌝ }
     ensures { λ r. ⌜ r ≡ firstIn placedForm (now (store .entry)) n ⌝ }
@@ -86,7 +86,7 @@ fn put_where(text: &mut [u8], at: usize, store: &[u8], n: usize) -> usize
     put_place(text, end, place_at(store, n))
 }
 
-// The line of record n, which repeats record `first`.
+// The line of record n, which repeatsIn record `first`.
 fn put_copy(text: &mut [u8], at: usize, store: &[u8], n: usize, first: usize) -> usize
     requires { ⌜ at + 256 ≤ length (now text) ⌝ }
     requires { ⌜ n < placesIn (now store) ⌝ }

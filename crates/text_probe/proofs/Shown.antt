@@ -25,7 +25,7 @@ use Rattle.probe_faces.specs.Face.{faceOf, faceRefusal, faceFault, FacePainted}
 use Rattle.probe_faces.proofs.Painting.{face-length, roomy, done-probe, pixel-same}
 use Rattle.exr_square.specs.Square.{squareFile}
 use Rattle.exr_square.proofs.Squares.{same-square}
-use Rattle.text_probe.specs.Image.{AllNumbers, imageFile}
+use Rattle.text_probe.specs.Image.{PixelsNumbers, imageFile}
 use Rattle.text_probe.proofs.Images.{same-file}
 
 -- ---- a block's sixteen pixels
@@ -112,7 +112,7 @@ module _ {store : List ℕ} {edge face : ℕ} {lent after : List ℕ} {r : Fault
         (block-numbers (formatIn store n) (blockIn store n) (fine store n (probe .unrefused n i) .small) (simp (length-take, length-drop) (omega arith))
         pixel pixel-few)
 
-  pub all-numbers : AllNumbers after (side * side)
+  pub all-numbers : PixelsNumbers after (side * side)
   all-numbers = record { each = number-here }
 
   -- ---- the file

@@ -20,5 +20,5 @@ unfoldable pub imageFile : List ℕ → ℕ → List ℕ
 imageFile values side = headerOf side side ++ imageBody values side
 
 -- no value of the first pixels is a NaN, which has no bits of its own
-pub record AllNumbers (values : List ℕ) (count : ℕ) : Type 0 where
+pub record PixelsNumbers (values : List ℕ) (count : ℕ) : Type 0 where
   pub each : (k : ℕ) → k < count → Numbers (colourAt values k)

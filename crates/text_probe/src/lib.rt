@@ -6,7 +6,7 @@ ghost use Prim.Native.Nat.{_+_, _*_, _<_, _≤_};
 ghost use lib.ListN.{length};
 ghost use Rattle.probe.specs.Probe.{ofRecord};
 ghost use Rattle.text.specs.Text.{Written};
-ghost use Rattle.text_probe.specs.Image.{pixelUp, imageBody, imageFile, AllNumbers};
+ghost use Rattle.text_probe.specs.Image.{pixelUp, imageBody, imageFile, PixelsNumbers};
 ghost use Rattle.text_probe.specs.Output.{wordAt, faultyPart, faultLine, probeLine, checkOutput, faceOutput, probeOutput, outputRoom};
 use bcn_spec::Answer;
 use exr_square::put_square;
@@ -125,7 +125,7 @@ fn pixel_up(side: usize, j: usize) -> usize
 // The pixels of a picture from the lowest row up, twelve bytes each, from `at` on; answers the place behind them.
 fn put_pixels(values: &[u16], side: usize, out: &mut [u8], at: usize) -> usize
     requires { ⌜ (1 ≤ side) × (side ≤ 64) × (3 * (side * side) ≤ length (now values)) × (at + 12 * (side * side) ≤ length (now out)) ⌝ }
-    requires { ⌜ AllNumbers (now values) (side * side) ⌝ }
+    requires { ⌜ PixelsNumbers (now values) (side * side) ⌝ }
     ensures { λ r. ⌜ Written (now (out .entry)) at (imageBody (now (values .entry)) side) r (now (out .exit)) ⌝ }
 {
     let count = side * side;
@@ -143,7 +143,7 @@ fn put_pixels(values: &[u16], side: usize, out: &mut [u8], at: usize) -> usize
 // The file of a picture.
 fn put_image(values: &[u16], side: usize, out: &mut [u8]) -> usize
     requires { ⌜ (1 ≤ side) × (side ≤ 64) × (3 * (side * side) ≤ length (now values)) × (outputRoom ≤ length (now out)) ⌝ }
-    requires { ⌜ AllNumbers (now values) (side * side) ⌝ }
+    requires { ⌜ PixelsNumbers (now values) (side * side) ⌝ }
     ensures { λ r. ⌜ r ≤ outputRoom ⌝ }
     ensures { λ r. ⌜ Written (now (out .entry)) 0 (imageFile (now (values .entry)) side) r (now (out .exit)) ⌝ }
 {

@@ -7,7 +7,7 @@ use lib.Dec.{eqb}
 use mir.Syntax.{w32}
 use mir.ValLaws.{toZ-ofZ}
 use Rattle.bc6h_spec.specs.Half.{signExtend, keep, finishS, finished}
-use Rattle.bc6_half.specs.Halves.{halfOf, numberAt}
+use Rattle.bc6_half.specs.Halves.{halfOf, signedNumber}
 use Rattle.bc6_half.proofs.Words.{number-kept, lowest-kept}
 use Rattle.bc6_half.proofs.finish_signed.Statement.{statement}
 use Rattle.bc6_half.proofs.finish_signed.Tie as tie
@@ -17,7 +17,7 @@ word : (c : tie.After-kept-16) → c .kept-16 .result ≡ keep 16 (c .before .ar
 word c = c .kept-16 .ensures ∙ ap (keep 16) (toZ-ofZ w32 (c .before .args .x) (c .before .fits .x))
 
 returns : tie.Need-returns
-unfolding halfOf finished numberAt
+unfolding halfOf finished signedNumber
 returns c =
     let s = c .before .before in
     let pattern = c .pattern-signed .ensures ∙ ap (λ (u : ℕ). finishS (signExtend 16 u)) (word (c .before)) ∙ ap finishS (number-kept true (s .args .x) (s .pre)) in

@@ -4,14 +4,14 @@ use mathlib.Core.Path.{_≡_, refl}
 use Prim.Native.Nat.{_*_, _-_, _≤_}
 use native.Mathlib.Omega.{arith}
 use lib.ListN.{length}
-use Rattle.bc6_image.specs.Stores.{scattered, pixelOf, pixelPlace}
+use Rattle.bc6_image.specs.Stores.{storedCells, pixelOf, pixelPlace}
 use Rattle.bc6_image.proofs.Places.{row-room, block-start, block-step, block-end}
 use Rattle.bc6_image.proofs.put_block.Statement.{statement}
 use Rattle.bc6_image.proofs.put_block.Tie as tie
 
 abbrev Inv-loop : tie.InvT-loop
 Inv-loop values alpha out₀ at pitch row₀ out row =
-    (row ≤ 4) × (out ≡ scattered (pixelPlace alpha pitch at) (pixelOf alpha values) (4 * row) out₀) × (length out ≡ length out₀)
+    (row ≤ 4) × (out ≡ storedCells (pixelPlace alpha pitch at) (pixelOf alpha values) (4 * row) out₀) × (length out ≡ length out₀)
 
 abbrev μ-loop : tie.MeasureT-loop
 μ-loop values alpha out₀ at pitch row₀ out row = 4 - row

@@ -3,14 +3,14 @@ use borrow.Author.Needs.{needs}
 use mathlib.Core.Path.{_∙_}
 use mathlib.Core.Bool.{true}
 use Rattle.laws.proofs.Num.{read}
-use Rattle.bc6_half.specs.Halves.{numberAt}
+use Rattle.bc6_half.specs.Halves.{signedNumber}
 use Rattle.bc6_paint.specs.Values.{pointOf}
 use Rattle.bc6_paint.proofs.Points.{ends-within, point-is}
 use Rattle.bc6_paint.proofs.point_signed.Statement.{statement}
 use Rattle.bc6_paint.proofs.point_signed.Tie as tie
 
 interpolate-requires : tie.Need-interpolate-requires
-unfolding numberAt
+unfolding signedNumber
 interpolate-requires c κs =
     let d = c .before in
     let b = d .before in
@@ -18,7 +18,7 @@ interpolate-requires c κs =
     ends-within true _ _ _ (a .select .ok) (d .select2 .ok) (a .before .pre) _ _ (read (b .number-16 .ok) (b .number-16 .ensures)) (read (c .number-162 .ok) (c .number-162 .ensures))
 
 returns : tie.Need-returns
-unfolding numberAt
+unfolding signedNumber
 returns c =
     let y = c .before in
     let d = y .before in

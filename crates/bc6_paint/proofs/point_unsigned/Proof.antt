@@ -4,7 +4,7 @@ use mathlib.Core.Path.{_≡_, _∙_}
 use mathlib.Core.Bool.{false}
 use Rattle.laws.specs.Ranges.{InBits}
 use Rattle.laws.proofs.Num.{widened}
-use Rattle.bc6_half.specs.Halves.{numberAt}
+use Rattle.bc6_half.specs.Halves.{signedNumber}
 use Rattle.bc6_paint.specs.Values.{pointOf}
 use Rattle.bc6_half.proofs.Words.{word-fits, word-is}
 use Rattle.bc6_paint.proofs.Points.{ends-within, point-is, point-in}
@@ -12,7 +12,7 @@ use Rattle.bc6_paint.proofs.point_unsigned.Statement.{statement}
 use Rattle.bc6_paint.proofs.point_unsigned.Tie as tie
 
 interpolate-requires : tie.Need-interpolate-requires
-unfolding numberAt
+unfolding signedNumber
 interpolate-requires c κs =
     let a = c .before .select .ok in
     let b = c .select2 .ok in
@@ -24,7 +24,7 @@ module _ (c : tie.After-interpolate) where
   start = c .before .before .before
 
   told : c .interpolate .result ≡ pointOf false (c .before .before .select .result) (c .before .select2 .result) (start .args .w)
-  unfolding numberAt
+  unfolding signedNumber
   told =
       let a = c .before .before .select .ok in
       let b = c .before .select2 .ok in

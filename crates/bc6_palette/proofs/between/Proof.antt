@@ -11,7 +11,7 @@ use mir.ValLaws.{toZ-ofZ}
 use Rattle.bc6h_spec.specs.Half.{interpolated, finished}
 use Rattle.bc6_half.specs.declared.Half.{Half}
 use Rattle.bc6_half.specs.Halves.{marked}
-use Rattle.bc6_palette.specs.Palettes.{tripleOf}
+use Rattle.bc6_palette.specs.Palettes.{blendOf}
 use Rattle.bc6_palette.proofs.between.Statement.{statement}
 use Rattle.bc6_palette.proofs.between.Tie as tie
 
@@ -21,7 +21,7 @@ plain : (s : Bool) (w : ℕ) {a b : ℤ} {r : Half} → SFits w32 a → SFits w3
 plain s w {a} {b} f g e = e ∙ (λ i. marked (finished s (interpolated (toZ-ofZ w32 a f i) (toZ-ofZ w32 b g i) (pos w))))
 
 returns : tie.Need-returns
-unfolding tripleOf
+unfolding blendOf
 returns c =
     let s = c .before .before .before .before .before .before .before .before .before in
     let x = plain (s .args .signed) (s .args .w) {a = s .args .a .r} {b = s .args .b .r} (search needs) (search needs) (c .before .before .before .before .before .before .entry .ensures) in

@@ -9,13 +9,13 @@ use lib.ListN.{drop}
 use Rattle.laws.specs.Made.{made}
 use Rattle.laws.proofs.Rows.{made-none, made-store, made-all}
 use Rattle.bcn_spec.specs.Weights.{weights16}
-use Rattle.bc6_palette.specs.Palettes.{entryOf}
+use Rattle.bc6_palette.specs.Palettes.{paletteEntry}
 use Rattle.bc6_palette.proofs.Entries.{between-asks, entry-is}
 use Rattle.bc6_palette.proofs.generate_palette_unquantized_one.Statement.{statement}
 use Rattle.bc6_palette.proofs.generate_palette_unquantized_one.Tie as tie
 
 abbrev Inv-loop : tie.InvT-loop
-Inv-loop prec signed a b palette₀ i₀ palette i = (i ≤ 16) × (palette ≡ made (entryOf signed a b weights16) i ++ drop i palette₀)
+Inv-loop prec signed a b palette₀ i₀ palette i = (i ≤ 16) × (palette ≡ made (paletteEntry signed a b weights16) i ++ drop i palette₀)
 
 abbrev μ-loop : tie.MeasureT-loop
 μ-loop prec signed a b palette₀ i₀ palette i = 16 - i
@@ -40,7 +40,7 @@ returns : tie.Need-returns Inv-loop μ-loop
 returns c =
     let a = c .before .before .before .before in
     made-all _ _ _ _ _ (c .before .loop .inv .1) (omega arith) (omega arith) (lit≤ tt)
-    ∙ (λ i. made (entryOf (a .before .args .signed) (a .unquantize .ensures i) (c .before .before .before .unquantize2 .ensures i) weights16) 16)
+    ∙ (λ i. made (paletteEntry (a .before .args .signed) (a .unquantize .ensures i) (c .before .before .before .unquantize2 .ensures i) weights16) 16)
 
 pub generate-palette-unquantized-one-spec : {M : Type 1} → statement M
 generate-palette-unquantized-one-spec =

@@ -7,18 +7,18 @@ use native.Mathlib.Omega.{arith}
 use lib.ListN.{length, drop, length-set}
 use Rattle.laws.specs.Made.{made}
 use Rattle.laws.proofs.Rows.{made-none, made-store, made-upto}
-use Rattle.bc6_palette.specs.Triples.{halfAt, valueAt, flat}
+use Rattle.bc6_palette.specs.Triples.{tripleHalf, tripleValue, flat}
 use Rattle.bc6_palette.proofs.write_values.Statement.{statement}
 use Rattle.bc6_palette.proofs.write_values.Tie as tie
 
 abbrev Inv-loop : tie.InvT-loop
-Inv-loop out₀ triples j₀ out j = (j ≤ 48) × (out ≡ made (valueAt triples) j ++ drop j out₀) × (length out ≡ length out₀)
+Inv-loop out₀ triples j₀ out j = (j ≤ 48) × (out ≡ made (tripleValue triples) j ++ drop j out₀) × (length out ≡ length out₀)
 
 abbrev μ-loop : tie.MeasureT-loop
 μ-loop out₀ triples j₀ out j = 48 - j
 
 loop-again : tie.Need-loop-again Inv-loop μ-loop
-unfolding valueAt halfAt
+unfolding tripleValue tripleHalf
 loop-again c =
     let l = c .before .before .before .loop in
     (search needs, made-store _ _ _ _ _ _ (l .inv .1) refl refl (omega arith), simp length-set (l .inv .2))

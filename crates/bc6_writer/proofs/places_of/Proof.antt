@@ -8,12 +8,12 @@ use lib.Dec.{lit≤}
 use lib.ListN.{drop}
 use Rattle.laws.specs.Made.{made}
 use Rattle.laws.proofs.Rows.{made-none, made-store, made-all}
-use Rattle.bc6h_spec.specs.Writer.{placed}
+use Rattle.bc6h_spec.specs.Writer.{atPlace}
 use Rattle.bc6_writer.proofs.places_of.Statement.{statement}
 use Rattle.bc6_writer.proofs.places_of.Tie as tie
 
 abbrev Inv-loop : tie.InvT-loop
-Inv-loop fields places₀ place₀ places place = (place ≤ 14) × (places ≡ made (placed fields) place ++ drop place places₀)
+Inv-loop fields places₀ place₀ places place = (place ≤ 14) × (places ≡ made (atPlace fields) place ++ drop place places₀)
 
 abbrev μ-loop : tie.MeasureT-loop
 μ-loop fields places₀ place₀ places place = 14 - place

@@ -7,13 +7,13 @@ use lib.ListN.{length, drop}
 use Rattle.laws.specs.Made.{made}
 use Rattle.laws.proofs.Rows.{made-none, made-store, made-all}
 use Rattle.bcn_util.specs.Stream.{number}
-use Rattle.bc6_writer.specs.Parts.{byteAt}
+use Rattle.bc6_writer.specs.Parts.{numberByte}
 use Rattle.bc6_writer.proofs.Joining.{bytes-made}
 use Rattle.bc6_writer.proofs.write_bytes.Statement.{statement}
 use Rattle.bc6_writer.proofs.write_bytes.Tie as tie
 
 abbrev Inv-loop : tie.InvT-loop
-Inv-loop words out₀ k₀ out k = (k ≤ 16) × (out ≡ made (byteAt (number words)) k ++ drop k out₀) × (length out ≡ length out₀)
+Inv-loop words out₀ k₀ out k = (k ≤ 16) × (out ≡ made (numberByte (number words)) k ++ drop k out₀) × (length out ≡ length out₀)
 
 abbrev μ-loop : tie.MeasureT-loop
 μ-loop words out₀ k₀ out k = 16 - k

@@ -5,14 +5,14 @@ use mathlib.Core.List.{List}
 use Prim.Native.Nat.{ℕ, _+_, _-_, _*_, _<_, _≤_}
 use native.Mathlib.Omega.{arith}
 use lib.ListN.{length, getD}
-use Rattle.bc7_paint.specs.Shades.{byteAt, soloAt}
+use Rattle.bc7_paint.specs.Shades.{shadeByte, soloAt}
 use Rattle.bc7_paint.proofs.Shading.{solo-byte}
 use Rattle.bc7_paint.proofs.Halves.{Halves, room-after, none-painted, turn-painted, all-painted}
 use Rattle.bc7_paint.proofs.paint_one.Statement.{statement}
 use Rattle.bc7_paint.proofs.paint_one.Tie as tie
 
 abbrev Inv-loop : tie.InvT-loop
-Inv-loop ends rotation out₀ colours alphas k₀ out k = (k ≤ 8) × Halves (byteAt ends 0 0 rotation colours alphas) k out₀ out
+Inv-loop ends rotation out₀ colours alphas k₀ out k = (k ≤ 8) × Halves (shadeByte ends 0 0 rotation colours alphas) k out₀ out
 
 abbrev μ-loop : tie.MeasureT-loop
 μ-loop ends rotation out₀ colours alphas k₀ out k = 8 - k
@@ -34,7 +34,7 @@ module _ (c : tie.After-paint-pixel-arg Inv-loop μ-loop) where
   room : 64 ≤ length out
   room = omega (arith, begun .pre .room, c .before .before .loop .inv .1 .long)
 
-  bytes : (n j : ℕ) → j < 4 → pixel n j ≡ byteAt (begun .args .ends) 0 0 (begun .args .rotation) (begun .args .t3) (begun .args .t4) (4 * n + j)
+  bytes : (n j : ℕ) → j < 4 → pixel n j ≡ shadeByte (begun .args .ends) 0 0 (begun .args .rotation) (begun .args .t3) (begun .args .t4) (4 * n + j)
   bytes n = solo-byte _ _ _ _ n
 
 pixel-requires : tie.Need-paint-pixel-requires Inv-loop μ-loop

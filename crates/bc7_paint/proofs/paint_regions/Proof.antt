@@ -7,14 +7,14 @@ use native.Mathlib.Omega.{arith}
 use lib.Dec.{lit<}
 use lib.ListN.{length, getD, length-set}
 use Rattle.laws.proofs.Rows.{made-none, made-four, made-upto}
-use Rattle.bc7_paint.specs.Shades.{regionBy, shadeAt, byteAt}
+use Rattle.bc7_paint.specs.Shades.{regionBy, shadeAt, shadeByte}
 use Rattle.bc7_paint.proofs.Shading.{Made, marked-left, left-on, shown}
 use Rattle.bc7_paint.proofs.paint_regions.Statement.{statement}
 use Rattle.bc7_paint.proofs.paint_regions.Tie as tie
 
 abbrev Inv-loop : tie.InvT-loop
 Inv-loop ends ones twos out₀ weights ones-left₀ twos-left₀ p₀ out ones-left twos-left p =
-    (p ≤ 8) × (ones-left ≡ ones / 2 ^ (2 * p)) × (twos-left ≡ twos / 2 ^ (2 * p)) × Made (byteAt ends ones twos 0 weights weights) (4 * (2 * p)) out₀ out × (length out ≡ length out₀)
+    (p ≤ 8) × (ones-left ≡ ones / 2 ^ (2 * p)) × (twos-left ≡ twos / 2 ^ (2 * p)) × Made (shadeByte ends ones twos 0 weights weights) (4 * (2 * p)) out₀ out × (length out ≡ length out₀)
 
 abbrev μ-loop : tie.MeasureT-loop
 μ-loop ends ones twos out₀ weights ones-left₀ twos-left₀ p₀ out ones-left twos-left p = 8 - p
@@ -31,7 +31,7 @@ module _ (c : tie.After-in-region4 Inv-loop μ-loop) where
   p = inside .before .loop .p
 
   abbrev f : ℕ → ℕ
-  f = byteAt (begun .args .ends) (begun .args .ones) (begun .args .twos) 0 (begun .args .t4) (begun .args .t4)
+  f = shadeByte (begun .args .ends) (begun .args .ones) (begun .args .twos) 0 (begun .args .t4) (begun .args .t4)
 
   fits : 4 * (2 * p + 1) + 3 < length (inside .before .loop .out)
   fits = omega (arith, begun .pre .room, inside .before .loop .inv .4)

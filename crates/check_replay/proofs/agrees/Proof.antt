@@ -1,24 +1,24 @@
 use borrow.Author.Needs.{needs}
-use Rattle.check_replay.specs.Entries.{blockIn}
+use Rattle.check_replay.specs.Entries.{entryBlock}
 use Rattle.check_replay.proofs.Replayed.{other-number, other-mode, other-count, by-values}
 use Rattle.check_replay.proofs.agrees.Statement.{statement}
 use Rattle.check_replay.proofs.agrees.Tie as tie
 
 returns : tie.Need-returns
-unfolding blockIn
+unfolding entryBlock
 returns c =
     let called = c .before .before .before .before in
     other-number (called .before .before .before .before .before .args .entry .now) _ _ (called .block-pixels .ensures) (c .if1 .taken)
 
 returns-2 : tie.Need-returns-2
-unfolding blockIn
+unfolding entryBlock
 returns-2 c =
     let one = c .before .before .before in
     let called = one .before .before .before .before in
     other-mode (called .before .before .before .before .before .args .entry .now) _ _ (called .block-pixels .ensures) (one .if1 .left) (c .if2 .taken)
 
 returns-3 : tie.Need-returns-3
-unfolding blockIn
+unfolding entryBlock
 returns-3 c =
     let count = c .before .before in
     let two = count .before in
@@ -27,7 +27,7 @@ returns-3 c =
     other-count (called .before .before .before .before .before .args .entry .now) _ _ (called .block-pixels .ensures) (count .infinite-in .ensures) (one .if1 .left) (two .if2 .left) (c .if3 .taken)
 
 returns-4 : tie.Need-returns-4
-unfolding blockIn
+unfolding entryBlock
 returns-4 c =
     let three = c .before .before .before in
     let count = three .before .before in

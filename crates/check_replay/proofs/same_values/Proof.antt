@@ -3,13 +3,13 @@ use borrow.Author.Count.{below-none, below-more}
 use mathlib.Core.Path.{_≡_, sym, _∙_}
 use Prim.Native.Nat.{ℕ, _≤_, _<_, _-_}
 use lib.ListN.{getD}
-use Rattle.check_replay.specs.Entries.{valueIn}
+use Rattle.check_replay.specs.Entries.{entryValue}
 use Rattle.check_replay.proofs.Replayed.{not-same, all-same}
 use Rattle.check_replay.proofs.same_values.Statement.{statement}
 use Rattle.check_replay.proofs.same_values.Tie as tie
 
 abbrev Inv-loop : tie.InvT-loop
-Inv-loop values bytes k₀ k = (k ≤ 48) × ((i : ℕ) → i < k → getD values i 0 ≡ valueIn bytes i)
+Inv-loop values bytes k₀ k = (k ≤ 48) × ((i : ℕ) → i < k → getD values i 0 ≡ entryValue bytes i)
 
 abbrev μ-loop : tie.MeasureT-loop
 μ-loop values bytes k₀ k = 48 - k

@@ -5,13 +5,13 @@ use Prim.Native.Nat.{_-_, _≤_}
 use lib.ListN.{length, drop}
 use Rattle.laws.specs.Made.{made}
 use Rattle.laws.proofs.Rows.{made-none, made-store, made-upto}
-use Rattle.run_fields.specs.Record.{byteOf}
+use Rattle.run_fields.specs.Record.{fieldsByte}
 use borrow.Author.Needs.{needs}
 use Rattle.run_fields.proofs.write_record.Statement.{statement}
 use Rattle.run_fields.proofs.write_record.Tie as tie
 
 abbrev Inv-loop : tie.InvT-loop
-Inv-loop read out₀ k₀ out k = (k ≤ 45) × ((length out ≡ length out₀) × (out ≡ made (byteOf read) k ++ drop k out₀))
+Inv-loop read out₀ k₀ out k = (k ≤ 45) × ((length out ≡ length out₀) × (out ≡ made (fieldsByte read) k ++ drop k out₀))
 
 abbrev μ-loop : tie.MeasureT-loop
 μ-loop read out₀ k₀ out k = 45 - k

@@ -7,13 +7,13 @@ use native.Mathlib.Omega.{arith}
 use lib.ListN.{length, drop, length-set}
 use Rattle.laws.specs.Made.{made}
 use Rattle.laws.proofs.Rows.{made-none, made-upto}
-use Rattle.run_pixels.specs.Shown.{halfAt}
+use Rattle.run_pixels.specs.Shown.{valueByte}
 use Rattle.run_pixels.proofs.Bytes.{two-stored}
 use Rattle.run_pixels.proofs.put_values.Statement.{statement}
 use Rattle.run_pixels.proofs.put_values.Tie as tie
 
 abbrev Inv-loop : tie.InvT-loop
-Inv-loop out₀ values j₀ out j = (j ≤ 48) × (out ≡ made (halfAt values) (2 * j) ++ drop (2 * j) out₀) × (length out ≡ length out₀)
+Inv-loop out₀ values j₀ out j = (j ≤ 48) × (out ≡ made (valueByte values) (2 * j) ++ drop (2 * j) out₀) × (length out ≡ length out₀)
 
 abbrev μ-loop : tie.MeasureT-loop
 μ-loop out₀ values j₀ out j = 48 - j

@@ -20,7 +20,7 @@ abbrev μ-loop : tie.MeasureT-loop
 
 loop-again : tie.Need-loop-again Inv-loop μ-loop
 unfolding numberIn
-loop-again c = (search needs, made-store _ _ _ _ _ _ (c .before .before .before .before .loop .inv .1) refl (c .two-bytes .ensures) (omega arith))
+loop-again c = (search needs, made-store _ _ _ _ _ _ (c .before .before .loop .inv .1) refl (c .u16-at .ensures) (omega arith))
 
 returns : tie.Need-returns Inv-loop μ-loop
 returns c = made-all _ _ _ _ _ (c .before .loop .inv .1) (omega arith) (omega arith) (lit≤ tt)
@@ -32,10 +32,6 @@ numbers-in-spec =
     Inv-loop
     μ-loop
     (λ c. (search needs, made-none _ _))
-    (λ c. search needs)
-    (λ c. search needs)
-    (λ c. search needs)
-    (λ c. search needs)
     (λ c. search needs)
     (λ c κs. search needs)
     (λ c. search needs)

@@ -6,12 +6,12 @@ use Prim.Native.Nat.{_-_, _≤_}
 use lib.ListN.{length, drop}
 use Rattle.laws.specs.Made.{made}
 use Rattle.laws.proofs.Rows.{made-none, made-store, made-upto}
-use Rattle.run_show.specs.Picture.{byteOf}
+use Rattle.run_show.specs.Picture.{pictureByte}
 use Rattle.run_show.proofs.put_answer.Statement.{statement}
 use Rattle.run_show.proofs.put_answer.Tie as tie
 
 abbrev Inv-loop : tie.InvT-loop
-Inv-loop answer values out₀ k₀ out k = (k ≤ 97) × ((length out ≡ length out₀) × (out ≡ made (byteOf answer values) k ++ drop k out₀))
+Inv-loop answer values out₀ k₀ out k = (k ≤ 97) × ((length out ≡ length out₀) × (out ≡ made (pictureByte answer values) k ++ drop k out₀))
 
 abbrev μ-loop : tie.MeasureT-loop
 μ-loop answer values out₀ k₀ out k = 97 - k

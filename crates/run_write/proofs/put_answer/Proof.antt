@@ -6,12 +6,12 @@ use Prim.Native.Nat.{_-_, _≤_}
 use lib.ListN.{length, drop}
 use Rattle.laws.specs.Made.{made}
 use Rattle.laws.proofs.Rows.{made-none, made-store, made-upto}
-use Rattle.run_write.specs.Record.{byteOf}
+use Rattle.run_write.specs.Record.{answerByte}
 use Rattle.run_write.proofs.put_answer.Statement.{statement}
 use Rattle.run_write.proofs.put_answer.Tie as tie
 
 abbrev Inv-loop : tie.InvT-loop
-Inv-loop answer block out₀ k₀ out k = (k ≤ 17) × ((length out ≡ length out₀) × (out ≡ made (byteOf answer block) k ++ drop k out₀))
+Inv-loop answer block out₀ k₀ out k = (k ≤ 17) × ((length out ≡ length out₀) × (out ≡ made (answerByte answer block) k ++ drop k out₀))
 
 abbrev μ-loop : tie.MeasureT-loop
 μ-loop answer block out₀ k₀ out k = 17 - k

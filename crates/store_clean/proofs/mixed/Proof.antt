@@ -2,13 +2,13 @@ use borrow.Author.Needs.{needs}
 use mathlib.Core.Path.{_≡_}
 use Prim.Native.Nat.{_≤_, _-_}
 use native.Mathlib.Omega.{arith}
-use Rattle.store_clean.specs.Links.{mixedUpto}
+use Rattle.store_clean.specs.Links.{blockMixed}
 use Rattle.store_clean.proofs.Linking.{mixed-none, mixed-more}
 use Rattle.store_clean.proofs.mixed.Statement.{statement}
 use Rattle.store_clean.proofs.mixed.Tie as tie
 
 abbrev Inv-loop : tie.InvT-loop
-Inv-loop format block mix₀ k₀ mix k = (k ≤ 16) × (mix ≡ mixedUpto format block k)
+Inv-loop format block mix₀ k₀ mix k = (k ≤ 16) × (mix ≡ blockMixed format block k)
 
 abbrev μ-loop : tie.MeasureT-loop
 μ-loop format block mix₀ k₀ mix k = 16 - k

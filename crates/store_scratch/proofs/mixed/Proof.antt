@@ -3,18 +3,18 @@ use Rattle.store_spec.proofs.Keeping.{mixed-more}
 use mathlib.Core.Path.{_≡_, refl}
 use Prim.Native.Nat.{_≤_, _-_}
 use native.Mathlib.Omega.{arith}
-use Rattle.store_spec.specs.Scratch.{mixedUpto}
+use Rattle.store_spec.specs.Scratch.{pictureMixed}
 use Rattle.store_scratch.proofs.mixed.Statement.{statement}
 use Rattle.store_scratch.proofs.mixed.Tie as tie
 
 abbrev Inv-loop : tie.InvT-loop
-Inv-loop kind picture mix₀ pixel₀ mix pixel = (pixel ≤ 16) × (mix ≡ mixedUpto kind picture pixel)
+Inv-loop kind picture mix₀ pixel₀ mix pixel = (pixel ≤ 16) × (mix ≡ pictureMixed kind picture pixel)
 
 abbrev μ-loop : tie.MeasureT-loop
 μ-loop kind picture mix₀ pixel₀ mix pixel = 16 - pixel
 
 loop-holds : tie.Need-loop-holds Inv-loop μ-loop
-unfolding mixedUpto
+unfolding pictureMixed
 loop-holds c = (search needs, refl)
 
 loop-again : tie.Need-loop-again Inv-loop μ-loop

@@ -1,16 +1,16 @@
--- `store_trust::entries_differ` meets its contract. The loop's invariant: no entry before i is repeated. Assumes nothing.
+-- `store_trust::entries_differ` meets its contract. The loop's invariant: no rampEntry before i is repeated. Assumes nothing.
 use mathlib.Core.Path.{_≡_, sym, ap, _∙_}
 use mathlib.Core.Bool.{false, not}
 use Prim.Native.Nat.{_-_, _≤_}
 use borrow.Author.Needs.{needs}
 use Rattle.laws.specs.Search.{some, repeated}
 use Rattle.laws.proofs.Search.{some-none, some-more, some-here, some-upto}
-use Rattle.store_trust.specs.Ramp.{entry, entriesDiffer}
+use Rattle.store_trust.specs.Ramp.{rampEntry, entriesDiffer}
 use Rattle.store_trust.proofs.entries_differ.Statement.{statement}
 use Rattle.store_trust.proofs.entries_differ.Tie as tie
 
 abbrev Inv-loop : tie.InvT-loop
-Inv-loop palettes first count channel i₀ i = (i ≤ count) × (some (repeated (entry palettes first channel)) i ≡ false)
+Inv-loop palettes first count channel i₀ i = (i ≤ count) × (some (repeated (rampEntry palettes first channel)) i ≡ false)
 
 abbrev μ-loop : tie.MeasureT-loop
 μ-loop palettes first count channel i₀ i = count - i

@@ -7,13 +7,13 @@ use lib.Dec.{lit<}
 use Rattle.laws.specs.Search.{some}
 use Rattle.laws.proofs.Search.{some-more}
 use Rattle.bc6_colour.proofs.Ends.{end-asks}
-use Rattle.store_copies.specs.Trust.{leastAt}
+use Rattle.store_copies.specs.Trust.{leastEnd}
 use Rattle.store_trust.proofs.Lowest.{end-least, end-inside, first-least, first-other, some-end, later-least, none-least}
 use Rattle.store_trust.proofs.has_least.Statement.{statement}
 use Rattle.store_trust.proofs.has_least.Tie as tie
 
 abbrev Inv-loop : tie.InvT-loop
-Inv-loop fields bits first e₀ e-end e = (1 ≤ e) × (e ≤ e-end) × (some (leastAt fields) e ≡ false)
+Inv-loop fields bits first e₀ e-end e = (1 ≤ e) × (e ≤ e-end) × (some (leastEnd fields) e ≡ false)
 
 abbrev μ-loop : tie.MeasureT-loop
 μ-loop fields bits first e₀ e-end e = e-end - e
@@ -75,7 +75,7 @@ loop-again c =
     let s = g .before .before in (
       search needs,
       search needs,
-      some-more (leastAt (s .args .fields)) _ (o .before .before .loop .inv .2)
+      some-more (leastEnd (s .args .fields)) _ (o .before .before .loop .inv .2)
           (sym (end-least (s .args .fields) (s .pre) _ (g .before .of .ensures) _ (end-inside (s .args .fields) _ _ (n .end-count .ensures) (search needs)) _ (o .other .ensures) (c .before .some-channel-least2 .ensures)) ∙ c .if2 .left),
     )
 

@@ -1,4 +1,4 @@
--- `store_trust::is_repeated` meets its contract. The loop's invariant: entry i is none of those before k. Assumes nothing.
+-- `store_trust::is_repeated` meets its contract. The loop's invariant: rampEntry i is none of those before k. Assumes nothing.
 use mathlib.Core.Path.{_≡_}
 use mathlib.Core.Bool.{false}
 use Prim.Native.Nat.{_-_, _≤_}
@@ -6,12 +6,12 @@ use borrow.Author.Needs.{needs}
 use borrow.Author.Tests.{eq-eqb, ne-eqb}
 use Rattle.laws.specs.Search.{some, equals}
 use Rattle.laws.proofs.Search.{some-none, some-more, some-here, some-upto}
-use Rattle.store_trust.specs.Ramp.{entry}
+use Rattle.store_trust.specs.Ramp.{rampEntry}
 use Rattle.store_trust.proofs.is_repeated.Statement.{statement}
 use Rattle.store_trust.proofs.is_repeated.Tie as tie
 
 abbrev Inv-loop : tie.InvT-loop
-Inv-loop palettes first channel i value k₀ k = (k ≤ i) × (some (equals (entry palettes first channel) i) k ≡ false)
+Inv-loop palettes first channel i value k₀ k = (k ≤ i) × (some (equals (rampEntry palettes first channel) i) k ≡ false)
 
 abbrev μ-loop : tie.MeasureT-loop
 μ-loop palettes first channel i value k₀ k = i - k

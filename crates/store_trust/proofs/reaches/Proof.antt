@@ -5,12 +5,12 @@ use Prim.Native.Nat.{_-_, _≤_}
 use borrow.Author.Needs.{needs}
 use Rattle.laws.specs.Search.{some}
 use Rattle.laws.proofs.Search.{some-none, some-more, some-here, some-upto}
-use Rattle.store_copies.specs.Trust.{isAt, reaches}
+use Rattle.store_copies.specs.Trust.{indexedAt, reaches}
 use Rattle.store_trust.proofs.reaches.Statement.{statement}
 use Rattle.store_trust.proofs.reaches.Tie as tie
 
 abbrev Inv-loop : tie.InvT-loop
-Inv-loop fields region n k₀ k = (k ≤ 16) × (some (isAt fields region n) k ≡ false)
+Inv-loop fields region n k₀ k = (k ≤ 16) × (some (indexedAt fields region n) k ≡ false)
 
 abbrev μ-loop : tie.MeasureT-loop
 μ-loop fields region n k₀ k = 16 - k

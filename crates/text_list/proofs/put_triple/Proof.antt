@@ -1,11 +1,11 @@
-use Rattle.text_list.specs.Lines.{tripleOf}
+use Rattle.text_list.specs.Lines.{hexTriple}
 use Rattle.text.proofs.Texts.{then}
 use borrow.Author.Needs.{needs}
 use Rattle.text_list.proofs.put_triple.Statement.{statement}
 use Rattle.text_list.proofs.put_triple.Tie as tie
 
 returns : tie.Need-returns
-unfolding tripleOf
+unfolding hexTriple
 returns c = (search needs, then (then (then (then (then (c .before .before .before .before .before .before .before .before .before .before .before .before .before .before .before .before .before .before .before .before .before .before .before .before .before .put-hex .ensures .1) (c .before .before .before .before .before .before .before .before .before .before .before .before .before .before .before .before .before .before .before .before .put .ensures .1)) (c .before .before .before .before .before .before .before .before .before .before .before .before .before .before .before .before .put-hex2 .ensures .1)) (c .before .before .before .before .before .before .before .before .before .before .before .put2 .ensures .1)) (c .before .before .before .before .before .before .before .put-hex3 .ensures .1)) (c .before .before .put3 .ensures .1))
 
 pub put-triple-spec : {M : Type 1} → statement M

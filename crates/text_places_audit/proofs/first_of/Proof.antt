@@ -3,13 +3,13 @@ use Prim.Native.Nat.{_≤_, _-_}
 use Rattle.laws.specs.First.{firstBelow}
 use Rattle.laws.proofs.Firsts.{first-none, first-more, first-end, first-at}
 use Rattle.store_faulty.specs.Faulty.{placedForm}
-use Rattle.text_places_audit.specs.Copies.{repeats, firstIn}
+use Rattle.text_places_audit.specs.Copies.{repeatsIn, firstIn}
 use borrow.Author.Needs.{needs}
 use Rattle.text_places_audit.proofs.first_of.Statement.{statement}
 use Rattle.text_places_audit.proofs.first_of.Tie as tie
 
 abbrev Inv-loop : tie.InvT-loop
-Inv-loop store n earlier₀ earlier = (earlier ≤ n) × (firstBelow (repeats placedForm store n) earlier ≡ earlier)
+Inv-loop store n earlier₀ earlier = (earlier ≤ n) × (firstBelow (repeatsIn placedForm store n) earlier ≡ earlier)
 
 abbrev μ-loop : tie.MeasureT-loop
 μ-loop store n earlier₀ earlier = n - earlier

@@ -12,7 +12,7 @@ use Rattle.bc6h_spec.specs.Layout.{ownWidth}
 use Rattle.bc6h_spec.specs.Picture.{endpoint}
 use Rattle.bc6_mode.specs.declared.ModeBits.{ModeBits}
 use Rattle.bc6_colour.specs.declared.Colour.{Colour}
-use Rattle.bc6_mode.specs.Modes.{bitsOf}
+use Rattle.bc6_mode.specs.Modes.{bitsFor}
 use Rattle.bc6_colour.specs.Colours.{endOf}
 use Rattle.bc6_colour.proofs.Ends.{colour-is, other-asks, other-is}
 use Rattle.bc6_colour.proofs.Colour.other.Statement.{statement}
@@ -32,15 +32,15 @@ unfolding endOf
 blue s = let h : SFits w32 (s .args .self .b) = search needs in toZ-ofZ w32 _ h ∙ ap (λ (x : Colour). x .b) (s .pre .1 .0)
 
 red-width : (s : tie.Start) → s .args .bits .r ≡ ownWidth (s .args .f .mode) 0
-unfolding bitsOf
+unfolding bitsFor
 red-width s = ap (λ (x : ModeBits). x .r) (s .pre .0 .1)
 
 green-width : (s : tie.Start) → s .args .bits .g ≡ ownWidth (s .args .f .mode) 1
-unfolding bitsOf
+unfolding bitsFor
 green-width s = ap (λ (x : ModeBits). x .g) (s .pre .0 .1)
 
 blue-width : (s : tie.Start) → s .args .bits .b ≡ ownWidth (s .args .f .mode) 2
-unfolding bitsOf
+unfolding bitsFor
 blue-width s = ap (λ (x : ModeBits). x .b) (s .pre .0 .1)
 
 other-end-requires : tie.Need-other-end-requires

@@ -5,10 +5,10 @@ use mathlib.Core.List.{List}
 use Prim.Native.Nat.{ℕ, _≤_, _<_}
 use lib.ListN.{length}
 use borrow.Author.Tests.{lt-ltb, le-ltb, eq-eqb, ne-eqb}
+use Rattle.laws.specs.Bit.{lowBytes}
 use Rattle.bc6h_spec.specs.declared.Fields.{Fields}
 use Rattle.bcn_spec.specs.Answers.{done, badFormat, invalidFields, badBuffer}
 use Rattle.bcn_spec.specs.Bits.{blockSize}
-use Rattle.bcn_spec.specs.Bits.{bytesOf}
 use Rattle.bc6h_spec.specs.Writer.{numberFrom, writtenBlock}
 use Rattle.bc6_valid.specs.Validity.{valid}
 use Rattle.bc6_writer.specs.Call.{BlockWritten}
@@ -33,10 +33,10 @@ module _ (f : Fields) (lent : List ℕ) where
             holds = rw (le-ltb 1 (f .format) k, sym e ∙ t, ne-eqb (length lent) blockSize n) refl;
           }
 
-      pub all-written : {after : List ℕ} {n : ℕ} → length lent ≡ blockSize → after ≡ bytesOf 16 n → n ≡ numberFrom f → BlockWritten f lent done after
+      pub all-written : {after : List ℕ} {n : ℕ} → length lent ≡ blockSize → after ≡ lowBytes 16 n → n ≡ numberFrom f → BlockWritten f lent done after
       unfolding writtenBlock
       all-written l ea en =
           record {
             answers = rw (le-ltb 1 (f .format) k, sym e ∙ t, eq-eqb (length lent) blockSize l) refl;
-            holds = rw (le-ltb 1 (f .format) k, sym e ∙ t, eq-eqb (length lent) blockSize l) (ea ∙ ap (bytesOf 16) en);
+            holds = rw (le-ltb 1 (f .format) k, sym e ∙ t, eq-eqb (length lent) blockSize l) (ea ∙ ap (lowBytes 16) en);
           }

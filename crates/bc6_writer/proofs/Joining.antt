@@ -9,10 +9,10 @@ use lib.Pow.{pow-add, pow-pos, shr-shr, high, shl-exact, shr-lt}
 use Rattle.laws.specs.Made.{made}
 use Rattle.laws.specs.Packed.{before, packed}
 use Rattle.laws.proofs.Rows.{made-front, made-cong}
+use Rattle.laws.specs.Bit.{lowBytes}
 use Rattle.bc6h_spec.specs.declared.Fields.{Fields}
 use Rattle.bc6h_spec.specs.Layout.{row, tableBits}
 use Rattle.bc6h_spec.specs.Fields.{indexOf, Valid}
-use Rattle.bcn_spec.specs.Bits.{bytesOf}
 use Rattle.bc6h_spec.specs.Writer.{scattered, atPlace, numberFrom}
 use Rattle.bc6h_spec.proofs.Once.{row-once}
 use Rattle.bc6h_spec.proofs.Gather.{scattered-lt}
@@ -107,8 +107,8 @@ next-byte n k =
     let e : 8 * suc k ≡ 8 + 8 * k = omega arith in
     ap (λ (x : ℕ). n / 2 ^ x % 256) e ∙ ap (λ (x : ℕ). x % 256) (sym (shr-shr n 8 (8 * k)))
 
-pub bytes-made : (t n : ℕ) → made (numberByte n) t ≡ bytesOf t n
-unfolding made numberByte
+pub bytes-made : (t n : ℕ) → made (numberByte n) t ≡ lowBytes t n
+unfolding made numberByte lowBytes
 bytes-made zero n = refl
 bytes-made (suc t) n =
     made-front (numberByte n) t

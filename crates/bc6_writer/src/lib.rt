@@ -9,12 +9,11 @@ use bcn_util::BitStream;
 ghost use mathlib.Core.Path.{_≡_};
 ghost use Prim.Native.Nat.{_/_, _%_, _<_, _≤_};
 ghost use lib.ListN.{length};
-ghost use Rattle.laws.specs.Bit.{bit};
+ghost use Rattle.laws.specs.Bit.{bit, lowBytes};
 ghost use Rattle.laws.specs.Made.{made};
 ghost use Rattle.laws.specs.Packed.{packed};
 ghost use Rattle.bc6h_spec.specs.Layout.{row};
 ghost use Rattle.bc6h_spec.specs.Fields.{codeOf, indexOf, Valid};
-ghost use Rattle.bcn_spec.specs.Bits.{bytesOf};
 ghost use Rattle.bc6h_spec.specs.Writer.{scattered, atPlace, numberFrom};
 ghost use Rattle.bc6_fields.specs.Places.{entry};
 ghost use Rattle.bcn_util.specs.Stream.{number};
@@ -144,7 +143,7 @@ fn byte_of(words: BitStream, k: usize) -> u8
 
 fn write_bytes(words: BitStream, out: &mut [u8])
     requires { ⌜ length (now out) ≡ 16 ⌝ }
-    ensures { λ _. ⌜ now (out .exit) ≡ bytesOf 16 (number words) ⌝ }
+    ensures { λ _. ⌜ now (out .exit) ≡ lowBytes 16 (number words) ⌝ }
 {
     for k in 0..16usize {
         out[k] = byte_of(words, k);

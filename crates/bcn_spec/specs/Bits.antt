@@ -1,7 +1,7 @@
 -- S-6: a block's bytes and bits, and the blocks of a run. Assumes nothing.
 use mathlib.Core.List.{List, [], _∷_}
 use mathlib.Core.Path.{_≡_}
-use Prim.Native.Nat.{ℕ, zero, suc, _+_, _*_, _/_, _%_, _<_}
+use Prim.Native.Nat.{ℕ, _+_, _*_, _/_, _%_, _<_}
 use lib.ListN.{length, getD, take, drop}
 use Rattle.laws.specs.Bit.{bit}
 use Rattle.laws.specs.Made.{made}
@@ -26,11 +26,6 @@ blockBits block = made (blockBit block) 128
 abbrev pub numberOf : List ℕ → ℕ
 numberOf [] = 0
 numberOf (byte ∷ bytes) = byte + 256 * numberOf bytes
-
--- S-6: t bytes of a number, the low byte first.
-abbrev pub bytesOf : ℕ → ℕ → List ℕ
-bytesOf zero n = []
-bytesOf (suc t) n = n % 256 ∷ bytesOf t (n / 256)
 
 -- S-61, S-64: a picture has at most 4,096 pixels along a side, and so 1,024 blocks.
 abbrev pub sizeLimit : ℕ

@@ -6,6 +6,7 @@ use mathlib.Core.List.{List}
 use Prim.Native.Nat.{ℕ, _+_, _-_, _*_, _/_, _%_, _≤_, _<_}
 use lib.ListN.{length, getD, take, drop}
 use Rattle.laws.specs.Order.{Reordered}
+use Rattle.laws.specs.Bit.{lowBytes}
 use Rattle.bc6h_spec.specs.declared.Fields.{Fields}
 use Rattle.bcn_spec.specs.Answers.{done}
 use Rattle.bcn_spec.specs.Bits.{blockSize, IsBlock, blocksIn, blockAt}
@@ -49,7 +50,7 @@ use Rattle.pfm_floats.specs.Half.{isNegative, exponentOf, halfValue, Is24ths, f
 use Rattle.pfm_header.specs.Header.{headerLength}
 use Rattle.pfm.specs.declared.PfmWritten.{PfmWritten}
 use Rattle.pfm.specs.File.{pixelBytes, PictureWritten}
-use Rattle.exr_header.specs.Header.{lowBytes, lineStart}
+use Rattle.exr_header.specs.Header.{lineStart}
 use Rattle.exr.specs.declared.ExrWritten.{ExrWritten}
 use Rattle.exr.specs.File as exr
 

@@ -7,14 +7,14 @@ use native.Mathlib.Omega.{arith}
 use lib.ListN.{length, getD, set, take, drop, length-append, length-drop}
 use lib.Seq.{sets, drop-drop, length-take-le}
 use Rattle.laws.proofs.Joined.{run-length, run-room}
+use Rattle.laws.specs.Bit.{lowBytes}
+use Rattle.laws.proofs.Digits.{length-low}
 use Rattle.bcn_spec.specs.Bits.{blockAt}
 use Rattle.bc6h_spec.specs.Picture.{isSigned}
 use Rattle.bc6h_spec.specs.Block.{pixelsOf}
 use Rattle.pfm_floats.proofs.Stores.{sets-append}
 use Rattle.pfm.proofs.Lines.{four-sets}
 use Rattle.pfm.proofs.Bands.{parts}
-use Rattle.exr_header.specs.Header.{lowBytes}
-use Rattle.exr_header.proofs.Numbers.{length-low}
 use Rattle.exr.specs.File.{headOf}
 use Rattle.exr.specs.Bands.{quarterOf, fourSets, channelSets, blockSets, headSets, cellAt, runAt, bandLine, bandAt, bandOf}
 use Rattle.exr.proofs.Lines.{lineUpto, line-start, line-length, line-step, line-end, twelve-sets}

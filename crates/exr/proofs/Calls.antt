@@ -8,6 +8,7 @@ use native.Mathlib.Omega.{arith}
 use lib.ListN.{length, take, drop, length-append, length-drop, drop-of-length-le}
 use lib.Seq.{take-at, drop-at, take-all, drop-drop}
 use borrow.Rule.Slice.PartMut.{midOf, putMid}
+use Rattle.laws.specs.Pick.{pick}
 use Rattle.bcn_spec.specs.Answers.{done}
 use Rattle.pfm.specs.File.{sizeWritable}
 use Rattle.pfm.proofs.Calls.{small, size-means, bytes-are, WriteKnown, write-known}
@@ -37,6 +38,10 @@ module _ (width height : ℕ) where
       let h : height ≤ 4096 = s .1 .most in
       let a : (8 + 6 * width) * height ≤ 24584 * 4096 = mul-le-mul {n₂ = 24584} {m₂ = 4096} (omega arith) h in
       record { first = omega arith; all = omega arith; front = omega arith }
+
+  pub length-pick : lengthOf width height ≡ pick (sizeWritable width height) (fileLength width height) 0
+  unfolding lengthOf
+  length-pick = refl
 
   pub length-none : sizeWritable width height ≡ false → 0 ≡ lengthOf width height
   unfolding lengthOf

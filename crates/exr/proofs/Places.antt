@@ -8,8 +8,9 @@ use lib.ListN.{length, take, drop}
 use lib.Seq.{drop-drop, drop-at}
 use Rattle.laws.proofs.Joined.{run-at}
 use Rattle.laws.proofs.Taken.{part-of-part}
+use Rattle.laws.specs.Bit.{lowBytes}
 use Rattle.bcn_spec.specs.Answers.{done}
-use Rattle.exr_header.specs.Header.{lowBytes, headerLength, lineLength, frontLength, lineStart, startBytes, tableOf, headerOf, frontOf}
+use Rattle.exr_header.specs.Header.{headerLength, lineLength, frontLength, lineStart, startBytes, tableOf, headerOf, frontOf}
 use Rattle.exr_header.proofs.Numbers.{header-length, front-length-is, start-length}
 use Rattle.exr.specs.declared.ExrWritten.{ExrWritten}
 use Rattle.exr.specs.File.{patternAt, halfAt, channelAt, headOf, valuesAt, lineAt, linesOf, fileIn, PictureWritten}

@@ -6,11 +6,12 @@ use native.Mathlib.Nat.{mul-comm}
 use native.Mathlib.Omega.{arith}
 use lib.ListN.{length, getD, length-append}
 use Rattle.laws.proofs.Joined.{run-fours, run-length}
+use Rattle.laws.specs.Bit.{lowBytes}
+use Rattle.laws.proofs.Digits.{length-low}
 use Rattle.bcn_spec.specs.Bits.{blockAt}
 use Rattle.bc6h_spec.specs.Picture.{isSigned}
 use Rattle.bc6h_spec.specs.Block.{pixelsOf}
-use Rattle.exr_header.specs.Header.{lowBytes, lineLength}
-use Rattle.exr_header.proofs.Numbers.{length-low}
+use Rattle.exr_header.specs.Header.{lineLength}
 use Rattle.exr.specs.File.{patternAt, halfAt, channelAt, headOf, lineAt, linesOf}
 use Rattle.exr.specs.Bands.{quarterOf, cellAt, runAt, bandLine, bandAt, bandOf, bandsOf}
 use Rattle.exr.proofs.Bands.{length-head}

@@ -4,10 +4,10 @@ use Prim.Native.Nat.{ℕ, _+_, _*_}
 use lib.ListN.{getD}
 use lib.Seq.{sets}
 use Rattle.laws.specs.Made.{made, join}
+use Rattle.laws.specs.Bit.{lowBytes}
 use Rattle.bc6h_spec.specs.Picture.{isSigned}
 use Rattle.bc6h_spec.specs.Block.{pixelsOf}
 use Rattle.bcn_spec.specs.Bits.{blockAt}
-use Rattle.exr_header.specs.Header.{lowBytes}
 use Rattle.exr.specs.File.{headOf}
 
 -- one channel of the four pixels of a row of a block

@@ -6,12 +6,13 @@ use lib.ListN.{length, getD, drop}
 use Rattle.laws.specs.Pick.{pick}
 use Rattle.laws.specs.Checks.{ifDone}
 use Rattle.laws.specs.Made.{made, join}
+use Rattle.laws.specs.Bit.{lowBytes}
 use Rattle.bcn_spec.specs.Answers.{done}
 use Rattle.bcn_spec.specs.Bits.{blockAt}
 use Rattle.bc6h_spec.specs.Picture.{isSigned}
 use Rattle.bc6h_spec.specs.Block.{pixelsOf}
 use Rattle.pfm.specs.File.{sizeWritable, refusalFor}
-use Rattle.exr_header.specs.Header.{lowBytes, frontOf, frontLength, lineLength}
+use Rattle.exr_header.specs.Header.{frontOf, frontLength, lineLength}
 use Rattle.exr.specs.declared.ExrWritten.{ExrWritten}
 
 -- ---- the file

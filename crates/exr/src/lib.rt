@@ -5,8 +5,8 @@ ghost use mathlib.Core.List.{_++_};
 ghost use Prim.Native.Nat.{_<_, _≤_, _+_, _*_};
 ghost use lib.ListN.{length, drop};
 ghost use lib.Seq.{sets};
+ghost use Rattle.laws.specs.Bit.{lowBytes};
 ghost use Rattle.bcn_spec.specs.Bits.{blockSize, sizeLimit, mostAcross};
-ghost use Rattle.exr_header.specs.Header.{lowBytes};
 ghost use Rattle.exr.specs.Bands.{quarterOf, channelSets, blockSets, headSets, bandAt, bandsOf};
 ghost use Rattle.exr.specs.File.{headOf, lengthOf, writeRefusal, PictureWritten};
 use bc6::block_pixels;
@@ -15,6 +15,7 @@ use bcn_spec::Block;
 use exr_header::front_length;
 use exr_header::put_front;
 use exr_header::put_number;
+use pfm::refusal_for;
 use pfm::size_even;
 
 // What the writing call answers: the file's bytes, 0 on a refusal.
@@ -143,19 +144,8 @@ pub fn exr_length(width: u32, height: u32) -> usize
 fn write_refusal(size: usize, format: u8, width: u32, height: u32, room: usize) -> u8
     ensures { λ r. ⌜ r ≡ writeRefusal size format width height room ⌝ }
 {
-    if 1 < format {
-        return Answer::BAD_FORMAT;
-    }
-    if !size_even(width, height) {
-        return Answer::UNEVEN_SIZE;
-    }
-    if size != (width / 4) as usize * (height / 4) as usize * Block::SIZE {
-        return Answer::BLOCKS_MISFIT;
-    }
-    if room < exr_length(width, height) {
-        return Answer::SHORT_OUTPUT;
-    }
-    Answer::DONE
+    let whole = exr_length(width, height);
+    refusal_for(whole, size, format, width, height, room)
 }
 
 // A picture of blocks in row order as an OpenEXR file.

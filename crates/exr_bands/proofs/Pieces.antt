@@ -6,13 +6,14 @@ use native.Mathlib.Omega.{arith}
 use lib.ListN.{getD}
 use Rattle.laws.specs.Made.{made, join}
 use Rattle.laws.proofs.Rows.{made-same}
+use Rattle.laws.specs.Bit.{lowBytes}
 use Rattle.bc6h_spec.specs.Picture.{isSigned}
 use Rattle.bc6h_spec.specs.Block.{pixelsOf}
 use Rattle.dds.specs.Dds.{blocksAlong}
 use Rattle.pfm_bands.specs.Bands.{bandIn, rowsIn}
 use Rattle.pfm_bands.proofs.Runs.{behind, run-pieces}
 use Rattle.pfm_bands.proofs.Pieces.{band-place}
-use Rattle.exr_header.specs.Header.{lowBytes, frontOf}
+use Rattle.exr_header.specs.Header.{frontOf}
 use Rattle.exr.specs.File.{patternAt, halfAt, channelAt, headOf, lineAt, linesOf, fileIn, fileOf}
 use Rattle.exr_bands.specs.Bands.{pictureOf, pieceLine, pieceOf, pieceDown}
 

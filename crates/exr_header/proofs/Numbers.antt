@@ -1,23 +1,20 @@
 -- Numbers as bytes, the front's length, and what each function that writes it shows. Assumes nothing.
 use mathlib.Core.Path.{_≡_, refl, sym, ap, ap₂, _∙_}
 use mathlib.Core.List.{List, _++_}
-use Prim.Native.Nat.{ℕ, zero, suc, _+_, _-_, _*_, _/_, _%_, _≤_, _<_}
+use Prim.Native.Nat.{ℕ, suc, _+_, _-_, _*_, _/_, _%_, _≤_, _<_}
 use native.Mathlib.Nat.{mul-le-mul}
 use native.Mathlib.Omega.{arith}
 use lib.ListN.{length, getD, set, length-append}
 use lib.Seq.{sets}
 use Rattle.laws.specs.Made.{made, join}
 use Rattle.laws.proofs.Joined.{run-more, run-length}
+use Rattle.laws.proofs.Digits.{length-low}
+use Rattle.laws.specs.Bit.{lowBytes}
 use Rattle.text.specs.Text.{Written}
 use Rattle.text.proofs.Texts.{sets-append}
-use Rattle.exr_header.specs.Header.{lowBytes, windowOf, startPart, dataPart, displayPart, cornerOf, screenPart, headerOf, headerLength, lineLength, frontLength, lineStart, startBytes, tableOf, frontOf}
+use Rattle.exr_header.specs.Header.{windowOf, startPart, dataPart, displayPart, cornerOf, screenPart, headerOf, headerLength, lineLength, frontLength, lineStart, startBytes, tableOf, frontOf}
 
 -- ---- a number
-
-pub length-low : (size n : ℕ) → length (lowBytes size n) ≡ size
-unfolding lowBytes
-length-low zero n = refl
-length-low (suc size) n = ap suc (length-low size (n / 256))
 
 -- read back: the bytes' sum is the number, where the number has no more bytes
 pub two-bytes : (n : ℕ) → n < 65536 → getD (lowBytes 2 n) 0 0 + 256 * getD (lowBytes 2 n) 1 0 ≡ n

@@ -1,14 +1,10 @@
 -- S-92: the front of an OpenEXR file as bytes: one part, scan lines, no compression, three channels of half-floats. Assumes nothing.
 use mathlib.Core.Path.{_≡_, refl}
 use mathlib.Core.List.{List, [], _∷_, _++_}
-use Prim.Native.Nat.{ℕ, zero, suc, _+_, _-_, _*_, _/_, _%_, _≤_}
+use Prim.Native.Nat.{ℕ, _+_, _-_, _*_, _≤_}
 use lib.ListN.{length}
 use Rattle.laws.specs.Made.{made, join}
-
--- n as so many bytes, the lowest first: every number of the file is in this order
-unfoldable pub lowBytes : ℕ → ℕ → List ℕ
-lowBytes zero n = []
-lowBytes (suc size) n = n % 256 ∷ lowBytes size (n / 256)
+use Rattle.laws.specs.Bit.{lowBytes}
 
 -- ---- the header
 

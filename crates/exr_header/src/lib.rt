@@ -4,8 +4,9 @@ ghost use mathlib.Core.Path.{_≡_};
 ghost use Prim.Native.Nat.{_≤_, _+_};
 ghost use lib.ListN.{length};
 ghost use lib.Seq.{sets};
+ghost use Rattle.laws.specs.Bit.{lowBytes};
 ghost use Rattle.text.specs.Text.{Written};
-ghost use Rattle.exr_header.specs.Header.{lowBytes, startPart, dataPart, displayPart, cornerOf, screenPart, headerOf};
+ghost use Rattle.exr_header.specs.Header.{startPart, dataPart, displayPart, cornerOf, screenPart, headerOf};
 ghost use Rattle.exr_header.specs.Header.{headerLength, tableOf, frontOf, frontLength, SizeFits};
 use text::put;
 

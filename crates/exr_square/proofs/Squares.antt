@@ -9,10 +9,12 @@ use lib.Seq.{sets}
 use Rattle.laws.specs.Made.{join}
 use Rattle.laws.proofs.Joined.{run-length}
 use Rattle.laws.proofs.Rows.{made-same}
+use Rattle.laws.specs.Bit.{lowBytes}
+use Rattle.laws.proofs.Digits.{length-low}
 use Rattle.text.specs.Text.{Written}
 use Rattle.text.proofs.Texts.{then}
-use Rattle.exr_header.specs.Header.{lowBytes, frontOf, frontLength}
-use Rattle.exr_header.proofs.Numbers.{length-low, front-length-is}
+use Rattle.exr_header.specs.Header.{frontOf, frontLength}
+use Rattle.exr_header.proofs.Numbers.{front-length-is}
 use Rattle.exr.specs.File.{headOf}
 use Rattle.exr.proofs.Bands.{length-head}
 use Rattle.exr_square.specs.Square.{squareValue, squareChannel, squareLine, squareLines, squareFile, squareRoom}

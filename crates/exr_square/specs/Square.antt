@@ -3,7 +3,8 @@ use mathlib.Core.List.{List, _++_}
 use Prim.Native.Nat.{ℕ, _+_, _*_}
 use lib.ListN.{getD}
 use Rattle.laws.specs.Made.{made, join}
-use Rattle.exr_header.specs.Header.{lowBytes, frontOf}
+use Rattle.laws.specs.Bit.{lowBytes}
+use Rattle.exr_header.specs.Header.{frontOf}
 use Rattle.exr.specs.File.{headOf}
 
 -- channel 0, 1 or 2 (red, green, blue) of pixel x of line y: the pattern as it is, its low byte first

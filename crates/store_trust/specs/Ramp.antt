@@ -21,7 +21,7 @@ rampedTwo block = take 9 block ++ ((getD block 9 0 % 32 + 0xA0) ∷ 0x11 ∷ 0x8
 unfoldable pub ramped : Bool → List ℕ → List ℕ
 ramped two block = pick two (rampedTwo block) (rampedOne block)
 
--- rampEntry i of a channel, in the 48 values of palettes, of the palette that starts at pixel `first`
+-- entry i of a channel, in the 48 values of palettes, of the palette that starts at pixel `first`
 abbrev pub rampEntry : List ℕ → ℕ → ℕ → ℕ → ℕ
 rampEntry palettes first channel i = getD palettes (3 * (first + i) + channel) 0
 

@@ -119,7 +119,7 @@ fn ramped(block: &[u8], two: bool) -> [u8; 16]
     ramped_one(block)
 }
 
-// The palettes of a block, three values an rampEntry.
+// The palettes of a block, three values an entry.
 fn palettes_of(block: &[u8], two: bool, format: u8) -> [u16; 48]
     requires { ⌜ (length (now block) ≡ 16) × (format ≤ 1) ⌝ }
     ensures { λ r. ⌜ r ≡ pixelsOf (isSigned format) (ramped two (now (block .entry))) ⌝ }

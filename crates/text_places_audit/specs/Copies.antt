@@ -28,7 +28,7 @@ repeatsIn form store n earlier =
     (both (eqb (form .format store n) (form .format store earlier))
     (both (not (eqb (modeOf (form .block store n)) 0)) (same (form .block store n) (form .block store earlier)))))
 
--- S-104: the first record that record n repeatsIn; n where there is none.
+-- S-104: the first record that record n repeats; n where there is none.
 unfoldable pub firstIn : RecordForm → List ℕ → ℕ → ℕ
 firstIn form store n = firstBelow (repeatsIn form store n) n
 

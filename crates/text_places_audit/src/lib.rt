@@ -62,7 +62,7 @@ fn is_repeat(store: &[u8], n: usize, earlier: usize) -> bool
     )
 }
 
-// The first record that record n repeatsIn; n where there is none.
+// The first record that record n repeats; n where there is none.
 fn first_of(store: &[u8], n: usize) -> usize
     ensures { λ r. ⌜ r ≤ n ⌝ }
     ensures { λ r. ⌜ r ≡ firstIn placedForm (now (store .entry)) n ⌝ }
@@ -86,7 +86,7 @@ fn put_where(text: &mut [u8], at: usize, store: &[u8], n: usize) -> usize
     put_place(text, end, place_at(store, n))
 }
 
-// The line of record n, which repeatsIn record `first`.
+// The line of record n, which repeats record `first`.
 fn put_copy(text: &mut [u8], at: usize, store: &[u8], n: usize, first: usize) -> usize
     requires { ⌜ at + 256 ≤ length (now text) ⌝ }
     requires { ⌜ n < placesIn (now store) ⌝ }

@@ -1,6 +1,7 @@
 -- `exr_header::put_data` meets its contract. Assumes nothing.
 use borrow.Author.Needs.{needs}
-use Rattle.exr_header.specs.Header.{lowBytes, dataPart}
+use Rattle.laws.specs.Bit.{lowBytes}
+use Rattle.exr_header.specs.Header.{dataPart}
 use Rattle.exr_header.proofs.put_data.Statement.{statement}
 use Rattle.exr_header.proofs.put_data.Tie as tie
 

@@ -1,6 +1,7 @@
 -- `exr_header::put_display` meets its contract. Assumes nothing.
 use borrow.Author.Needs.{needs}
-use Rattle.exr_header.specs.Header.{lowBytes, displayPart}
+use Rattle.laws.specs.Bit.{lowBytes}
+use Rattle.exr_header.specs.Header.{displayPart}
 use Rattle.exr_header.proofs.put_display.Statement.{statement}
 use Rattle.exr_header.proofs.put_display.Tie as tie
 

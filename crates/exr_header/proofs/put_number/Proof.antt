@@ -4,7 +4,7 @@ use Prim.Native.Nat.{_+_, _-_, _≤_}
 use lib.ListN.{length, length-set}
 use lib.Seq.{sets}
 use borrow.Author.Needs.{needs}
-use Rattle.exr_header.specs.Header.{lowBytes}
+use Rattle.laws.specs.Bit.{lowBytes}
 use Rattle.exr_header.proofs.Numbers.{number-start, number-more, number-whole}
 use Rattle.exr_header.proofs.put_number.Statement.{statement}
 use Rattle.exr_header.proofs.put_number.Tie as tie

@@ -1,6 +1,7 @@
 -- `exr_header::put_screen` meets its contract. Assumes nothing.
 use borrow.Author.Needs.{needs}
-use Rattle.exr_header.specs.Header.{lowBytes, screenPart}
+use Rattle.laws.specs.Bit.{lowBytes}
+use Rattle.exr_header.specs.Header.{screenPart}
 use Rattle.exr_header.proofs.put_screen.Statement.{statement}
 use Rattle.exr_header.proofs.put_screen.Tie as tie
 

@@ -1,6 +1,7 @@
 -- `exr_header::put_start` meets its contract. Assumes nothing.
 use borrow.Author.Needs.{needs}
-use Rattle.exr_header.specs.Header.{lowBytes, startPart}
+use Rattle.laws.specs.Bit.{lowBytes}
+use Rattle.exr_header.specs.Header.{startPart}
 use Rattle.exr_header.proofs.put_start.Statement.{statement}
 use Rattle.exr_header.proofs.put_start.Tie as tie
 

@@ -1,4 +1,4 @@
--- `store_trust::entries_differ` meets its contract. The loop's invariant: no rampEntry before i is repeated. Assumes nothing.
+-- `store_trust::entries_differ` meets its contract. The loop's invariant: no entry before i is repeated. Assumes nothing.
 use mathlib.Core.Path.{_≡_, sym, ap, _∙_}
 use mathlib.Core.Bool.{false, not}
 use Prim.Native.Nat.{_-_, _≤_}

@@ -1,4 +1,4 @@
--- `store_trust::is_repeated` meets its contract. The loop's invariant: rampEntry i is none of those before k. Assumes nothing.
+-- `store_trust::is_repeated` meets its contract. The loop's invariant: entry i is none of those before k. Assumes nothing.
 use mathlib.Core.Path.{_≡_}
 use mathlib.Core.Bool.{false}
 use Prim.Native.Nat.{_-_, _≤_}

@@ -21,7 +21,7 @@ use Rattle.bc7_blocks.specs.Run as bc7-run
 use Rattle.store_records.specs.Store as records
 use Rattle.store_spec.specs.declared.TwinList.{TwinList}
 use Rattle.store_spec.specs.Twins as twins
-use Rattle.store_strict.specs.Strict as strict
+use Rattle.store_twins.specs.Strict as strict
 use Rattle.store_clean.specs.Clean as clean
 use Rattle.store_receipt.specs.Receipt as receipt
 use Rattle.store_restore.specs.Restore as restore

@@ -7,7 +7,7 @@ use lib.ListN.{length}
 use Rattle.store_copies.specs.Trust.{trusted}
 use Rattle.store_records.specs.Store.{tileAt}
 use Rattle.store_spec.specs.Twins.{firstTwin}
-use Rattle.store_strict.specs.Strict.{firstDamaged}
+use Rattle.store_twins.specs.Strict.{firstDamaged}
 use Rattle.store_clean.specs.Clean.{firstOf}
 use Rattle.store_covered.specs.CleanUp.{covered, byDemand3}
 use Rattle.probe.specs.Probe.{probeFault}

@@ -26,7 +26,7 @@ use Rattle.store_records.specs.declared.RecordReading.{RecordReading}
 use Rattle.store_records.specs.Store as records
 use Rattle.store_spec.specs.declared.TwinList.{TwinList}
 use Rattle.store_spec.specs.Twins.{Listed, ListedIn}
-use Rattle.store_strict.specs.Strict.{StrictlyListed}
+use Rattle.store_twins.specs.Strict.{StrictlyListed}
 use Rattle.store_clean.specs.declared.Cleaned.{Cleaned}
 use Rattle.store_clean.specs.Clean.{CleanedInto}
 use Rattle.store_receipt.specs.Receipt.{ReceiptInto}

@@ -18,8 +18,8 @@ use Rattle.store_records.proofs.Readings.{unrefused, refused}
 use Rattle.store_spec.specs.declared.TwinList.{TwinList}
 use Rattle.store_spec.specs.Twins.{refusal, Listed, ListedIn}
 use Rattle.store_spec.proofs.Listing.{refused-alone, counts-add-up, whole, list-is, silent-in}
-use Rattle.store_strict.specs.Strict.{StrictlyListed}
-use Rattle.store_strict.proofs.Strictness as strict
+use Rattle.store_twins.specs.Strict.{StrictlyListed}
+use Rattle.store_twins.proofs.Strictness as strict
 use Rattle.knotpasture.specs.Store.{recordWord, readingWord, offsetAt, twinsWord, TwinsCalled, StrictCalled, TwinsInCalled}
 
 -- ---- the record calls

@@ -6,7 +6,7 @@ use lib.ListN.{length}
 use Rattle.store_records.specs.Store.{recordSize, headSize, tileOf, formatOf, recordRefusal}
 use Rattle.store_spec.specs.declared.TwinList.{TwinList}
 use Rattle.store_spec.specs.Twins.{listRefusal, answerAt, marksAt, scratchRefusal, scratchAt}
-use Rattle.store_strict.specs.Strict.{strictRefusal}
+use Rattle.store_twins.specs.Strict.{strictRefusal}
 
 -- S-40, S-87: a record: 0 in the low byte, the format in the next, the tile in the high half; a refusal: its number alone
 abbrev pub recordWord : ℕ → List ℕ → ℕ → ℕ

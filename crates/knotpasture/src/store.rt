@@ -8,7 +8,7 @@ ghost use Rattle.store_copies.specs.Trust.{trusted};
 ghost use Rattle.store_covered.specs.CleanUp.{covered};
 ghost use Rattle.store_records.specs.Store.{mostRecords, recordRefusal, tileAt};
 ghost use Rattle.store_spec.specs.Twins.{firstTwin};
-ghost use Rattle.store_strict.specs.Strict.{firstDamaged};
+ghost use Rattle.store_twins.specs.Strict.{firstDamaged};
 ghost use Rattle.knotpasture.specs.Store.{readingWord, offsetAt, twinsWord, TwinsCalled, StrictCalled, TwinsInCalled};
 
 #[no_mangle]
@@ -62,7 +62,7 @@ pub extern "C" fn knot_twin_list(store: &[u8], marks: &mut [u8]) -> u64
 pub extern "C" fn knot_strict_twin_list(store: &[u8], marks: &mut [u8]) -> u64
     ensures { λ r. ⌜ StrictCalled (now (store .entry)) (now (marks .entry)) r (now (marks .exit)) ⌝ }
 {
-    list_word(store_strict::strict_twin_list(store, marks))
+    list_word(store_twins::strict_twin_list(store, marks))
 }
 
 #[no_mangle]
@@ -76,7 +76,7 @@ pub extern "C" fn knot_twin_list_in(store: &[u8], marks: &mut [u8], scratch: &mu
 pub extern "C" fn knot_first_damaged(store: &[u8]) -> usize
     ensures { λ r. ⌜ r ≡ firstDamaged (now (store .entry)) ⌝ }
 {
-    store_strict::first_damaged(store)
+    store_twins::first_damaged(store)
 }
 
 #[no_mangle]

@@ -9,8 +9,8 @@ use Rattle.store_records.specs.Store.{recordsIn, mostRecords}
 use Rattle.store_spec.specs.declared.TwinList.{TwinList}
 use Rattle.store_spec.specs.Twins.{listRefusal, answerAt, Listed}
 use Rattle.store_spec.proofs.Listing as listed
-use Rattle.store_strict.specs.Strict.{StrictlyListed}
-use Rattle.store_strict.proofs.Strictness as strictly
+use Rattle.store_twins.specs.Strict.{StrictlyListed}
+use Rattle.store_twins.proofs.Strictness as strictly
 use Rattle.text.specs.Text.{refusalLine, Written}
 use Rattle.text.proofs.Texts.{then, said}
 use Rattle.text_list.specs.Lines.{linesOf, countsLine}

@@ -7,7 +7,7 @@ use Rattle.laws.specs.Pick.{pick}
 use Rattle.laws.specs.Made.{countOf}
 use Rattle.store_records.specs.Store.{recordsIn, mostRecords}
 use Rattle.store_spec.specs.Twins.{keptMark, twinMark, badMark, marksOf, listRefusal}
-use Rattle.store_strict.specs.Strict.{strictRefusal}
+use Rattle.store_twins.specs.Strict.{strictRefusal}
 use Rattle.text.specs.Text.{refusalLine}
 use Rattle.text_list.specs.Lines.{linesOf, countsLine}
 

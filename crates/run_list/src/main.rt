@@ -5,9 +5,10 @@ ghost use mathlib.Core.Path.{_≡_};
 ghost use Prim.Native.Nat.{_+_, _*_, _≤_};
 ghost use lib.ListN.{length};
 ghost use Rattle.bcn_spec.specs.Answers.{done};
-ghost use Rattle.store_records.specs.Store.{mostRecords};
+ghost use Rattle.store_records.specs.Store.{storeLimit, mostRecords};
 ghost use Rattle.store_spec.specs.Twins.{Listed};
 ghost use Rattle.text.specs.Text.{Written};
+ghost use Rattle.run_streams.specs.Output.{Outgoing};
 ghost use Rattle.run_list.specs.Listing.{listingRefusal, listingOf};
 use bcn_spec::Answer;
 use raw_bytes::same_bytes;
@@ -19,8 +20,8 @@ use run_streams::tell;
 use run_streams::write_text;
 use store_records::record_count;
 use store_spec::TwinList;
-use store_strict::first_damaged;
-use store_strict::strict_twin_list;
+use store_twins::first_damaged;
+use store_twins::strict_twin_list;
 use store_twins::twin_list;
 use text::put;
 use text::put_count;
@@ -80,6 +81,13 @@ fn tell_damaged(store: &[u8]) {
     tell(&text, end);
 }
 
+// What goes out is the definition of what was read.
+fn write_listing(input: &[u8], size: usize, text: &[u8], end: usize, strict: bool)
+    requires { ⌜ Outgoing (listingOf strict) storeLimit (now input) size (now text) end ⌝ }
+{
+    write_text(text, end);
+}
+
 fn main() {
     let mut input = [0u8; STORE_INPUT];
     let Input::Whole(size) = read_input(&mut input) else {
@@ -89,7 +97,7 @@ fn main() {
     let strict = is_strict();
     let store = first_bytes(&input, size);
     let end = put_listing(&mut text, store, strict);
-    write_text(&text, end);
+    write_listing(&input, size, &text, end, strict);
     if strict {
         tell_damaged(store);
     }

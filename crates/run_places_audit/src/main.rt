@@ -1,10 +1,20 @@
 // Audits a store of records with a place: reads it from standard input and writes its audit.
 
+ghost use Rattle.probe_places.specs.Places.{placeLimit};
+ghost use Rattle.text_places_audit.specs.Audit.{auditOf};
+ghost use Rattle.run_streams.specs.Output.{Outgoing};
 use run_streams::Input;
 use run_streams::first_bytes;
 use run_streams::read_input;
 use run_streams::write_text;
 use text_places_audit::put_places_audit;
+
+// What goes out is the definition of what was read.
+fn write_audit(input: &[u8], size: usize, text: &[u8], end: usize)
+    requires { ⌜ Outgoing auditOf placeLimit (now input) size (now text) end ⌝ }
+{
+    write_text(text, end);
+}
 
 fn main() {
     let mut input = [0u8; text_places_audit::INPUT];
@@ -13,5 +23,5 @@ fn main() {
     };
     let mut text = [0u8; text_places_audit::ROOM];
     let end = put_places_audit(&mut text, first_bytes(&input, size));
-    write_text(&text, end);
+    write_audit(&input, size, &text, end);
 }

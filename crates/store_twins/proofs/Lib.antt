@@ -1,1 +1,2 @@
 pub mod Reserved
+pub mod Strictness

@@ -1,4 +1,5 @@
-// The twin list: which records of a store hold the same picture, in the same format, as an earlier one. Each record is decoded once.
+// The twin list: which records of a store hold the same picture, in the same format, as an earlier one. Each record is decoded once. The strict
+// list refuses a store with a damaged record, one that is not refused and has a reserved mode.
 
 ghost use mathlib.Core.Path.{_≡_};
 ghost use mathlib.Core.List.{_++_};
@@ -9,14 +10,17 @@ ghost use Rattle.store_records.specs.Store.{recordsIn, formatOf, Unrefused};
 ghost use Rattle.store_spec.specs.Shown.{pictureAt};
 ghost use Rattle.store_spec.specs.Scratch.{scratchEntry, picturesOf, scratchOf};
 ghost use Rattle.store_spec.specs.Twins.{showing, firstTwin, Listed, ListedIn};
+ghost use Rattle.store_twins.specs.Strict.{damaged, firstDamaged, StrictlyListed};
 use bc6::block_pixels;
 use bc6h_spec::Picture;
 use bcn_spec::Answer;
 use store_marks::count_of;
 use store_marks::holds_picture;
+use store_marks::list_refusal;
 use store_marks::mark_records;
 use store_marks::same_picture;
 use store_marks::scratch_refusal;
+use store_records::Record;
 use store_records::RecordReading;
 use store_records::record_at;
 use store_records::record_block;
@@ -119,4 +123,47 @@ pub fn first_twin(store: &[u8], n: usize) -> usize
         }
     }
     n
+}
+
+// ---- the strict list
+
+// Record n is not refused and has a reserved mode.
+fn is_damaged(store: &[u8], n: usize) -> bool
+    ensures { λ r. ⌜ r ≡ damaged (now (store .entry)) n ⌝ }
+{
+    let RecordReading::Record(_) = record_at(store, n) else {
+        return false;
+    };
+    mode_at(store, n) == 0
+}
+
+// The first damaged record; the number of records where there is none. In a store that is too long or uneven every record is refused,
+// so none is damaged.
+pub fn first_damaged(store: &[u8]) -> usize
+    ensures { λ r. ⌜ r ≡ firstDamaged (now (store .entry)) ⌝ }
+{
+    let count = record_count(store);
+    if store.len() > Record::STORE {
+        return count;
+    }
+    for n in 0..count {
+        if is_damaged(store, n) {
+            return n;
+        }
+    }
+    count
+}
+
+// The twin list of a store, which is refused whole where a record is damaged.
+pub fn strict_twin_list(store: &[u8], marks: &mut [u8]) -> TwinList
+    ensures { λ r. ⌜ StrictlyListed (now (store .entry)) (now (marks .entry)) r (now (marks .exit)) ⌝ }
+{
+    let ordinary = list_refusal(store, marks.len());
+    if ordinary != Answer::DONE {
+        return TwinList::refused(ordinary);
+    }
+    if first_damaged(store) < record_count(store) {
+        return TwinList::refused(Answer::RESERVED_BLOCK);
+    }
+    twin_list(store, marks)
 }

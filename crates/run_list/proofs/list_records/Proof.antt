@@ -1,4 +1,4 @@
-use Rattle.store_strict.proofs.Strictness as strictly
+use Rattle.store_twins.proofs.Strictness as strictly
 use Rattle.run_list.proofs.Whole as texts
 use borrow.Author.Needs.{needs}
 use Rattle.run_list.proofs.list_records.Statement.{statement}

@@ -3,10 +3,10 @@ use mathlib.Core.Path.{_≡_, sym, _∙_}
 use Prim.Native.Nat.{_≤_, _-_}
 use Rattle.laws.specs.First.{firstBelow}
 use Rattle.laws.proofs.Firsts.{first-none, first-more, first-end, first-at}
-use Rattle.store_strict.specs.Strict.{damaged, firstDamaged}
-use Rattle.store_strict.proofs.Strictness.{long-none}
-use Rattle.store_strict.proofs.first_damaged.Statement.{statement}
-use Rattle.store_strict.proofs.first_damaged.Tie as tie
+use Rattle.store_twins.specs.Strict.{damaged, firstDamaged}
+use Rattle.store_twins.proofs.Strictness.{long-none}
+use Rattle.store_twins.proofs.first_damaged.Statement.{statement}
+use Rattle.store_twins.proofs.first_damaged.Tie as tie
 
 abbrev Inv-loop : tie.InvT-loop
 Inv-loop store count n₀ n = (n ≤ count) × (firstBelow (damaged store) n ≡ n)

@@ -1,8 +1,8 @@
 use borrow.Author.Needs.{needs}
 use Rattle.store_records.proofs.Readings.{unrefused, refused}
-use Rattle.store_strict.proofs.Strictness.{damaged-refused, damaged-mode}
-use Rattle.store_strict.proofs.is_damaged.Statement.{statement}
-use Rattle.store_strict.proofs.is_damaged.Tie as tie
+use Rattle.store_twins.proofs.Strictness.{damaged-refused, damaged-mode}
+use Rattle.store_twins.proofs.is_damaged.Statement.{statement}
+use Rattle.store_twins.proofs.is_damaged.Tie as tie
 
 returns : tie.Need-returns
 returns c = damaged-refused _ _ (refused (c .before .before .record-at .ensures) (c .enum-told2 .given .1))

@@ -1,8 +1,8 @@
 use borrow.Author.Needs.{needs}
 use mathlib.Core.Path.{sym, _∙_}
-use Rattle.store_strict.proofs.Strictness as laws
-use Rattle.store_strict.proofs.strict_twin_list.Statement.{statement}
-use Rattle.store_strict.proofs.strict_twin_list.Tie as tie
+use Rattle.store_twins.proofs.Strictness as laws
+use Rattle.store_twins.proofs.strict_twin_list.Statement.{statement}
+use Rattle.store_twins.proofs.strict_twin_list.Tie as tie
 
 returns : tie.Need-returns
 returns c = laws.strictly-refused _ _ _ (c .before .before .list-refusal .ensures) (c .before .if1 .taken) (c .refused .ensures)

@@ -17,7 +17,7 @@ use Rattle.store_records.proofs.Refusals.{known}
 use Rattle.store_spec.specs.declared.TwinList.{TwinList}
 use Rattle.store_spec.specs.Shown.{isRecord}
 use Rattle.store_spec.specs.Twins.{listRefusal, refusal, answerAt, Listed}
-use Rattle.store_strict.specs.Strict.{Damaged, damaged, firstDamaged, orDamaged, strictRefusal, StrictlyListed}
+use Rattle.store_twins.specs.Strict.{Damaged, damaged, firstDamaged, orDamaged, strictRefusal, StrictlyListed}
 use Rattle.store_spec.proofs.Shown.{is-record, is-refused}
 use Rattle.store_spec.proofs.Listing as ordinary
 

@@ -25,5 +25,5 @@ def run(asked):
     data = house.read(asked.file, MOST)
     told = house.ask("run_pfm", data, lambda answer: is_whole(data, answer))
     if told[0] != 0:
-        raise refused(told[0], data, MOST_SIDE, as_pfm=True)
+        raise refused(told[0], data, MOST_SIDE, most_bytes=MOST, as_pfm=True)
     house.write_whole(asked.out, told[1:])

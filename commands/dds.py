@@ -91,14 +91,19 @@ def block_bytes(width, height):
     return (width + 3) // 4 * ((height + 3) // 4) * house.BLOCK
 
 
+def told_of(given, first_level):
+    """What the proved program says of the bytes of a file, or of an open one: the number, the format's number, width and height."""
+    told = house.ask("run_dds", given, lambda answer: len(answer) == 6 and answer[1] < len(NAMES), ["--first-level"] if first_level else [])
+    return told[0], told[1], *(int.from_bytes(told[at:at + 2], "little") for at in (2, 4))
+
+
 def read(path, first_level=False):
     """A file's width, height, format and block bytes, those of the first level where it has several."""
     data = house.read(path, MOST)
-    told = house.ask("run_dds", data, lambda answer: len(answer) == 6 and answer[1] < len(NAMES), ["--first-level"] if first_level else [])
-    if told[0] != 0:
-        raise refused(told[0], data, first_level=first_level)
-    width, height = (int.from_bytes(told[at:at + 2], "little") for at in (2, 4))
-    return width, height, NAMES[told[1]], data[HEADER:HEADER + block_bytes(width, height)]
+    number, form, width, height = told_of(data, first_level)
+    if number != 0:
+        raise refused(number, data, first_level=first_level)
+    return width, height, NAMES[form], data[HEADER:HEADER + block_bytes(width, height)]
 
 
 def show(asked):

@@ -13,7 +13,6 @@ number, a refused store or record likewise, and nothing is written: 8 there is n
 """
 import os
 import re
-import struct
 
 from . import dds, faces, house, kinds, pictures, probe, screen
 from .line import AS_STORE, FORM, Line, Option
@@ -39,8 +38,6 @@ LINE = Line(
 )
 MOST_STOPS = 100
 HEADER = dds.HEADER
-# The number by which run_probe is asked for a face.
-FACE_KINDS = {"pfm": probe.FACE, "exr": probe.FACE_EXR}
 
 
 # ---- what is asked for
@@ -83,11 +80,10 @@ def hold_options(asked):
 def texture(asked):
     """The picture of a DDS file, whose header and length the proved program has taken."""
     file = house.opened(asked.file, dds.MOST)
-    told = house.ask("run_dds", file, lambda answer: len(answer) == 6 and answer[1] <= pictures.BC7_SRGB, ["--first-level"] if asked.first_level else [])
-    if told[0] != 0:
-        raise dds.refused(told[0], house.some_of(file, 0, HEADER), length=house.read_through(file, dds.MOST), first_level=asked.first_level, or_store=True)
-    width, height = struct.unpack("<HH", told[2:])
-    return pictures.Picture(width, height, told[1], lambda at, size: house.part(file, HEADER + at, size))
+    number, form, width, height = dds.told_of(file, asked.first_level)
+    if number != 0:
+        raise dds.refused(number, house.some_of(file, 0, HEADER), length=house.read_through(file, dds.MOST), first_level=asked.first_level, or_store=True)
+    return pictures.Picture(width, height, form, lambda at, size: house.part(file, HEADER + at, size))
 
 
 def tile(asked):
@@ -156,14 +152,6 @@ def tile_exposure(picture):
 # ---- probes
 
 
-def face_file(store, edge, face, kind):
-    """A face as the proved program writes it."""
-    _, head, rest = pictures.FLOATS[kind]
-    start = head(4 * edge, 4 * edge)
-    size = len(start) + rest(4 * edge, 4 * edge)
-    return probe.answer_of(store, FACE_KINDS[kind], edge, face, lambda answer, _: answer.startswith(start) and len(answer) == size)
-
-
 def export_probe(asked, kind, stops):
     """One face, or all six: what is refused is refused before the first file is written."""
     hold_half_floats(kind, "a probe")
@@ -173,7 +161,7 @@ def export_probe(asked, kind, stops):
         house.keep_apart(out, asked.probe)
     store = kinds.placed_to_change(asked.probe, asked.as_store)
     edge = int(probe.answer_of(store, probe.FIT, 0, 0, probe.is_told(None)).split()[2])
-    files = {face: face_file(store, edge, face, "exr" if kind == "png" else kind) for face in wanted}
+    files = {face: probe.face_file(store, edge, face, "exr" if kind == "png" else kind) for face in wanted}
     if kind == "png":
         write_faces(asked, store, edge, files, outs, stops)
         return
@@ -193,7 +181,7 @@ def write_faces(asked, store, edge, files, outs, stops):
     """Faces as PNGs, all at one exposure: without --exposure at the one of the whole probe."""
     chosen = stops is None
     if chosen:
-        whole = [files.get(face) or face_file(store, edge, face, "exr") for face in range(len(faces.NAMES))]
+        whole = [files.get(face) or probe.face_file(store, edge, face, "exr") for face in range(len(faces.NAMES))]
         stops = pictures.exposure_of([pictures.Face(4 * edge, file) for file in whole])
     for out, file in zip(outs, files.values()):
         write_next(pictures.write_png, out, pictures.Face(4 * edge, file), stops)

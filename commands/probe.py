@@ -32,6 +32,8 @@ LINE = Line(
     choices={"FACE": faces.NAMES},
 )
 TELL, FACE, FIT, FACE_EXR = range(4)
+# The number by which the program is asked for a face, by the kind of the file.
+FACE_KINDS = {"pfm": FACE, "exr": FACE_EXR}
 # The program takes an edge and a face of four bytes: a higher number is refused as this one is.
 MOST = 2**32 - 1
 REFUSED = rb"store refused ([0-9]+)(?: record ([0-9]+))?\n"
@@ -47,10 +49,6 @@ def reason(number, kind, face, record, length):
     if number == 24:
         return faces.no_face(face)
     return house.meaning(number) + (f": record {record['record']}" if record else "")
-
-
-def ask(asked, kind, edge, face, is_whole):
-    return answer_of(kinds.placed_to_change(asked.store, asked.as_store), kind, edge, face, is_whole)
 
 
 def answer_of(store, kind, edge, face, is_whole):
@@ -91,15 +89,21 @@ def is_told(edge):
 
 
 def tell(asked, edge):
-    answer = ask(asked, FIT if edge is None else TELL, edge or 0, 0, is_told(edge))
+    store = kinds.placed_to_change(asked.store, asked.as_store)
+    answer = answer_of(store, FIT if edge is None else TELL, edge or 0, 0, is_told(edge))
     house.put(facts(asked, int(answer.split()[2]), house.read_last))
+
+
+def face_file(store, edge, face, kind):
+    """A face as the proved program writes it: a Portable Float Map or an OpenEXR file."""
+    from . import pictures
+    start, size = pictures.start_and_size(kind, BLOCK_SIDE * edge, BLOCK_SIDE * edge)
+    return answer_of(store, FACE_KINDS[kind], edge, face, lambda answer, _: answer.startswith(start) and len(answer) == size)
 
 
 def write_face(asked, edge, face):
     house.keep_apart(asked.out, asked.store)
-    head = b"PF\n%d %d\n-1.0\n" % (4 * edge, 4 * edge)
-    size = len(head) + 12 * (4 * edge) ** 2
-    house.write_whole(asked.out, ask(asked, FACE, edge, face, lambda answer, _: answer.startswith(head) and len(answer) == size))
+    house.write_whole(asked.out, face_file(kinds.placed_to_change(asked.store, asked.as_store), edge, face, "pfm"))
 
 
 def unfit(number, path, words):

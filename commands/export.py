@@ -13,34 +13,31 @@ number, a refused store or record likewise, and nothing is written: 8 there is n
 """
 import os
 import re
-import struct
 
 from . import dds, faces, house, kinds, pictures, probe, screen
-from .line import AS_STORE, Line, Option
+from .line import AS_STORE, FORM, Line, Option
 
+KINDS = ["pfm", "exr", "png", "pam"]
 LINE = Line(
     "FILE OUT",
     "STORE N OUT",
     "PROBE --face F OUT",
     "PROBE --all OUT",
     options=[
-        Option("--face", "write face F of a probe"),
+        Option("--face", "write face F of a probe", "F"),
         Option("--all", "write all six faces"),
         Option("--exposure", "the exposure of a PNG; without it the one that the page opens with", "STOPS"),
         Option("--first-level", "take the first level of a DDS file that has mip levels"),
-        Option("--kind", "pfm, exr, png or pam, where the name of OUT does not say it", "KIND"),
+        Option("--kind", "what is written, where the name of OUT does not say it", "|".join(KINDS)),
+        FORM,
         AS_STORE,
     ],
     example="knot export samples/five.dds five.exr\nknot export samples/five.dds five.png --exposure -2\nknot export samples/four.store 1 tile.pfm\n"
     "knot export samples/small.probe --all face.exr",
     dashed=faces.DASHED,
 )
-KINDS = ["pfm", "exr", "png", "pam"]
-FACES = 6
 MOST_STOPS = 100
 HEADER = dds.HEADER
-# The number by which run_probe is asked for a face.
-FACE_KINDS = {"pfm": probe.FACE, "exr": probe.FACE_EXR}
 
 
 # ---- what is asked for
@@ -73,6 +70,8 @@ def hold_options(asked):
         raise house.Usage("--first-level is for a DDS file, and a store has no levels")
     if asked.as_store and asked.file is not None:
         raise house.Usage("--as-store is for a store, and a DDS file has a header")
+    if asked.form is not None and asked.store is None:
+        raise house.Usage("--form is for a record of a store")
 
 
 # ---- pictures
@@ -80,21 +79,19 @@ def hold_options(asked):
 
 def texture(asked):
     """The picture of a DDS file, whose header and length the proved program has taken."""
-    file = house.opened(asked.file, HEADER + dds.MOST_CHAIN)
-    told = house.ask("run_dds", file, lambda answer: len(answer) == 6 and answer[1] <= pictures.BC7_SRGB, ["--first-level"] if asked.first_level else [])
-    if told[0] != 0:
-        raise dds.refused(told[0], os.pread(file, HEADER, 0), first_level=asked.first_level)
-    width, height = struct.unpack("<HH", told[2:])
-    return pictures.Picture(width, height, told[1], lambda at, size: house.part(file, HEADER + at, size))
+    file = house.opened(asked.file, dds.MOST)
+    number, form, width, height = dds.told_of(file, asked.first_level)
+    if number != 0:
+        raise dds.refused(number, house.some_of(file, 0, HEADER), length=house.read_through(file, dds.MOST), first_level=asked.first_level, or_store=True)
+    return pictures.Picture(width, height, form, lambda at, size: house.part(file, HEADER + at, size))
 
 
 def tile(asked):
     """The picture of a record of a store, of the form that fits it."""
-    n, data = house.number(asked.n, "N"), house.read(asked.store, kinds.MOST)
-    reading = kinds.likelier_reading(data)
-    looks = None if asked.as_store else kinds.looks_like(data, reading.form)
-    if looks:
-        raise house.Refused(28, "store refused 28\n", f"it looks like {looks}; --as-store overrides this")
+    n, form = house.number(asked.n, "N"), kinds.form_said(asked)
+    data = house.read(asked.store, kinds.MOST)
+    reading = kinds.likelier_reading(data) if form is None else kinds.Reading(data, form)
+    kinds.hold_store(data, reading.form, asked.as_store)
     if reading.bad_length:
         raise house.Refused(reading.bad_length, f"store refused {reading.bad_length}\n")
     if n >= reading.records:
@@ -155,39 +152,39 @@ def tile_exposure(picture):
 # ---- probes
 
 
-def face_file(store, edge, face, kind):
-    """A face as the proved program writes it."""
-    _, head, rest = pictures.FLOATS[kind]
-    start = head(4 * edge, 4 * edge)
-    size = len(start) + rest(4 * edge, 4 * edge)
-    return probe.answer_of(store, FACE_KINDS[kind], edge, face, lambda answer, _: answer.startswith(start) and len(answer) == size)
-
-
 def export_probe(asked, kind, stops):
     """One face, or all six: what is refused is refused before the first file is written."""
     hold_half_floats(kind, "a probe")
-    wanted = list(range(FACES)) if asked.all else [faces.number(asked.f, "F")]
+    wanted = list(range(len(faces.NAMES))) if asked.all else [faces.number(asked.face, "F")]
     outs = [face_name(asked.out, face) for face in wanted] if asked.all else [asked.out]
     for out in outs:
         house.keep_apart(out, asked.probe)
     store = kinds.placed_to_change(asked.probe, asked.as_store)
     edge = int(probe.answer_of(store, probe.FIT, 0, 0, probe.is_told(None)).split()[2])
-    files = {face: face_file(store, edge, face, "exr" if kind == "png" else kind) for face in wanted}
+    files = {face: probe.face_file(store, edge, face, "exr" if kind == "png" else kind) for face in wanted}
     if kind == "png":
         write_faces(asked, store, edge, files, outs, stops)
         return
     for out, file in zip(outs, files.values()):
-        house.write_whole(out, file)
+        write_next(house.write_whole, out, file)
+
+
+def write_next(write, out, *given):
+    """Writes one of several files: where it fails, the message has those that are written."""
+    try:
+        write(out, *given)
+    except house.Trouble as error:
+        raise house.Trouble(f"{error}{house.written_so_far()}") from None
 
 
 def write_faces(asked, store, edge, files, outs, stops):
     """Faces as PNGs, all at one exposure: without --exposure at the one of the whole probe."""
     chosen = stops is None
     if chosen:
-        whole = [files.get(face) or face_file(store, edge, face, "exr") for face in range(FACES)]
+        whole = [files.get(face) or probe.face_file(store, edge, face, "exr") for face in range(len(faces.NAMES))]
         stops = pictures.exposure_of([pictures.Face(4 * edge, file) for file in whole])
     for out, file in zip(outs, files.values()):
-        pictures.write_png(out, pictures.Face(4 * edge, file), stops)
+        write_next(pictures.write_png, out, pictures.Face(4 * edge, file), stops)
     if chosen:
         tell_exposure(asked, stops)
 
@@ -207,7 +204,7 @@ def run(asked):
     if asked.probe is not None:
         export_probe(asked, kind, stops)
         return
-    house.keep_apart(asked.out, asked.file or asked.store)
+    house.keep_apart(asked.out, asked.store if asked.file is None else asked.file)
     if asked.file is not None:
         export_one(asked, texture(asked), kind, stops, lambda picture: pictures.exposure_of([picture]))
     else:

@@ -13,6 +13,7 @@ LINE = Line(
     "STORE N",
     options=[Option("--picture", "print what the block shows: a line a pixel, red, green and blue in hex")],
     example="knot fields samples/lamp.block unsigned\nknot fields samples/four.store 0",
+    choices={"FORMAT": fieldtext.FORMATS},
 )
 # An answer of run_fields: a number, and the fields.
 ANSWER = 45

@@ -62,14 +62,27 @@ def opened(path, most):
     return file
 
 
+def some_of(file, at, size):
+    """At most `size` bytes of an open file from byte `at` on, none at its end."""
+    try:
+        return os.pread(file, size, at)
+    except OSError as error:
+        raise Trouble(f"{read_last}: {reason(error)}") from None
+
+
+def read_through(file, most):
+    """How many bytes an open file has, by reading it; it goes on for no more than `most` and a piece. A program takes a read that fails for the end."""
+    at = 0
+    while at <= most and (piece := some_of(file, at, 1 << 20)):
+        at += len(piece)
+    return at
+
+
 def part(file, at, size):
     """`size` bytes of an open file, which has them, from byte `at` on."""
     pieces = []
     while size:
-        try:
-            piece = os.pread(file, size, at)
-        except OSError as error:
-            raise Trouble(f"{read_last}: {reason(error)}") from None
+        piece = some_of(file, at, size)
         if not piece:
             raise Trouble(f"{read_last}: it ended early: it was longer when the command began")
         pieces.append(piece)
@@ -88,8 +101,12 @@ def put(data):
     try:
         write_all(1, data.encode(errors="backslashreplace") if isinstance(data, str) else data)
     except OSError as error:
-        there = f"; {', '.join(map(shown, written))} is written all the same, whole" if written else ""
-        raise Trouble(f"standard output: {reason(error)}{there}") from None
+        raise Trouble(f"standard output: {reason(error)}{written_so_far()}") from None
+
+
+def written_so_far():
+    """The files that this run has written, as the end of a message."""
+    return f"; {', '.join(map(shown, written))} {'is' if len(written) == 1 else 'are'} written all the same, whole" if written else ""
 
 
 def tell(message):

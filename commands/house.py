@@ -9,10 +9,10 @@ import sys
 
 from . import ends, files, line
 from .ends import DONE, REFUSED, TROUBLE, USAGE, Faulty, Refused, Signalled, Trouble, Usage, meaning  # noqa: F401
-from .files import is_standard_output, opened, painted, part, put, read, reason, remark, say, shown, tell, write_all  # noqa: F401
+from .files import is_standard_output, opened, painted, part, put, read, read_through, reason, remark, say, shown, some_of, tell, write_all, written_so_far  # noqa: F401
 from .line import number  # noqa: F401
 from .programs import Text, ask, listed, over_store, program, program_at, run_into  # noqa: F401
-from .records import BLOCK, PLACED_STORE, RECORD, STORE, no_record, record_answers, record_in, record_refused  # noqa: F401
+from .records import BLOCK, PLACED_STORE, RECORD, STORE, no_record, no_record_in_words, record_answers, record_in, record_refused  # noqa: F401
 
 # The commands, in the order of `knot help`.
 COMMANDS = [

@@ -60,8 +60,12 @@ class Reading:
         return self.records > 1 and 2 * self.refused > self.records
 
 
+# How the words begin for a store that is one of the other form.
+STORE_OF = "a store of"
+
+
 def store_in_words(form, records):
-    return f"a store of {records:,} record{'' if records == 1 else 's'}{' with a place, such as a probe' if form == PLACED else ' of 24 bytes'}"
+    return f"{STORE_OF} {records:,} record{'' if records == 1 else 's'}{' with a place, such as a probe' if form == PLACED else ' of 24 bytes'}"
 
 
 def signature_of(data):
@@ -94,15 +98,21 @@ def likelier_reading(data):
     return placed if placed.has_places_apart() and placed.share() < plain.share() else plain
 
 
-def form_asked(asked):
-    """The form that a command line asks for; None where it leaves that to the file."""
+def form_said(asked):
+    """The form that --form says; None where it is not given."""
     if asked.form not in (None, "24", "32"):
         raise house.Usage(f"--form is 24 or 32, and not '{house.shown(asked.form, 40)}'")
+    return int(asked.form) if asked.form else None
+
+
+def form_asked(asked):
+    """The form that a command line asks for; None where it leaves that to the file."""
+    said = form_said(asked)
     if getattr(asked, "as_store", False):
-        if asked.form == "32":
+        if said == PLACED:
             raise house.Usage("--as-store reads records of 24 bytes, and --form 32 those with a place")
         return PLAIN
-    return int(asked.form) if asked.form else None
+    return said
 
 
 def form_to_show(data):
@@ -110,11 +120,17 @@ def form_to_show(data):
     return PLAIN if signature_of(data) else likelier_reading(data).form
 
 
-def to_change(path, form, as_store):
-    data = house.read(path, MOST)
+def hold_store(data, form, as_store=False, way_out=""):
+    """Refuses a file that looks like something else than a store of `form`. `way_out` says what to do with a store of the other form."""
     looks = None if as_store else looks_like(data, form)
     if looks:
-        raise house.Refused(28, "store refused 28\n", f"it looks like {looks}; --as-store overrides this")
+        way = f": {way_out}" if way_out and looks.startswith(STORE_OF) else ""
+        raise house.Refused(28, "store refused 28\n", f"it looks like {looks}{way}; --as-store overrides this")
+
+
+def to_change(path, form, as_store, way_out=""):
+    data = house.read(path, MOST)
+    hold_store(data, form, as_store, way_out)
     return data
 
 
@@ -123,9 +139,9 @@ def store_to_change(path, as_store=False):
     return to_change(path, PLAIN, as_store)
 
 
-def placed_to_change(path, as_store=False):
+def placed_to_change(path, as_store=False, way_out=""):
     """The same of a store of records with a place."""
-    return to_change(path, PLACED, as_store)
+    return to_change(path, PLACED, as_store, way_out)
 
 
 def store_to_show(path, as_store=False):

@@ -3,8 +3,8 @@
     LINE = Line("STORE", "TEXT --into STORE N OUT", options=[Option("--into", "..")], example="knot ..")
 
 A form names the operands in their order, in capitals; one in brackets may be left out, and one with three dots behind it stands for one or more. A word in small letters stands for itself, and an
-option in a form is given in that form and in no other. Options may come before, between and behind the operands; behind `--` every word is
-an operand, and `-` always is one. `run(asked)` of the command gets them by their names in small letters, asked.store, asked.as_store; the form
+option in a form is given in that form and in no other, with its value behind it where it has one. Options may come before, between and behind the operands; behind `--` every word is
+an operand, and `-` always is one. No operand is empty: that is a name that a script left out. `run(asked)` of the command gets them by their names in small letters, asked.store, asked.as_store; the form
 is asked.chosen.
 """
 from .ends import Usage
@@ -32,10 +32,10 @@ JSON = Option("--json", "print JSON, for other programs; a refusal is JSON too")
 class Form:
     """One way to call a command."""
 
-    def __init__(self, text):
+    def __init__(self, text, valued=()):
         self.text, words = text, text.split()
         self.options = {word for word in words if word.startswith("--")}
-        self.words = [word for word in words if not word.startswith("--")]
+        self.words = [word for before, word in zip(["", *words], words) if not word.startswith("--") and before not in valued]
 
     def least(self):
         return sum(not word.startswith("[") for word in self.words)
@@ -62,10 +62,13 @@ class Asked:
 
 
 class Line:
-    def __init__(self, *forms, options=(), example="", statuses=STATUSES, dashed=()):
-        self.forms, self.options, self.example, self.statuses = [Form(form) for form in forms], list(options), example, statuses
-        # Words that begin with a dash, and yet are operands.
+    def __init__(self, *forms, options=(), example="", statuses=STATUSES, dashed=(), choices=()):
+        self.options, self.example, self.statuses = list(options), example, statuses
+        self.forms = [Form(form, [option.name for option in self.options if option.value]) for form in forms]
+        # Words that begin with a dash, and yet are operands; so are names of files that begin so and go on with a point.
         self.dashed = dashed
+        # The words that may stand for an operand, by its name, where they are few: completions offer them.
+        self.choices = dict(choices)
 
     def parsed(self, words):
         given, operands = self.split(list(words))
@@ -74,6 +77,8 @@ class Line:
         form = next((form for form in chosen if form.fits(operands)), None)
         if form is None:
             raise Usage(f"it takes {' or '.join(form.text for form in chosen or self.forms)}, and {self.counted(operands)}")
+        if "" in operands:
+            raise Usage(f"{form.words[min(operands.index(''), len(form.words) - 1)].strip('[].')} is empty")
         flags = {option.key: option in given for option in self.options if option.value is None}
         values = {option.key: given.get(option) for option in self.options if option.value is not None}
         none = {name: None for other in self.forms for name in other.named([])}
@@ -90,7 +95,7 @@ class Line:
             word = words.pop(0)
             if word == "--":
                 return given, operands + words
-            if not word.startswith("-") or word == "-" or word[1:2].isdigit() or word.upper() in self.dashed:
+            if not word.startswith("-") or word == "-" or word[1:2].isdigit() or word.upper().partition(".")[0] in self.dashed:
                 operands.append(word)
                 continue
             name, has_value, value = word.partition("=")

@@ -201,11 +201,18 @@ def write_pam(out, picture):
     house.write_by(out, make)
 
 
-# Of what run_export writes: its number for the kind, the bytes at the start, and all bytes of the file.
+# Of a file of values as they are: the number of its kind for run_export, the bytes at the start, and how many follow.
 FLOATS = {
     "pfm": (0, lambda width, height: b"PF\n%d %d\n-1.0\n" % (width, height), lambda width, height: 12 * width * height),
     "exr": (1, lambda width, height: b"\x76\x2f\x31\x01\x02\0\0\0", lambda width, height: 305 + (16 + 6 * width) * height),
 }
+
+
+def start_and_size(kind, width, height):
+    """How such a file begins, and how many bytes it has."""
+    _, head, rest = FLOATS[kind]
+    start = head(width, height)
+    return start, len(start) + rest(width, height)
 
 
 def float_pieces(picture, kind):
@@ -219,9 +226,7 @@ def float_pieces(picture, kind):
 
 def write_floats(out, picture, kind):
     """A file of the values as they are, by the proved program alone."""
-    _, head, rest = FLOATS[kind]
-    start = head(picture.width, picture.height)
-    size = len(start) + rest(picture.width, picture.height)
+    start, size = start_and_size(kind, picture.width, picture.height)
 
     def make(file):
         house.run_into("run_export", float_pieces(picture, kind), file, size)

@@ -19,6 +19,7 @@ LINE = Line(
     options=[AS_STORE],
     example="knot place samples/twins.store new.store\nknot place new.store 3 +Y 0 1 placed.store",
     dashed=faces.DASHED,
+    choices={"FACE": (*faces.NAMES, faces.NOWHERE)},
 )
 # The program takes a record's number in four bytes: a higher one is refused as this one is. A position has two bytes.
 MOST, MOST_POSITION = 2**32 - 1, 2**16 - 1
@@ -27,9 +28,9 @@ MOST, MOST_POSITION = 2**32 - 1, 2**16 - 1
 def refused(number, n, face, count):
     reason = house.meaning(number)
     if number == 8:
-        reason = f"there is no record {n if n < 10**20 else 'of so high a number'}: it has {count:,}, from 0 on"
+        reason = house.no_record_in_words(n, count)
     elif number == 17:
-        reason = f"record {n}: one that is not placed has column 0 and row 0" if face == faces.NONE else f"record {n}: there is no face {min(face, 10**20)}, only 0 to 5"
+        reason = f"record {n}: {'one that is not placed has column 0 and row 0' if face == faces.NONE else faces.no_face(face)}"
     elif number in (1, 7):
         reason = f"record {n}: {reason}"
     return house.Refused(number, f"store refused {number}\n", reason)
@@ -37,10 +38,10 @@ def refused(number, n, face, count):
 
 def put(asked):
     n = house.number(asked.n, "N")
-    face = faces.NONE if asked.face == "none" else faces.number(asked.face)
+    face = faces.number(asked.face, or_none=True)
     column, row = (house.number(word, what, MOST_POSITION) for word, what in ((asked.column, "COLUMN"), (asked.row, "ROW")))
     house.keep_apart(asked.out, asked.store)
-    store = kinds.placed_to_change(asked.store, asked.as_store)
+    store = kinds.placed_to_change(asked.store, asked.as_store, "knot place GIVEN MADE makes records with a place of it")
     wish = min(n, MOST).to_bytes(4, "little") + bytes([face if face <= faces.NONE else faces.WRONG])
     wish += b"".join(position.to_bytes(2, "little") for position in (column, row))
     number, made = moving.answered("run_put", wish + store, len(store))

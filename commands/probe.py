@@ -29,8 +29,11 @@ LINE = Line(
     ],
     example="knot probe samples/small.probe\nknot probe samples/small.probe 2 0 face.pfm\nknot probe --make new.probe 0.dds 1.dds 2.dds 3.dds 4.dds 5.dds",
     dashed=faces.DASHED,
+    choices={"FACE": faces.NAMES},
 )
 TELL, FACE, FIT, FACE_EXR = range(4)
+# The number by which the program is asked for a face, by the kind of the file.
+FACE_KINDS = {"pfm": FACE, "exr": FACE_EXR}
 # The program takes an edge and a face of four bytes: a higher number is refused as this one is.
 MOST = 2**32 - 1
 REFUSED = rb"store refused ([0-9]+)(?: record ([0-9]+))?\n"
@@ -38,15 +41,14 @@ REFUSED = rb"store refused ([0-9]+)(?: record ([0-9]+))?\n"
 MOST_SIDE, BLOCK_SIDE = 64, 4
 
 
-def reason(number, kind, record, length):
+def reason(number, kind, face, record, length):
     if kind == FIT and number == 19:
-        has = f"{length // kinds.PLACED:,} records" if length % kinds.PLACED == 0 else f"{length:,} bytes"
+        has = f"{length:,} bytes" if length % kinds.PLACED else f"{length // kinds.PLACED:,} records"
+        has = f"more than {kinds.MOST // kinds.PLACED:,} records" if length > kinds.MOST else has
         return f"it has {has}, and a probe has 6 for each block of a face, a square of 1 to 16 blocks on an edge"
+    if number == 24:
+        return faces.no_face(face)
     return house.meaning(number) + (f": record {record['record']}" if record else "")
-
-
-def ask(asked, kind, edge, face, is_whole):
-    return answer_of(kinds.placed_to_change(asked.store, asked.as_store), kind, edge, face, is_whole)
 
 
 def answer_of(store, kind, edge, face, is_whole):
@@ -56,7 +58,7 @@ def answer_of(store, kind, edge, face, is_whole):
     refused = re.fullmatch(REFUSED, answer)
     if refused:
         record = {"record": int(refused[2])} if refused[2] else {}
-        raise house.Refused(int(refused[1]), answer, reason(int(refused[1]), kind, record, len(store)), **record)
+        raise house.Refused(int(refused[1]), answer, reason(int(refused[1]), kind, face, record, len(store)), **record)
     return answer
 
 
@@ -87,25 +89,31 @@ def is_told(edge):
 
 
 def tell(asked, edge):
-    answer = ask(asked, FIT if edge is None else TELL, edge or 0, 0, is_told(edge))
+    store = kinds.placed_to_change(asked.store, asked.as_store)
+    answer = answer_of(store, FIT if edge is None else TELL, edge or 0, 0, is_told(edge))
     house.put(facts(asked, int(answer.split()[2]), house.read_last))
+
+
+def face_file(store, edge, face, kind):
+    """A face as the proved program writes it: a Portable Float Map or an OpenEXR file."""
+    from . import pictures
+    start, size = pictures.start_and_size(kind, BLOCK_SIDE * edge, BLOCK_SIDE * edge)
+    return answer_of(store, FACE_KINDS[kind], edge, face, lambda answer, _: answer.startswith(start) and len(answer) == size)
 
 
 def write_face(asked, edge, face):
     house.keep_apart(asked.out, asked.store)
-    head = b"PF\n%d %d\n-1.0\n" % (4 * edge, 4 * edge)
-    size = len(head) + 12 * (4 * edge) ** 2
-    house.write_whole(asked.out, ask(asked, FACE, edge, face, lambda answer, _: answer.startswith(head) and len(answer) == size))
+    house.write_whole(asked.out, face_file(kinds.placed_to_change(asked.store, asked.as_store), edge, face, "pfm"))
 
 
 def unfit(number, path, words):
     return house.Refused(number, f"file refused {number}\n", words, house.shown(path))
 
 
-def face_of(path, levels, first):
+def face_of(path, first_level, first):
     """Size, format and blocks of a file that is one face: `first` has those of the first file."""
     from . import dds, fieldtext
-    width, height, form, blocks = dds.read(path, **levels)
+    width, height, form, blocks = dds.read(path, first_level)
     if form not in fieldtext.FORMATS:
         raise unfit(13, path, "it is a BC7 texture, and a probe has BC6H blocks")
     if max(width, height) > MOST_SIDE:
@@ -123,13 +131,14 @@ def face_of(path, levels, first):
 
 def make(asked):
     from . import fieldtext, moving
+    if asked.as_store:
+        raise house.Usage("--as-store is for a store, and --make reads DDS files")
     paths = [getattr(asked, name) for name in ("+x", "_x", "+y", "_y", "+z", "_z")]
     tile = house.number(asked.first_tile or "0", "--first-tile", MOST)
     house.keep_apart(asked.out, *paths)
-    levels = {"first_level": True} if asked.first_level else {}
     found = []
     for path in paths:
-        found.append(face_of(path, levels, found[0] if found else None))
+        found.append(face_of(path, asked.first_level, found[0] if found else None))
     side, form, _ = found[0]
     edge = side // BLOCK_SIDE
     wish = bytes([fieldtext.FORMATS.index(form)]) + b"".join(number.to_bytes(4, "little") for number in (edge, tile))

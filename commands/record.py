@@ -15,6 +15,7 @@ LINE = Line(
     "make TILE FORMAT BLOCK OUT",
     options=[AS_STORE],
     example="knot record take samples/four.store 1 one.record",
+    choices={"FORMAT": fieldtext.FORMATS},
 )
 HIGHEST_TILE = 2**32 - 1
 

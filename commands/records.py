@@ -16,8 +16,12 @@ def record_refused(number_of, why=None):
     return Refused(number_of, f"record refused {number_of}\n", why)
 
 
+def no_record_in_words(n, count):
+    return f"there is no record {n if n < 10**20 else 'of so high a number'}: it has {count:,}, from 0 on"
+
+
 def no_record(n, count):
-    return record_refused(8, f"there is no record {n if n < 10**20 else 'of so high a number'}: it has {count}, from 0 on")
+    return record_refused(8, no_record_in_words(n, count))
 
 
 def record_in(store, n):

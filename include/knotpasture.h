@@ -50,7 +50,7 @@ enum knot_answer {
     KNOT_INVALID_RECORD = 10,  /* no block has these fields */
     KNOT_BAD_BUFFER = 11,      /* the block's buffer is not 16 bytes long */
     KNOT_RESERVED_BLOCK = 12,  /* a record that is not refused has a reserved mode: the capture is damaged */
-    KNOT_FOREIGN_HEADER = 13,  /* the header is not that of a BC6H texture of one level under the DX10 header */
+    KNOT_FOREIGN_HEADER = 13,  /* the header is not that of a DDS texture that the call reads */
     KNOT_BAD_SIZE = 14,        /* the width or height is out of range */
     KNOT_BAD_BLOCKS = 15,      /* the block bytes are short or left over for the size */
     KNOT_UNEVEN_SIZE = 16,     /* the width or height is zero, not a multiple of 4 or above 4,096 */

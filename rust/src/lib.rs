@@ -135,7 +135,7 @@ refusals! {
     10 INVALID_RECORD "no block has these fields"
     11 BAD_BUFFER "the block's buffer is not 16 bytes long"
     12 RESERVED_BLOCK "a record that is not refused has a reserved mode: the capture is damaged"
-    13 FOREIGN_HEADER "the header is not that of a BC6H texture of one level under the DX10 header"
+    13 FOREIGN_HEADER "the header is not that of a DDS texture that the call reads"
     14 BAD_SIZE "the width or height is out of range"
     15 BAD_BLOCKS "the block bytes are short or left over for the size"
     16 UNEVEN_SIZE "the width or height is zero, not a multiple of 4 or above 4,096"

@@ -56,7 +56,12 @@ def by_bash(script):
         ("record", "make", "7", "u"): "unsigned",
         ("record", "take", "store", "u"): "",
         ("fields", "a.block", "s"): "signed",
-        ("dds", "--make", "5", "3", ""): "unsigned signed",
+        ("dds", "--make", "5", "3", ""): "unsigned signed bc7 bc7-srgb",
+        ("dds", "--relabel", ""): "signed unsigned",
+        ("dds", "--relabel", "signed", "s"): "",
+        ("export", "--kind", "p"): "pfm png pam",
+        ("place", "a.places", "3", ""): "+X -X +Y -Y +Z -Z none",
+        ("probe", "a.probe", "2", "+"): "+X +Y +Z",
         ("dds", "5", "3", ""): "",
         ("nothing", ""): "",
     }.items():

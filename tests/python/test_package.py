@@ -527,6 +527,11 @@ def test_dds_of_bc7():
         refused(15, knotpasture.bc7_dds_read, file + b"x")
     for dxgi in (95, 96, 97, 100):
         refused(13, knotpasture.bc7_dds_read, with_levels(5, 3, 1, dxgi, 32))
+    # one number for the readers of both formats, and of files with levels: its words name neither
+    for read in (knotpasture.dds_read, knotpasture.bc7_dds_read, knotpasture.dds_first_level, knotpasture.bc7_dds_first_level):
+        with pytest.raises(knotpasture.Refused) as found:
+            read(b"")
+        assert not re.search("BC6H|BC7|level", str(found.value)), found.value
     refused(14, knotpasture.bc7_dds_read, with_levels(4097, 3, 1, 98, 32))
     refused(13, knotpasture.bc7_dds_read, with_levels(5, 3, 2, 98, 48))
 

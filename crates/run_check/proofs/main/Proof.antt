@@ -1,17 +1,16 @@
-use mathlib.Core.Path.{ap, _∙_}
-use native.Mathlib.Omega.{arith}
+-- `run_check::main`: what goes out is the definition of what was read. Assumes nothing.
+use Prim.Native.Nat.{_+_}
 use borrow.Author.Needs.{needs}
-use Rattle.text.proofs.Texts.{begins, written-length}
+use Rattle.probe_places.specs.Places.{placeLimit}
 use Rattle.text_check.specs.Checking.{checkingOf}
+use Rattle.run_streams.proofs.Writing.{outgoing}
 use Rattle.run_check.proofs.main.Statement.{statement}
 use Rattle.run_check.proofs.main.Tie as tie
 
 write-checking-requires : tie.Need-write-checking-requires
 write-checking-requires c κs =
     let put = c .before .before .before .put-input .ensures in
-    let same = written-length (put .1) in
-    let room = put .0 in
-    record { room = omega arith; fits = room; says = begins (put .1) (omega arith) ∙ ap checkingOf (c .before .before .before .before .first-bytes .ensures) }
+    outgoing checkingOf (1 + placeLimit) (c .before .before .before .before .before .before .before .before .before .before .before .read-input .kept .0) (c .before .before .before .before .first-bytes .ensures) (put .0) (put .1)
 
 pub main-spec : {M : Type 1} → statement M
 main-spec =

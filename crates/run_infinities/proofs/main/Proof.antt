@@ -1,17 +1,15 @@
-use mathlib.Core.Path.{ap, _∙_}
-use native.Mathlib.Omega.{arith}
+-- `run_infinities::main`: what goes out is the definition of what was read. Assumes nothing.
 use borrow.Author.Needs.{needs}
-use Rattle.text.proofs.Texts.{begins, written-length}
+use Rattle.store_records.specs.Store.{storeLimit}
 use Rattle.text_infinities.specs.Infinities.{infinitiesText}
+use Rattle.run_streams.proofs.Writing.{outgoing}
 use Rattle.run_infinities.proofs.main.Statement.{statement}
 use Rattle.run_infinities.proofs.main.Tie as tie
 
 write-infinities-requires : tie.Need-write-infinities-requires
 write-infinities-requires c κs =
     let put = c .before .before .before .put-infinities .ensures in
-    let same = written-length (put .1) in
-    let room = put .0 in
-    record { room = omega arith; fits = room; says = begins (put .1) (omega arith) ∙ ap infinitiesText (c .before .before .before .before .first-bytes .ensures) }
+    outgoing infinitiesText storeLimit (c .before .before .before .before .before .before .before .before .before .before .before .read-input .kept .0) (c .before .before .before .before .first-bytes .ensures) (put .0) (put .1)
 
 pub main-spec : {M : Type 1} → statement M
 main-spec =

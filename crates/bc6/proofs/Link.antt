@@ -37,14 +37,14 @@ use Rattle.bcn_util.specs.Indexed.{indexesOf}
 use Rattle.bcn_util.proofs.Indexing.{index-read}
 use Rattle.bcn_data.proofs.Fixups.{fixup-range}
 use Rattle.bc6_runs.proofs.Partition.{partition-at}
-use Rattle.bc6_endpoints.specs.Ends.{wordOf}
+use Rattle.bc6_endpoints.specs.Ends.{wordOf, endIn}
 use Rattle.bc6_runs.specs.Ends.{placesOf}
-use Rattle.bc6_paint.specs.Values.{endIn, packedAt, shadeOf, paintedValue, oneValue, twoValue, PaintedAs}
+use Rattle.bc6_paint.specs.Values.{packedAt, shadeOf, paintedValue, oneValue, twoValue, PaintedAs}
 use Rattle.bc6_paint.proofs.Points.{worked-out}
 use Rattle.bc6_paint.proofs.Link.{painted-as}
 use Rattle.bc6.specs.Shown.{partitionIn, Picked, OnePicked}
 use Rattle.bc6.specs.declared.Picks.{Picks}
-use Rattle.bc6_paint.specs.declared.Ends.{Ends}
+use Rattle.bc6_endpoints.specs.declared.Ends.{Ends}
 use Rattle.bc6_by_mode.specs.Words.{endWord, EndsOf, BlockEnds}
 use Rattle.bc6.proofs.Codes.{two-codes, one-codes}
 

@@ -9,7 +9,7 @@ use lib.Dec.{lit<}
 use Rattle.bc6h_spec.specs.Layout.{width}
 use Rattle.bc6h_spec.specs.Fields.{modeIn, codeOf}
 use Rattle.bc6h_spec.proofs.Modes.{low-mode, mode-range, mode-code}
-use Rattle.bc6_paint.specs.declared.Ends.{Ends}
+use Rattle.bc6_endpoints.specs.declared.Ends.{Ends}
 use Rattle.bc6_by_mode.specs.Words.{EndsOf, BlockEnds}
 
 -- the codes that end in the two bits r

@@ -18,10 +18,9 @@ use Rattle.bc6_runs.specs.declared.Channels.{Channels}
 use Rattle.bc6_runs.specs.Ends.{fourOf, placesOf, ChannelsRead}
 use Rattle.bc6_runs.proofs.Tables.{four-at}
 use Rattle.bc6_runs.proofs.Stored.{first-bits}
-use Rattle.bc6_endpoints.specs.Ends.{wordOf, wholeOf, movedOf, endAt, storedIn, ChannelEnds, WholeEnds, Sixteen}
+use Rattle.bc6_endpoints.specs.Ends.{wordOf, wholeOf, movedOf, endAt, storedIn, ChannelEnds, WholeEnds, Sixteen, endIn, channelOf}
 use Rattle.bc6_endpoints.proofs.Adding.{whole-16, moved-16-is}
-use Rattle.bc6_paint.specs.declared.Ends.{Ends}
-use Rattle.bc6_paint.specs.Values.{endIn, channelOf}
+use Rattle.bc6_endpoints.specs.declared.Ends.{Ends}
 use Rattle.bc6_by_mode.specs.Words.{endWord, EndsOf, MovedEnds, StoredEnds, SixteenEnds}
 
 -- ---- channels

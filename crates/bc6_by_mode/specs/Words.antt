@@ -9,9 +9,8 @@ use Rattle.bc6h_spec.specs.Fields.{modeIn}
 use Rattle.bc6h_spec.specs.Picture.{firstEnd, otherEnd}
 use Rattle.bc6_runs.specs.declared.Channels.{Channels}
 use Rattle.bc6_runs.specs.Ends.{placesOf, ChannelsRead}
-use Rattle.bc6_endpoints.specs.Ends.{wordOf, ChannelEnds, WholeEnds, Sixteen}
-use Rattle.bc6_paint.specs.declared.Ends.{Ends}
-use Rattle.bc6_paint.specs.Values.{endIn}
+use Rattle.bc6_endpoints.specs.Ends.{wordOf, ChannelEnds, WholeEnds, Sixteen, endIn}
+use Rattle.bc6_endpoints.specs.declared.Ends.{Ends}
 
 -- channel c of endpoint e of mode m in the bits n: after the transform, unquantised, as 16 bits
 unfoldable pub endWord : Bool → ℕ → ℕ → ℕ → ℕ → ℕ

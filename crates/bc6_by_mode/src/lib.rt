@@ -3,12 +3,12 @@
 //
 // Each mode has a function of its own in each format, so that its numbers are literals. What such a function promises is what its calls
 // promise, and no more: the prover finds it by itself, and one law over the modes makes of it what a block's ends are.
+use bc6_endpoints::Ends;
 use bc6_endpoints::moved_16;
 use bc6_endpoints::moved_signed;
 use bc6_endpoints::moved_unsigned;
 use bc6_endpoints::whole_signed;
 use bc6_endpoints::whole_unsigned;
-use bc6_paint::Ends;
 ghost use mathlib.Core.Bool.{true, false};
 ghost use Prim.Native.Nat.{_≤_};
 ghost use Rattle.bcn_util.specs.Stream.{number};

@@ -10,6 +10,7 @@ use Rattle.laws.specs.Pick.{pick}
 use Rattle.laws.specs.Ranges.{Below}
 use Rattle.bc6h_spec.specs.Half.{signExtend, keep, transform, unquantized}
 use Rattle.bc6h_spec.specs.Picture.{firstEnd, otherEnd}
+use Rattle.bc6_endpoints.specs.declared.Ends.{Ends}
 
 -- S-19, S-20: an endpoint, unquantised, as 16 bits
 unfoldable pub wordOf : Bool → ℕ → ℤ → ℕ
@@ -78,3 +79,17 @@ pub record WholeEnds (signed : Bool) (p : ℕ) (n r : List ℤ) : Type 0 where
 pub record Sixteen (n r : List ℤ) : Type 0 where
   pub first : endAt r 0 ≡ endAt n 0
   pub second : endAt r 1 ≡ transform false 16 (endAt n 0) (signExtend 4 (storedIn n 1))
+
+-- ---- a block's ends, as 16 bits
+
+-- S-19, S-20: end e of a channel
+abbrev pub heldAt : List ℤ → ℕ → ℕ
+heldAt l e = keep 16 (endAt l e)
+
+-- channel c of a block
+abbrev pub channelOf : Ends → ℕ → List ℤ
+channelOf r c = pick (eqb c 0) (r .red) (pick (eqb c 1) (r .green) (r .blue))
+
+-- channel c of end e
+abbrev pub endIn : Ends → ℕ → ℕ → ℕ
+endIn r e c = heldAt (channelOf r c) e

@@ -12,6 +12,13 @@ ghost use Prim.Native.Nat.{_^_};
 ghost use Rattle.laws.specs.Ranges.{Below};
 ghost use Rattle.bc6_endpoints.specs.Ends.{endAt, endOf, Apart, Channel, ChannelEnds, StoredWhole, WholeEnds, Sixteen};
 
+// A block's ends, unquantised: of two regions four a channel, of one region the first two.
+pub struct Ends {
+    pub red: [i32; 4],
+    pub green: [i32; 4],
+    pub blue: [i32; 4],
+}
+
 // The end, in unsigned format, that is stored as a difference of `width` bits from `base`, which has p bits.
 fn end_unsigned(base: i32, x: i32, width: u8, p: u8) -> i32
     requires { ⌜ Apart p width base x ⌝ }

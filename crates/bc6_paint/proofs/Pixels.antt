@@ -16,9 +16,10 @@ use Rattle.laws.specs.Made.{made, countOf}
 use Rattle.laws.proofs.Rows.{made-none, made-store}
 use Rattle.laws.proofs.Counts.{count-append, count-last}
 use Rattle.bc6h_spec.specs.Half.{minusInfinity}
-use Rattle.bc6_paint.specs.Values.{heldAt, channelOf, endIn, packedAt, regionMask, TurnOf, shadeOf, selected, shadeIn, paintedValue, counted, PaintedAs}
+use Rattle.bc6_endpoints.specs.Ends.{heldAt, channelOf, endIn}
+use Rattle.bc6_paint.specs.Values.{packedAt, regionMask, TurnOf, shadeOf, selected, shadeIn, paintedValue, counted, PaintedAs}
 use Rattle.bc6_paint.specs.declared.Turn.{Turn}
-use Rattle.bc6_paint.specs.declared.Ends.{Ends}
+use Rattle.bc6_endpoints.specs.declared.Ends.{Ends}
 use Rattle.bc6_paint.proofs.Chosen.{selected-is}
 use Rattle.bc6_paint.proofs.Points.{held-lt}
 

@@ -20,7 +20,8 @@ use Rattle.bc6_half.specs.declared.Half.{Half}
 use Rattle.bc6_half.specs.Halves.{signedNumber, halfOf, marked}
 use Rattle.bc6_half.proofs.Words.{number-in, number-kept}
 use Rattle.bc6_half.proofs.Told.{half-marked}
-use Rattle.bc6_paint.specs.Values.{heldAt, pointOf, shadeOf, selected, shadeIn, counted}
+use Rattle.bc6_endpoints.specs.Ends.{heldAt}
+use Rattle.bc6_paint.specs.Values.{pointOf, shadeOf, selected, shadeIn, counted}
 use Rattle.bc6_paint.proofs.Chosen.{selected-lt}
 
 module _ (s : Bool) (a b w : ℕ) (ha : a < 65536) (hb : b < 65536) (hw : w ≤ 64) where

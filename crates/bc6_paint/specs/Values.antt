@@ -10,25 +10,11 @@ use lib.ListN.{length, getD, set, drop}
 use Rattle.laws.specs.Pick.{pick}
 use Rattle.laws.specs.Bit.{bit}
 use Rattle.laws.specs.Made.{countOf}
-use Rattle.bc6h_spec.specs.Half.{keep, minusInfinity, interpolated, finished}
+use Rattle.bc6h_spec.specs.Half.{minusInfinity, interpolated, finished}
 use Rattle.bcn_spec.specs.Weights.{weights8, weights16}
 use Rattle.bc6_half.specs.Halves.{signedNumber}
 use Rattle.bc6_paint.specs.declared.Turn.{Turn}
-use Rattle.bc6_paint.specs.declared.Ends.{Ends}
-
--- ---- a block's ends, as 16 bits
-
--- S-19, S-20: end e of a channel
-abbrev pub heldAt : List ℤ → ℕ → ℕ
-heldAt l e = keep 16 (getD l e (pos 0))
-
--- channel c of a block
-abbrev pub channelOf : Ends → ℕ → List ℤ
-channelOf r c = pick (eqb c 0) (r .red) (pick (eqb c 1) (r .green) (r .blue))
-
--- channel c of end e
-abbrev pub endIn : Ends → ℕ → ℕ → ℕ
-endIn r e c = heldAt (channelOf r c) e
+use Rattle.bc6_endpoints.specs.Ends.{heldAt}
 
 -- ---- what a pixel has: whether it lies in region 1, and its weight
 

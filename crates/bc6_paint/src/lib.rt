@@ -19,13 +19,6 @@ ghost use lib.ListN.{length};
 ghost use Rattle.laws.specs.Bit.{bit};
 ghost use Rattle.bc6_paint.specs.Values.{packedAt, oneSecond, oneWeight, twoSecond, twoWeight, regionMask, TurnOf, pointOf, selected, PairStored, PairCounted};
 
-// A block's ends, unquantised: of two regions four a channel, of one region the first two.
-pub struct Ends {
-    pub red: [i32; 4],
-    pub green: [i32; 4],
-    pub blue: [i32; 4],
-}
-
 // The first eight of sixteen indices of three bits, pixel 0 lowest.
 fn low_24(word: u64) -> u32
     ensures { λ r. ⌜ r ≡ word % 2 ^ 24 ⌝ }

@@ -3,17 +3,18 @@
 //
 // A turn paints pixels k and k + 8, one channel of both after the other: of that the compiler makes vector code of eight pixels whose numbers
 // stay in registers. Each format has a caller of its own, into which it is inlined: the ends then never go through memory.
-use crate::Ends;
 use crate::channel_signed;
 use crate::channel_unsigned;
 use crate::turn_two;
+use bc6_endpoints::Ends;
 ghost use mathlib.Core.Path.{_≡_};
 ghost use mathlib.Core.Bool.{true, false};
 ghost use mathlib.Core.List.{_++_};
 ghost use Prim.Native.Nat.{_≤_};
 ghost use lib.ListN.{length, drop};
 ghost use Rattle.laws.specs.Made.{made};
-ghost use Rattle.bc6_paint.specs.Values.{endIn, twoValue};
+ghost use Rattle.bc6_endpoints.specs.Ends.{endIn};
+ghost use Rattle.bc6_paint.specs.Values.{twoValue};
 
 // In unsigned format.
 pub fn paint_two_unsigned(ends: Ends, map: u16, word: u64, out: &mut [u16])

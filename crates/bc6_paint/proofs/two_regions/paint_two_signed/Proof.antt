@@ -3,7 +3,8 @@ use borrow.Author.Needs.{needs}
 use mathlib.Core.Bool.{true}
 use Prim.Native.Nat.{_-_, _*_}
 use native.Mathlib.Omega.{arith}
-use Rattle.bc6_paint.specs.Values.{endIn, twoSecond, twoWeight, twoValue}
+use Rattle.bc6_endpoints.specs.Ends.{endIn}
+use Rattle.bc6_paint.specs.Values.{twoSecond, twoWeight, twoValue}
 use Rattle.bc6_paint.proofs.Pixels.{Fronts, none-painted, shades-of, turn-painted, all-painted}
 use Rattle.bc6_paint.proofs.two_regions.paint_two_signed.Statement.{statement}
 use Rattle.bc6_paint.proofs.two_regions.paint_two_signed.Tie as tie

@@ -1,16 +1,17 @@
 -- S-93: a probe opened once, and its pixels by the table that opening it left. Assumes nothing.
 use mathlib.Core.Path.{_≡_}
-use mathlib.Core.List.{List}
-use Prim.Native.Nat.{ℕ, zero, suc, _+_, _*_, _/_, _%_}
-use lib.Dec.{ltb}
+use mathlib.Core.Bool.{Bool, not}
+use mathlib.Core.List.{List, [], _∷_}
+use Prim.Native.Nat.{ℕ, zero, suc, _+_, _-_, _*_, _/_, _%_}
+use lib.Dec.{eqb, ltb}
 use lib.ListN.{length, getD, take, drop}
-use Rattle.laws.specs.Pick.{pick, both}
-use Rattle.laws.specs.Checks.{orNext}
-use Rattle.bcn_spec.specs.Answers.{done, badFormat, shortOutput, noRecord, badEdge, emptyPlace}
+use Rattle.laws.specs.Pick.{pick}
+use Rattle.laws.specs.Checks.{firstMet}
+use Rattle.bcn_spec.specs.Answers.{done, badFormat, shortOutput, noRecord, badEdge, emptyPlace, noPixel}
 use Rattle.probe_places.specs.declared.Fault.{Fault}
 use Rattle.probe_places.specs.Places.{placesIn, formatIn}
 use Rattle.probe.specs.declared.ProbePixel.{ProbePixel}
-use Rattle.probe.specs.Probe.{edgeLimit, placeOf, placeCount, placeNumber, thenAlone, probeFault, questionRefusal, tripleAt, probeShown, probeRefused}
+use Rattle.probe.specs.Probe.{placeOf, placeCount, placeNumber, edgeFits, thenAlone, probeFault, hasPixel, tripleAt, probeShown, probeRefused}
 use Rattle.probe.specs.Held.{Held}
 
 -- ---- S-93: opening
@@ -29,9 +30,12 @@ pub record Opened (store : List ℕ) (edge : ℕ) (lent : List ℕ) (r : Fault) 
 -- ---- S-93: asking
 
 -- A holder is a record's number plus 1: 23 for none, 8 for one past the store, 1 for a record whose format is none.
+abbrev pub holderChecks : List ℕ → ℕ → List (Bool × ℕ)
+holderChecks store holder =
+    (eqb holder 0, emptyPlace) ∷ (ltb (placesIn store) holder, noRecord) ∷ (ltb 1 (formatIn store (holder - 1)), badFormat) ∷ []
+
 unfoldable pub holderRefusal : List ℕ → ℕ → ℕ
-holderRefusal store zero = emptyPlace
-holderRefusal store (suc n) = pick (ltb n (placesIn store)) (pick (ltb 1 (formatIn store n)) badFormat done) noRecord
+holderRefusal store holder = firstMet (holderChecks store holder)
 
 -- the holder of the place of pixel (x, y)
 abbrev pub holderAt : List ℕ → ℕ → ℕ → ℕ → ℕ
@@ -40,21 +44,17 @@ holderAt table face x y = getD table (placeNumber (placeOf face (x / 4) (y / 4))
 -- The checks of a question, whatever the table: 19, 24, 3, and then those of the holder.
 unfoldable pub tableRefusal : List ℕ → List ℕ → ℕ → ℕ → ℕ → ℕ → ℕ
 tableRefusal store table edge face x y =
-    pick (both (ltb 0 edge) (ltb edge (edgeLimit + 1)))
-    (orNext (questionRefusal edge face x y) (pick (ltb (length table) placeCount) shortOutput (holderRefusal store (holderAt table face x y))))
-    badEdge
+    firstMet
+    ((not (edgeFits edge), badEdge) ∷ (not (hasPixel edge face x y), noPixel) ∷ (ltb (length table) placeCount, shortOutput) ∷
+    holderChecks store (holderAt table face x y))
 
 abbrev pub tableShown : ℕ → List ℕ → ProbePixel
 tableShown zero triple = probeShown triple
 tableShown (suc number) triple = probeRefused (suc number) 0
 
-abbrev pub predecessor : ℕ → ℕ
-predecessor zero = zero
-predecessor (suc n) = n
-
 abbrev pub tableAnswer : List ℕ → List ℕ → ℕ → ℕ → ℕ → ℕ → ProbePixel
 tableAnswer store table edge face x y =
-    tableShown (tableRefusal store table edge face x y) (tripleAt store (predecessor (holderAt table face x y)) (4 * (y % 4) + x % 4))
+    tableShown (tableRefusal store table edge face x y) (tripleAt store (holderAt table face x y - 1) (4 * (y % 4) + x % 4))
 
 -- The statement of `probe_pixel_in`.
 pub record TablePixel (store table : List ℕ) (edge face x y : ℕ) (r : ProbePixel) : Type 0 where

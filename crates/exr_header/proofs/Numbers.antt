@@ -4,7 +4,7 @@ use mathlib.Core.List.{List, _++_}
 use Prim.Native.Nat.{ℕ, suc, _+_, _-_, _*_, _/_, _%_, _≤_, _<_}
 use native.Mathlib.Nat.{mul-le-mul}
 use native.Mathlib.Omega.{arith}
-use lib.ListN.{length, getD, set, length-append}
+use lib.ListN.{length, set, length-append}
 use lib.Seq.{sets}
 use Rattle.laws.specs.Made.{made, join}
 use Rattle.laws.proofs.Joined.{run-more, run-length}
@@ -15,11 +15,6 @@ use Rattle.text.proofs.Texts.{sets-append}
 use Rattle.exr_header.specs.Header.{windowOf, startPart, dataPart, displayPart, cornerOf, screenPart, headerOf, headerLength, lineLength, frontLength, lineStart, startBytes, tableOf, frontOf}
 
 -- ---- a number
-
--- read back: the bytes' sum is the number, where the number has no more bytes
-pub two-bytes : (n : ℕ) → n < 65536 → getD (lowBytes 2 n) 0 0 + 256 * getD (lowBytes 2 n) 1 0 ≡ n
-unfolding lowBytes
-two-bytes n h = omega arith
 
 -- ---- the loop that stores a number: what is still to be stored
 

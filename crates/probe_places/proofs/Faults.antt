@@ -84,20 +84,6 @@ module _ (refusal : ℕ → ℕ) where
     pub none-told : firstFault refusal count .answer ≡ done → firstFault refusal count .faulty ≡ 0
     none-told e = ap (λ (x : Fault). x .faulty) (all-pass (none-faulty e))
 
-    -- a record that is refused, and none before it
-    pub told-fault : {k n : ℕ} → Told refusal count (suc k) n → firstFault refusal count ≡ record { answer = suc k; faulty = n }
-    unfolding firstFault
-    told-fault {k} {n} t =
-        cases (ltb (firstBelow (isFaulty refusal) count) count)
-        (λ b. let l = ltb-true _ _ b in let m : firstBelow (isFaulty refusal) count ≤ n = least t in let p = first-passes (isFaulty refusal) count l in
-        let q : firstBelow (isFaulty refusal) count ≡ n =
-        cases (ltb (firstBelow (isFaulty refusal) count) n) (λ s. absurd (is-faulty _ p (t .first _ (ltb-true _ _ s)))) (λ s. let g : n ≤ firstBelow (isFaulty refusal) count = ltb-false _ _ s in omega arith) in
-        rw (b, q, t .refused))
-        (λ b. let l : count ≤ firstBelow (isFaulty refusal) count = ltb-false _ _ b in let m : firstBelow (isFaulty refusal) count ≤ n = least t in let i : n < count = t .inside in absurd (omega arith))
-      where
-        least : {k n : ℕ} → Told refusal count (suc k) n → firstBelow (isFaulty refusal) count ≤ n
-        least {k} {n} t = first-least (isFaulty refusal) count n (t .inside) (fails refl (λ z. omega (arith, sym z ∙ t .refused)))
-
 -- ---- a check of the whole store first
 
 pub whole-done : (number : ℕ) (fault : Fault) → wholeFirst number fault .answer ≡ done → (number ≡ done) × (fault .answer ≡ done)

@@ -10,6 +10,7 @@ use lib.Dec.{eqb, lit<, lit≤, eqb·suc-zero}
 use lib.IntN.{ℤ, pos, natAbs}
 use lib.ListN.{getD}
 use Rattle.laws.specs.Pick.{pick}
+use Rattle.laws.proofs.Below.{below-three}
 use Rattle.bc6h_spec.specs.Layout.{precision, ownWidth, transformed}
 use Rattle.bc6h_spec.specs.Half.{signExtend, keep, transform, unquantized}
 use Rattle.bc6h_spec.specs.Picture.{firstEnd, delta, otherEnd}
@@ -32,17 +33,11 @@ numbersIn x c = pick (eqb c 0) (x .red) (pick (eqb c 1) (x .green) (x .blue))
 -- something of each of them, and of what it becomes
 by-channel : (P : ℕ → List ℤ → List ℤ → Type 0) (x : Channels) (r : Ends) → P 0 (x .red) (r .red) → P 1 (x .green) (r .green) → P 2 (x .blue) (r .blue)
     → (c : ℕ) → c < 3 → P c (numbersIn x c) (channelOf r c)
-by-channel P x r a b d zero h = a
-by-channel P x r a b d (suc zero) h = b
-by-channel P x r a b d (suc (suc zero)) h = d
-by-channel P x r a b d (suc (suc (suc c))) h = absurd (omega arith)
+by-channel P x r = below-three (λ c. P c (numbersIn x c) (channelOf r c))
 
 module _ {m n : ℕ} {stored : Channels} (read : ChannelsRead m n stored) where
   channel-is : (c : ℕ) → c < 3 → numbersIn stored c ≡ fourOf (placesOf m n c)
-  channel-is zero h = read .red .is
-  channel-is (suc zero) h = read .green .is
-  channel-is (suc (suc zero)) h = read .blue .is
-  channel-is (suc (suc (suc c))) h = absurd (omega arith)
+  channel-is = below-three (λ c. numbersIn stored c ≡ fourOf (placesOf m n c)) (read .red .is) (read .green .is) (read .blue .is)
 
   number-is : (c e : ℕ) → c < 3 → e < 4 → endAt (numbersIn stored c) e ≡ pos (placesOf m n c e)
   number-is c e hc he = ap (λ (l : List ℤ). getD l e (pos 0)) (channel-is c hc) ∙ four-at (placesOf m n c) e he
@@ -100,10 +95,7 @@ unfolding transformed
 mode-14 = refl
 
 own-four : (c : ℕ) → c < 3 → ownWidth 14 c ≡ 4
-own-four zero h = refl
-own-four (suc zero) h = refl
-own-four (suc (suc zero)) h = refl
-own-four (suc (suc (suc c))) h = absurd (omega arith)
+own-four = below-three (λ c. ownWidth 14 c ≡ 4) refl refl refl
 
 module _ (s : Bool) {n : ℕ} {r : Ends} (k : SixteenEnds n r) (c : ℕ) (h : c < 3) where
   done : Sixteen (numbersIn (k .stored) c) (channelOf r c)

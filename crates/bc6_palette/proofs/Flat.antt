@@ -11,6 +11,7 @@ use Rattle.laws.specs.Pick.{pick}
 use Rattle.laws.specs.Bit.{bit}
 use Rattle.laws.specs.Made.{made}
 use Rattle.laws.proofs.Rows.{made-same, made-each, getD-made}
+use Rattle.laws.proofs.Below.{below-three}
 use Rattle.bc6h_spec.specs.declared.Fields.{Fields}
 use Rattle.bc6h_spec.specs.Layout.{twoRegions, precision}
 use Rattle.bcn_spec.specs.Regions.{mapOf}
@@ -30,10 +31,9 @@ use Rattle.bc6_palette.specs.Triples.{markedTriple, inTriples, noHalf, t
 
 channel : (values : List ℕ) (k c : ℕ) → c < 3 → getD (markedTriple values k) c noHalf ≡ marked (getD values (3 * k + c) 0)
 unfolding markedTriple
-channel values k zero h = let e : 3 * k ≡ 3 * k + 0 = omega arith in ap (λ (j : ℕ). marked (getD values j 0)) e
-channel values k (suc zero) h = refl
-channel values k (suc (suc zero)) h = refl
-channel values k (suc (suc (suc c))) h = absurd (omega arith)
+channel values k =
+    below-three (λ c. getD (markedTriple values k) c noHalf ≡ marked (getD values (3 * k + c) 0))
+    (let e : 3 * k ≡ 3 * k + 0 = omega arith in ap (λ (j : ℕ). marked (getD values j 0)) e) refl refl
 
 half-triples : (values : List ℕ) (j : ℕ) → j < 48 → tripleHalf (inTriples values) j ≡ marked (getD values j 0)
 unfolding inTriples tripleHalf

@@ -5,6 +5,7 @@ use native.Mathlib.Nat.{add-mul, mul-assoc, div-one}
 use native.Mathlib.Omega.{arith}
 use lib.Pow.{shr-shr, split, shr-mod}
 use lib.Bits.{bitAnd, and-shr, and-mod}
+use Rattle.laws.proofs.Below.{below-four}
 use Rattle.bc6_runs.specs.Threes.{lane, fourLanes}
 
 abbrev pub below64 : ℕ
@@ -50,23 +51,11 @@ module _ (w x y z : ℕ) (hw : w < 65536) (hx : x < 65536) (hy : y < 65536) (hz 
 
   -- four numbers of sixteen bits are the lanes of their word ..
   pub lane-of-four : (e : ℕ) → e < 4 → lane (fourLanes w x y z) e ≡ fourth w x y z e
-  lane-of-four zero h = lane-0
-  lane-of-four (suc zero) h = lane-1
-  lane-of-four (suc (suc zero)) h = lane-2
-  lane-of-four (suc (suc (suc zero))) h = lane-3
-  lane-of-four (suc (suc (suc (suc e)))) h = absurd (omega arith)
+  lane-of-four = below-four (λ e. lane (fourLanes w x y z) e ≡ fourth w x y z e) lane-0 lane-1 lane-2 lane-3
 
   -- the word has 64 bits
   pub four-fits : fourLanes w x y z < below64
   four-fits = omega arith
-
--- what holds of a word's four lanes, one by one
-pub each-lane : (P : ℕ → Type 0) → P 0 → P 1 → P 2 → P 3 → (e : ℕ) → e < 4 → P e
-each-lane P a b c d zero h = a
-each-lane P a b c d (suc zero) h = b
-each-lane P a b c d (suc (suc zero)) h = c
-each-lane P a b c d (suc (suc (suc zero))) h = d
-each-lane P a b c d (suc (suc (suc (suc e)))) h = absurd (omega arith)
 
 -- ---- four numbers in one word, worked on at once
 

@@ -18,6 +18,7 @@ use borrow.Author.Tests.{eq-eqb}
 use Rattle.laws.specs.Pick.{pick}
 use Rattle.laws.specs.Every.{every}
 use Rattle.laws.proofs.Num.{widened}
+use Rattle.laws.proofs.Below.{below-four}
 use Rattle.laws.proofs.Tests.{both-left, both-right, below-at}
 use Rattle.bcn_util.specs.Runs.{Run, part, sum, readable, most}
 use Rattle.bc6_runs.specs.Ends.{runIn, endOf, runsOf, sumAt, fits, fourOf}
@@ -108,11 +109,7 @@ module _ (n : ℕ) (codes : List ℕ) (t : T (fits codes)) where
 -- ---- four numbers
 
 pub four-at : (f : ℕ → ℕ) (e : ℕ) → e < 4 → getD (fourOf f) e (pos 0) ≡ pos (f e)
-four-at f zero h = refl
-four-at f (suc zero) h = refl
-four-at f (suc (suc zero)) h = refl
-four-at f (suc (suc (suc zero))) h = refl
-four-at f (suc (suc (suc (suc e)))) h = absurd (omega arith)
+four-at f = below-four (λ e. getD (fourOf f) e (pos 0) ≡ pos (f e)) refl refl refl refl
 
 pub four-same : (f g : ℕ → ℕ) → f 0 ≡ g 0 → f 1 ≡ g 1 → f 2 ≡ g 2 → f 3 ≡ g 3 → fourOf f ≡ fourOf g
 four-same f g a b c d = λ i. pos (a i) ∷ pos (b i) ∷ pos (c i) ∷ pos (d i) ∷ []

@@ -8,12 +8,13 @@ use lib.Bits.{bitAnd, and-mask, and-high, and-le-r, and-zero-r}
 use lib.Dec.{T, lit<, lit≤}
 use lib.IntN.{ℤ, pos}
 use lib.Pow.{pow-pos, pow-mono, pow-add, shl-lt, shr-shr, field, mod-mod-pow, high-ones}
-use Rattle.bc6_runs.proofs.Lanes.{sums, products, whole, fourth, lane-of-four, four-fits, each-lane, and-lane}
+use Rattle.bc6_runs.proofs.Lanes.{sums, products, whole, fourth, lane-of-four, four-fits, and-lane}
 use Rattle.bc6h_spec.specs.Layout.{row, rows, row11, row12, row13, row14, precision}
 use Rattle.bc6h_spec.specs.Fields.{gathered, fieldsAt}
 use Rattle.bc6h_spec.proofs.Reading.{at-endpoint, read-valid}
 use borrow.Author.Tests.{lt-leb, ne-eqb}
 use Rattle.laws.specs.Pick.{either}
+use Rattle.laws.proofs.Below.{below-three, below-four}
 use Rattle.bcn_util.specs.Runs.{Run, sum}
 use Rattle.bc6_runs.specs.declared.Channels.{Channels}
 use Rattle.bc6_runs.specs.Ends.{fourOf, placesOf, isExtra, modeBy, twoOf, ChannelsRead}
@@ -22,12 +23,6 @@ use Rattle.bc6_runs.proofs.Gathering.{runs, run-law}
 use Rattle.bc6_runs.proofs.Stored.{channels-read}
 
 -- ---- three numbers in one word
-
-pub each-three : (P : ℕ → Type 0) → P 0 → P 1 → P 2 → (c : ℕ) → c < 3 → P c
-each-three P x y z zero h = x
-each-three P x y z (suc zero) h = y
-each-three P x y z (suc (suc zero)) h = z
-each-three P x y z (suc (suc (suc c))) h = absurd (omega arith)
 
 three-same : (f g : ℕ → ℕ) → ((c : ℕ) → c < 3 → f c ≡ g c) → threeOf f ≡ threeOf g
 three-same f g e = λ i. fourLanes (e 0 (lit< tt) i) (e 1 (lit< tt) i) (e 2 (lit< tt) i) 0
@@ -43,7 +38,7 @@ module _ (f : ℕ → ℕ) (small : (c : ℕ) → c < 3 → f c < 65536) where
   lanes = lane-of-four (f 0) (f 1) (f 2) 0 (small 0 (lit< tt)) (small 1 (lit< tt)) (small 2 (lit< tt)) (lit< tt)
 
   pub three-lane : (c : ℕ) → c < 3 → lane (threeOf f) c ≡ f c
-  three-lane = each-three (λ c. lane (threeOf f) c ≡ f c) (lanes 0 (lit< tt)) (lanes 1 (lit< tt)) (lanes 2 (lit< tt))
+  three-lane = below-three (λ c. lane (threeOf f) c ≡ f c) (lanes 0 (lit< tt)) (lanes 1 (lit< tt)) (lanes 2 (lit< tt))
 
   three-top : lane (threeOf f) 3 ≡ 0
   three-top = lanes 3 (lit< tt)
@@ -198,11 +193,11 @@ pub record Rows (mode : ℕ) : Type 0 where
 all : (m : ℕ) → m < 4 → Rows (m + 11)
 unfolding rows row11 row12 row13 row14
 all =
-    each-lane (λ m. Rows (m + 11))
-    (record { first = each-three (λ c. runs (row 11) 0 c ≡ firstRuns 0 c) refl refl refl; second = each-three (λ c. runs (row 11) 0 (3 + c) ≡ secondRuns 0 c) refl refl refl })
-    (record { first = each-three (λ c. runs (row 12) 0 c ≡ firstRuns 1 c) refl refl refl; second = each-three (λ c. runs (row 12) 0 (3 + c) ≡ secondRuns 1 c) refl refl refl })
-    (record { first = each-three (λ c. runs (row 13) 0 c ≡ firstRuns 2 c) refl refl refl; second = each-three (λ c. runs (row 13) 0 (3 + c) ≡ secondRuns 2 c) refl refl refl })
-    (record { first = each-three (λ c. runs (row 14) 0 c ≡ firstRuns 6 c) refl refl refl; second = each-three (λ c. runs (row 14) 0 (3 + c) ≡ secondRuns 6 c) refl refl refl })
+    below-four (λ m. Rows (m + 11))
+    (record { first = below-three (λ c. runs (row 11) 0 c ≡ firstRuns 0 c) refl refl refl; second = below-three (λ c. runs (row 11) 0 (3 + c) ≡ secondRuns 0 c) refl refl refl })
+    (record { first = below-three (λ c. runs (row 12) 0 c ≡ firstRuns 1 c) refl refl refl; second = below-three (λ c. runs (row 12) 0 (3 + c) ≡ secondRuns 1 c) refl refl refl })
+    (record { first = below-three (λ c. runs (row 13) 0 c ≡ firstRuns 2 c) refl refl refl; second = below-three (λ c. runs (row 13) 0 (3 + c) ≡ secondRuns 2 c) refl refl refl })
+    (record { first = below-three (λ c. runs (row 14) 0 c ≡ firstRuns 6 c) refl refl refl; second = below-three (λ c. runs (row 14) 0 (3 + c) ≡ secondRuns 6 c) refl refl refl })
 
 -- the mode that has so many bits above the tenth
 pub record PairMode (extra : ℕ) : Type 0 where

@@ -9,7 +9,13 @@ use Rattle.laws.specs.Every.{below}
 use Rattle.laws.proofs.Tests.{below-at}
 use Rattle.laws.proofs.Search.{is-false, both-hold}
 
--- what holds of four numbers, one by one
+-- what holds of three numbers, or of four, one by one
+pub below-three : (P : ℕ → Type 0) → P 0 → P 1 → P 2 → (e : ℕ) → e < 3 → P e
+below-three P a b c zero h = a
+below-three P a b c (suc zero) h = b
+below-three P a b c (suc (suc zero)) h = c
+below-three P a b c (suc (suc (suc e))) h = absurd (omega arith)
+
 pub below-four : (P : ℕ → Type 0) → P 0 → P 1 → P 2 → P 3 → (e : ℕ) → e < 4 → P e
 below-four P a b c d zero h = a
 below-four P a b c d (suc zero) h = b

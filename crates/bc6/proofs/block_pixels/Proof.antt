@@ -23,12 +23,6 @@ returns-3 c = painted-output _ _ _ _ (omega arith) (omega arith) (omega arith) (
 few : (c : tie.After-extract-mode) → c .extract-mode .result ≤ 14
 few c = rw (c .extract-mode .ensures) (mode-range _)
 
-cast-mode : tie.Need-cast-mode
-cast-mode c = let h = few c in record { fits = omega arith }
-
-show-requires : tie.Need-show-requires
-show-requires c κs = (c .before .extract-mode .ensures, omega arith)
-
 returns-4 : tie.Need-returns-4
 unfolding modeOf
 returns-4 c =
@@ -50,7 +44,7 @@ block-pixels-spec =
     returns-3
     (λ c κs. search needs)
     (λ c κs. search needs)
-    cast-mode
-    show-requires
+    (λ c. let h = few c in record { fits = omega arith })
+    (λ c κs. (c .before .extract-mode .ensures, omega arith))
     (λ c. search needs)
     returns-4)

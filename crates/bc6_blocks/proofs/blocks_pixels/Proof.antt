@@ -14,9 +14,6 @@ returns-2 c = painted-blocks _ _ _ _ (omega arith) (c .before .if2 .taken) (c .r
 returns-3 : tie.Need-returns-3
 returns-3 c = painted-output _ _ _ _ (omega arith) (omega arith) (omega arith) (c .refused3 .ensures)
 
-paint-run-requires : tie.Need-paint-run-requires
-paint-run-requires c κs = (omega arith, omega arith)
-
 returns-4 : tie.Need-returns-4
 returns-4 c = painted-done _ _ _ _ _ (omega arith) (omega arith) (omega arith) (c .before .before .paint-run .ensures)
 
@@ -30,6 +27,6 @@ blocks-pixels-spec =
     returns-2
     (λ c κs. search needs)
     returns-3
-    paint-run-requires
+    (λ c κs. (omega arith, omega arith))
     (λ c. search needs)
     returns-4)

@@ -25,14 +25,8 @@ abbrev μ-loop : tie.MeasureT-loop
 loop-holds : tie.Need-loop-holds Inv-loop μ-loop
 loop-holds c = (search needs, run-start _ _ _, refl, none-counted _ _)
 
-new-requires : tie.Need-new-requires Inv-loop μ-loop
-new-requires c κs = simp (length-take, length-drop) (omega arith)
-
 few : (c : tie.After-extract-mode Inv-loop μ-loop) → c .extract-mode .result ≤ 14
 few c = rw (c .extract-mode .ensures) (mode-range _)
-
-cast-mode : tie.Need-cast-mode Inv-loop μ-loop
-cast-mode c = let h = few c in record { fits = omega arith }
 
 show-requires : tie.Need-show-requires Inv-loop μ-loop
 show-requires c κs = (c .before .extract-mode .ensures, simp (length-take, length-drop) (omega arith))
@@ -71,9 +65,9 @@ paint-run-spec =
     (λ c. search needs)
     (λ c. search needs)
     (λ c. search needs)
-    new-requires
+    (λ c κs. simp (length-take, length-drop) (omega arith))
     (λ c κs. search needs)
-    cast-mode
+    (λ c. let h = few c in record { fits = omega arith })
     (λ c. search needs)
     (λ c. search needs)
     (λ c. search needs)

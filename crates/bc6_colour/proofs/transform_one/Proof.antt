@@ -25,9 +25,6 @@ low c =
     ∙ c .keep-bits .ensures
     ∙ ap (λ (z : ℤ). pos (keep (c .before .args .bits) z)) (kept (sum (c .before)) tt .is)
 
-add-keep-bits : tie.Need-add-keep-bits
-add-keep-bits c = need (sum c) tt
-
 sign-extend-requires : tie.Need-sign-extend-requires
 sign-extend-requires c κs =
     let s = c .before .before in (
@@ -54,4 +51,4 @@ returns-2 c =
 
 pub transform-one-spec : {M : Type 1} → statement M
 transform-one-spec =
-    tie.close (tie.spec add-keep-bits (λ c κs. search needs) sign-extend-requires returns returns-2)
+    tie.close (tie.spec (λ c. need (sum c) tt) (λ c κs. search needs) sign-extend-requires returns returns-2)

@@ -29,12 +29,6 @@ mask s = ones (s .args .bits - 1) (omega arith)
 abbrev sum : tie.Start → ℤ → Num
 sum s k = add (shl (s .args .m) (s .pre .2 .nonneg) 32768 536903680 (room s) tt) (lit k)
 
-add-mid : tie.Need-add-mid
-add-mid c = need (sum c _) tt
-
-sub-top-2 : tie.Need-sub-top-2
-sub-top-2 c = need (mask c) tt
-
 returns : tie.Need-returns
 returns c =
     let s = c .before in
@@ -61,14 +55,14 @@ pub unquantize-magnitude-spec : {M : Type 1} → statement M
 unquantize-magnitude-spec =
     tie.close
     (tie.spec
-    add-mid
+    (λ c. need (sum c _) tt)
     (λ c. search needs)
     (λ c. search needs)
     (λ c. search needs)
     (λ c. search needs)
     (λ c. search needs)
     (λ c. search needs)
-    sub-top-2
+    (λ c. need (mask c) tt)
     returns
     returns-2
     returns-3)

@@ -63,9 +63,6 @@ made c =
 abbrev result : tie.After-unquantize-magnitude → Num
 result c = given 32767 (c .unquantize-magnitude .result) (record { sfits = c .unquantize-magnitude .ok }) (rw (made c) (uM-le _ _))
 
-sub-result : tie.Need-sub-result
-sub-result c = need (neg (result (c .before))) tt
-
 returns : tie.Need-returns
 returns c =
     let s = c .before .before .before in
@@ -83,4 +80,4 @@ returns-2 c =
     ∙ signed-is s
 
 pub unquantize-signed-spec : {M : Type 1} → statement M
-unquantize-signed-spec = tie.close (tie.spec magnitude-requires unquantize-magnitude-requires sub-result returns returns-2)
+unquantize-signed-spec = tie.close (tie.spec magnitude-requires unquantize-magnitude-requires (λ c. need (neg (result (c .before))) tt) returns returns-2)

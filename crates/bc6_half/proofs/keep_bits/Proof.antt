@@ -13,13 +13,10 @@ use Rattle.bc6_half.proofs.keep_bits.Tie as tie
 abbrev mask : tie.Start → Num
 mask c = ones (c .args .bits) (c .pre)
 
-sub-result : tie.Need-sub-result
-sub-result c = need (mask c) tt
-
 returns : tie.Need-returns
 returns c =
     ap (λ (z : ℤ). toZ w32 (bitAnd (ofZ w32 (c .args .x)) (ofZ w32 z))) (mask c .is)
     ∙ masked (c .args .bits) (c .args .x) (c .pre) (c .fits .x)
 
 pub keep-bits-spec : {M : Type 1} → statement M
-keep-bits-spec = tie.close (tie.spec (λ c. search needs) (λ c. search needs) sub-result returns)
+keep-bits-spec = tie.close (tie.spec (λ c. search needs) (λ c. search needs) (λ c. need (mask c) tt) returns)

@@ -9,9 +9,6 @@ use Rattle.bc6_half.proofs.magnitude.Tie as tie
 abbrev x : tie.Start → Num
 x c = arg 65536 (c .fits .x) (c .pre .inside)
 
-sub-result : tie.Need-sub-result
-sub-result c = need (neg (x (c .before))) tt
-
 returns : tie.Need-returns
 returns c = kept (neg (x (c .before))) tt .is ∙ mag-neg (c .before .args .x) (lt-flag (x (c .before)) (lit (pos 0)) (c .if1 .taken))
 
@@ -19,4 +16,4 @@ returns-2 : tie.Need-returns-2
 returns-2 c = x (c .before) .is ∙ mag-pos (c .before .args .x) (lt-flag (x (c .before)) (lit (pos 0)) (c .if1 .left))
 
 pub magnitude-spec : {M : Type 1} → statement M
-magnitude-spec = tie.close (tie.spec sub-result returns returns-2)
+magnitude-spec = tie.close (tie.spec (λ c. need (neg (x (c .before))) tt) returns returns-2)

@@ -5,12 +5,6 @@ use Rattle.bc6h_spec.specs.Picture.{picture}
 use Rattle.bc6_palette.proofs.picture_of.Statement.{statement}
 use Rattle.bc6_palette.proofs.picture_of.Tie as tie
 
-decode-two-requires : tie.Need-decode-two-requires
-decode-two-requires c κs = (search needs, le-leb _ _ (c .if1 .taken))
-
-decode-one-requires : tie.Need-decode-one-requires
-decode-one-requires c κs = (search needs, lt-leb _ _ (c .if1 .left))
-
 returns : tie.Need-returns
 unfolding picture
 returns c = c .decode-two .ensures
@@ -20,4 +14,4 @@ unfolding picture
 returns-2 c = c .decode-one .ensures
 
 pub picture-of-spec : {M : Type 1} → statement M
-picture-of-spec = tie.close (tie.spec decode-two-requires returns decode-one-requires returns-2)
+picture-of-spec = tie.close (tie.spec (λ c κs. (search needs, le-leb _ _ (c .if1 .taken))) returns (λ c κs. (search needs, lt-leb _ _ (c .if1 .left))) returns-2)

@@ -11,9 +11,6 @@ returns c = painted-blocks _ _ _ (c .before .if1 .taken) (c .refused .ensures)
 returns-2 : tie.Need-returns-2
 returns-2 c = painted-output _ _ _ (omega arith) (omega arith) (c .refused2 .ensures)
 
-paint-run-requires : tie.Need-paint-run-requires
-paint-run-requires c κs = (omega arith, omega arith)
-
 returns-3 : tie.Need-returns-3
 returns-3 c = painted-done _ _ _ (omega arith) (omega arith) (c .before .before .paint-run .ensures)
 
@@ -25,6 +22,6 @@ bc7-blocks-pixels-spec =
     returns
     (λ c κs. search needs)
     returns-2
-    paint-run-requires
+    (λ c κs. (omega arith, omega arith))
     (λ c. search needs)
     returns-3)

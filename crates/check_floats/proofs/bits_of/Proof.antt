@@ -9,11 +9,8 @@ use Rattle.check_floats.proofs.bits_of.Tie as tie
 returns : tie.Need-returns
 returns c = shown-none _ (c .if1 .taken) ∙ ap floatBits (c .before .float-of .ensures)
 
-float-to-bits-result : tie.Need-float-to-bits-result
-float-to-bits-result c = itself _ (c .if1 .left)
-
 returns-2 : tie.Need-returns-2
 returns-2 c = shown-number _ (itself _ (c .if1 .left)) ∙ ap floatBits (c .before .float-of .ensures)
 
 pub bits-of-spec : {M : Type 1} → statement M
-bits-of-spec = tie.close (tie.spec (λ c κs. search needs) returns float-to-bits-result returns-2)
+bits-of-spec = tie.close (tie.spec (λ c κs. search needs) returns (λ c. itself _ (c .if1 .left)) returns-2)

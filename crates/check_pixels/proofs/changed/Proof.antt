@@ -16,9 +16,6 @@ abbrev μ-loop : tie.MeasureT-loop
 loop-again : tie.Need-loop-again Inv-loop μ-loop
 loop-again c = ⊎-elim (λ w. omega arith) (λ w. omega arith) (c .if1 .came)
 
-returns : tie.Need-returns Inv-loop μ-loop
-returns c = tt
-
 pub changed-spec : {M : Type 1} → statement M
 changed-spec =
     tie.close
@@ -32,4 +29,4 @@ changed-spec =
     (λ c. search needs)
     (λ c. search needs)
     loop-again
-    returns)
+    (λ c. tt))

@@ -21,9 +21,6 @@ loop-holds c = (search needs, search needs, refl)
 small : (c : tie.After-replay-one Inv-loop μ-loop) → c .replay-one .result ≤ 1
 small c = counts-most (c .before .before .before .before .args .list .now) (c .before .before .loop .n) (c .replay-one .ensures)
 
-add-count : tie.Need-add-count Inv-loop μ-loop
-add-count c = record { fits = omega (arith, small c) }
-
 loop-again : tie.Need-loop-again Inv-loop μ-loop
 loop-again c = (
   search needs,
@@ -44,7 +41,7 @@ replay-spec =
     μ-loop
     loop-holds
     (λ c κs. search needs)
-    add-count
+    (λ c. record { fits = omega (arith, small c) })
     (λ c. search needs)
     (λ c. search needs)
     loop-again

@@ -5,15 +5,12 @@ use lib.Seq.{length-take-le}
 use Rattle.check_store.proofs.list_lent.Statement.{statement}
 use Rattle.check_store.proofs.list_lent.Tie as tie
 
-slice-aggregate-twin-list : tie.Need-slice-aggregate-twin-list
-slice-aggregate-twin-list c = sym (length-take-le _ _ (omega arith))
-
 pub list-lent-spec : {M : Type 1} → statement M
 list-lent-spec =
     tie.close
     (tie.spec
     (λ c. search needs)
-    slice-aggregate-twin-list
+    (λ c. sym (length-take-le _ _ (omega arith)))
     (λ c κs. search needs)
     (λ c. search needs)
     (λ c. search needs))

@@ -27,17 +27,8 @@ here c = placed _ _ _ _ _ (search needs) (search needs) (search needs) (search n
 loop-holds : tie.Need-loop-holds Inv-loop μ-loop
 loop-holds c = (search needs, run-start _ _ (length-of _ _ _) _, refl)
 
-mul-first : tie.Need-mul-first Inv-loop μ-loop
-mul-first c = let p = here c in record { fits = omega arith }
-
 mul-at-2 : tie.Need-mul-at-2 Inv-loop μ-loop
 mul-at-2 c = let p = here c in record { fits = omega (arith, p .most) }
-
-sub-put-band : tie.Need-sub-put-band Inv-loop μ-loop
-sub-put-band c = let p = here c in omega (arith, p .behind-it)
-
-part-put-band-start : tie.Need-part-put-band-start Inv-loop μ-loop
-part-put-band-start c = let p = here c in omega (arith, p .behind-it)
 
 put-band-requires : tie.Need-put-band-requires Inv-loop μ-loop
 put-band-requires c κs =
@@ -70,13 +61,13 @@ put-bands-spec =
     Inv-loop
     μ-loop
     loop-holds
-    mul-first
+    (λ c. let p = here c in record { fits = omega arith })
     (λ c. search needs)
     (λ c. search needs)
     mul-at-2
     (λ c. search needs)
-    sub-put-band
-    part-put-band-start
+    (λ c. let p = here c in omega (arith, p .behind-it))
+    (λ c. let p = here c in omega (arith, p .behind-it))
     (λ c. search needs)
     put-band-requires
     (λ c. search needs)

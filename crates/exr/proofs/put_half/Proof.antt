@@ -6,13 +6,10 @@ use Rattle.exr.proofs.Bands.{half-stores}
 use Rattle.exr.proofs.put_half.Statement.{statement}
 use Rattle.exr.proofs.put_half.Tie as tie
 
-slice-write-out-2 : tie.Need-slice-write-out-2
-slice-write-out-2 c = simp length-set (omega arith)
-
 returns : tie.Need-returns
 returns c = half-stores (c .args .out .now) (c .args .at) (c .args .half)
 
 pub put-half-spec : {M : Type 1} → statement M
 put-half-spec =
     tie.close
-    (tie.spec (λ c. search needs) (λ c. search needs) (λ c. search needs) (λ c. search needs) slice-write-out-2 (λ c. search needs) returns)
+    (tie.spec (λ c. search needs) (λ c. search needs) (λ c. search needs) (λ c. search needs) (λ c. simp length-set (omega arith)) (λ c. search needs) returns)

@@ -41,9 +41,6 @@ add-put-half-2 c = let p = here c in record { fits = omega (arith, p .0, p .1) }
 mul-put-half-3 : tie.Need-mul-put-half-3 Inv-loop μ-loop
 mul-put-half-3 c = let p = here c in record { fits = omega (arith, p .0, p .1) }
 
-shared-slice-read-put-half : tie.Need-shared-slice-read-put-half Inv-loop μ-loop
-shared-slice-read-put-half c = let p = here (c .before) in omega (arith, p .0)
-
 loop-again : tie.Need-loop-again Inv-loop μ-loop
 unfolding squareValue
 loop-again c =
@@ -70,7 +67,7 @@ put-channel-spec =
     mul-put-half-2
     add-put-half-2
     mul-put-half-3
-    shared-slice-read-put-half
+    (λ c. let p = here (c .before) in omega (arith, p .0))
     (λ c. search needs)
     (λ c. search needs)
     (λ c κs. search needs)

@@ -11,9 +11,6 @@ returns c = holder-none _ _ (search needs)
 returns-2 : tie.Need-returns-2
 returns-2 c = holder-past _ _ (c .before .if1 .left) (search needs)
 
-sub-if3 : tie.Need-sub-if3
-sub-if3 c = omega (arith, c .before .if1 .left)
-
 shared-slice-read-if3 : tie.Need-shared-slice-read-if3
 shared-slice-read-if3 c = omega (arith, c .before .before .if1 .left, c .before .if2 .left)
 
@@ -26,4 +23,4 @@ returns-4 c = holder-fine _ _ (c .before .before .before .if1 .left) (search nee
 pub holder-refusal-spec : {M : Type 1} → statement M
 holder-refusal-spec =
     tie.close
-    (tie.spec returns returns-2 sub-if3 (λ c. search needs) (λ c. search needs) shared-slice-read-if3 returns-3 returns-4)
+    (tie.spec returns returns-2 (λ c. omega (arith, c .before .if1 .left)) (λ c. search needs) (λ c. search needs) shared-slice-read-if3 returns-3 returns-4)

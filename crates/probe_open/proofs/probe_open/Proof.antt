@@ -6,9 +6,6 @@ use Rattle.probe_open.proofs.Opening.{open-refused, open-short, open-do
 use Rattle.probe_open.proofs.probe_open.Statement.{statement}
 use Rattle.probe_open.proofs.probe_open.Tie as tie
 
-check-places-requires : tie.Need-check-places-requires
-check-places-requires c κs = held-none _ _ refl
-
 returns : tie.Need-returns
 returns c = open-refused _ (c .before .before .before .check-places .ensures) (c .if1 .taken)
 
@@ -26,7 +23,7 @@ probe-open-spec =
     tie.close
     (tie.spec
     (λ c. search needs)
-    check-places-requires
+    (λ c κs. held-none _ _ refl)
     returns
     (λ c κs. search needs)
     returns-2

@@ -7,18 +7,6 @@ use Rattle.probe_put.proofs.Putting.{five}
 use Rattle.probe_put.proofs.store_place.Statement.{statement}
 use Rattle.probe_put.proofs.store_place.Tie as tie
 
-slice-write-out-2 : tie.Need-slice-write-out-2
-slice-write-out-2 c = simp length-set (omega arith)
-
-slice-write-out-3 : tie.Need-slice-write-out-3
-slice-write-out-3 c = simp length-set (omega arith)
-
-slice-write-out-4 : tie.Need-slice-write-out-4
-slice-write-out-4 c = simp length-set (omega arith)
-
-slice-write-out-5 : tie.Need-slice-write-out-5
-slice-write-out-5 c = simp length-set (omega arith)
-
 returns : tie.Need-returns
 returns c = five (c .args .out .now) (c .args .n * 32 + 5) _ _ _ _ _
 
@@ -31,15 +19,15 @@ store-place-spec =
     (λ c. search needs)
     (λ c. search needs)
     (λ c. search needs)
-    slice-write-out-2
+    (λ c. simp length-set (omega arith))
     (λ c. search needs)
     (λ c. search needs)
-    slice-write-out-3
+    (λ c. simp length-set (omega arith))
     (λ c. search needs)
     (λ c. search needs)
-    slice-write-out-4
+    (λ c. simp length-set (omega arith))
     (λ c. search needs)
     (λ c. search needs)
-    slice-write-out-5
+    (λ c. simp length-set (omega arith))
     (λ c. search needs)
     returns)

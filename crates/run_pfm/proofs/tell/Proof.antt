@@ -5,15 +5,12 @@ use borrow.Author.Needs.{needs}
 use Rattle.run_pfm.proofs.tell.Statement.{statement}
 use Rattle.run_pfm.proofs.tell.Tie as tie
 
-slice-aggregate-write-all-2 : tie.Need-slice-aggregate-write-all-2
-slice-aggregate-write-all-2 c = sym (length-take-le _ _ (search needs))
-
 pub tell-spec : {M : Type 1} → statement M
 tell-spec =
     tie.close
     (tie.spec
     (λ c. search needs)
     (λ c κs. search needs)
-    slice-aggregate-write-all-2
+    (λ c. sym (length-take-le _ _ (search needs)))
     (λ c κs. search needs)
     (λ c. search needs))

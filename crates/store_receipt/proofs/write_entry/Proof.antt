@@ -2,9 +2,6 @@ use borrow.Author.Needs.{needs}
 use Rattle.store_receipt.proofs.write_entry.Statement.{statement}
 use Rattle.store_receipt.proofs.write_entry.Tie as tie
 
-returns : tie.Need-returns
-returns c = cc
-
 pub write-entry-spec : {M : Type 1} → statement M
 write-entry-spec =
     tie.close
@@ -14,4 +11,4 @@ write-entry-spec =
     (λ c. search needs)
     (λ c κs. search needs)
     (λ c. search needs)
-    returns)
+    (λ c. cc))

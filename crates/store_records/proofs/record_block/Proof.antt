@@ -15,18 +15,6 @@ found c = known _ _ (laws.unrefused (c .before .before .record-at .ensures) (c .
 returns : tie.Need-returns
 returns c = sym (laws.empty-refused _ _ (laws.refused (c .before .before .before .record-at .ensures) (c .before .enum-told2 .given .1)))
 
-mul-start : tie.Need-mul-start
-mul-start c = let k = found c in omega arith
-
-add-start : tie.Need-add-start
-add-start c = let k = found c in omega arith
-
-add-end : tie.Need-add-end
-add-end c = let k = found c in omega arith
-
-part-result-end : tie.Need-part-result-end
-part-result-end c = let k = found c in omega arith
-
 returns-2 : tie.Need-returns-2
 unfolding blockOf
 returns-2 c = rw (laws.unrefused (c .before .before .before .record-at .ensures) (c .before .enum-told .given .1), add-sub-cancel-left)
@@ -40,10 +28,10 @@ record-block-spec =
     (λ c. search needs)
     (λ c. search needs)
     returns
-    mul-start
-    add-start
-    add-end
+    (λ c. let k = found c in omega arith)
+    (λ c. let k = found c in omega arith)
+    (λ c. let k = found c in omega arith)
     (λ c. search needs)
     (λ c. search needs)
-    part-result-end
+    (λ c. let k = found c in omega arith)
     returns-2)

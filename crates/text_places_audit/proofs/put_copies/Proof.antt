@@ -29,9 +29,6 @@ loop-again c =
     let f = c .before .first-of .ensures .1 in
     (search needs, search needs, search needs, lines.tally-skipped store (l .n) _ f (c .if1 .taken) (l .inv .3), lines.line-skipped store (l .n) _ f (c .if1 .taken) (l .inv .4))
 
-put-copy-requires : tie.Need-put-copy-requires Inv-loop μ-loop
-put-copy-requires c κs = search needs
-
 add-copies : tie.Need-add-copies Inv-loop μ-loop
 add-copies c = let few = c .before .before .before .before .before .before .before .loop .inv .3 .few in search needs
 
@@ -59,7 +56,7 @@ put-copies-spec =
     (λ c. search needs)
     (λ c. search needs)
     loop-again
-    put-copy-requires
+    (λ c κs. search needs)
     add-copies
     (λ c. search needs)
     (λ c. search needs)

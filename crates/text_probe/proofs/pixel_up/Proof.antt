@@ -8,9 +8,6 @@ use Rattle.text_probe.proofs.pixel_up.Tie as tie
 place : (c : tie.Start) → Here (c .args .side) (c .args .j)
 place c = here _ _ (search needs) (search needs)
 
-sub-result-2 : tie.Need-sub-result-2
-sub-result-2 c = let p = place c in omega arith
-
 mul-result : tie.Need-mul-result
 mul-result c = let p = place c in let s = square-few (c .args .side) (search needs) in record { fits = omega arith }
 
@@ -23,4 +20,4 @@ returns c = (up-is _ _, place c .inside)
 pub pixel-up-spec : {M : Type 1} → statement M
 pixel-up-spec =
     tie.close
-    (tie.spec (λ c. search needs) (λ c. search needs) sub-result-2 mul-result (λ c. search needs) add-result returns)
+    (tie.spec (λ c. search needs) (λ c. search needs) (λ c. let p = place c in omega arith) mul-result (λ c. search needs) add-result returns)

@@ -1,17 +1,14 @@
 -- The values of a run of blocks, block by block. Assumes nothing.
-use mathlib.Core.Path.{_≡_, _∙_, refl, sym, ap, ap₂}
+use mathlib.Core.Path.{_≡_, _∙_, refl, sym, ap}
 use mathlib.Core.Bool.{Bool}
-use mathlib.Core.List.{List, [], _++_, append-nil, append-assoc}
-use mathlib.Core.Logic.{⊎-elim}
-use Prim.Native.Nat.{ℕ, zero, suc, _+_, _-_, _*_, _≤_, _<_}
-use native.Mathlib.Nat.{le-of-suc-le-suc, not-suc-le-zero, eq-or-lt-of-le}
-use native.Mathlib.Numerals.{add-one}
+use mathlib.Core.List.{List, [], _++_}
+use Prim.Native.Nat.{ℕ, _+_, _-_, _*_, _≤_, _<_}
 use native.Mathlib.Omega.{arith}
-use lib.ListN.{length, take, drop, length-append, length-drop, drop-of-length-le}
-use lib.Seq.{take-all, take-at, drop-at, drop-drop}
+use lib.ListN.{length, take, drop}
 use borrow.Rule.Slice.PartMut.{midOf, putMid}
 use Rattle.laws.specs.Made.{made, countOf, total}
-use Rattle.laws.proofs.Rows.{join-last, count-le}
+use Rattle.laws.proofs.Rows.{count-le}
+use Rattle.laws.proofs.Joined as joined
 use Rattle.laws.proofs.Counts.{count-append, count-join}
 use Rattle.bcn_spec.specs.Bits.{numberOf}
 use Rattle.bc6h_spec.specs.Half.{minusInfinity}
@@ -43,19 +40,16 @@ module _ (signed : Bool) (blocks : List ℕ) where
   run-none = refl
 
   pub run-more : (n : ℕ) → runOf signed blocks (n + 1) ≡ runOf signed blocks n ++ shownAt signed blocks n
-  unfolding runOf made
-  run-more n = rw (add-one n) (join-last (made (shownAt signed blocks) n) (shownAt signed blocks n))
+  unfolding runOf
+  run-more = joined.run-more (shownAt signed blocks)
 
   length-shown : (n : ℕ) → length (shownAt signed blocks n) ≡ valueCount
   unfolding shownAt
   length-shown n = length-pixels signed (blockAt blocks n)
 
   pub length-run : (n : ℕ) → length (runOf signed blocks n) ≡ valueCount * n
-  length-run zero = ap length run-none
-  length-run (suc n) =
-      ap (λ (k : ℕ). length (runOf signed blocks k)) (sym (add-one n)) ∙ ap length (run-more n)
-      ∙ length-append (runOf signed blocks n) (shownAt signed blocks n)
-      ∙ (let e : length (runOf signed blocks n) ≡ 48 * n = length-run n in let d : length (shownAt signed blocks n) ≡ 48 = length-shown n in omega arith)
+  unfolding runOf
+  length-run = joined.run-length (shownAt signed blocks) valueCount length-shown
 
   -- the count of the values that are minus infinity, block by block
   pub run-infinities : (n : ℕ) → countOf minusInfinity (runOf signed blocks n) ≡ total (made (λ k. infinitiesOf signed (blockAt blocks k)) n)
@@ -77,27 +71,15 @@ module _ (signed : Bool) (blocks : List ℕ) where
 
   -- nothing is written yet
   pub run-start : (out : List ℕ) → out ≡ runOf signed blocks 0 ++ drop (48 * 0) out
-  run-start out = rw run-none refl
+  unfolding runOf
+  run-start = joined.run-start (shownAt signed blocks) 48 length-shown
 
   -- block n is written into the part of the values that begins behind the blocks before it
   pub run-step : (out₀ out part : List ℕ) (n : ℕ) → out ≡ runOf signed blocks n ++ drop (48 * n) out₀ → length out ≡ length out₀ → 48 * (n + 1) ≤ length out₀
       → part ≡ shownAt signed blocks n ++ drop 48 (midOf (48 * n) (length out - 48 * n) out)
       → putMid (48 * n) (length out - 48 * n) out part ≡ runOf signed blocks (n + 1) ++ drop (48 * (n + 1)) out₀
-  run-step out₀ out part n e len room shown =
-      let before : take (48 * n) out ≡ runOf signed blocks n = ap (take (48 * n)) e ∙ take-at (runOf signed blocks n) (drop (48 * n) out₀) (48 * n) (length-run n) in
-      let rest : drop (48 * n) out ≡ drop (48 * n) out₀ = ap (drop (48 * n)) e ∙ drop-at (runOf signed blocks n) (drop (48 * n) out₀) (48 * n) (length-run n) in
-      let mid : midOf (48 * n) (length out - 48 * n) out ≡ drop (48 * n) out₀ =
-      take-all (length out - 48 * n) (drop (48 * n) out) (let l = length-drop (48 * n) out in omega arith) ∙ rest in
-      let behind : drop 48 (drop (48 * n) out₀) ≡ drop (48 * (n + 1)) out₀ =
-      drop-drop 48 (48 * n) out₀ ∙ ap (λ (k : ℕ). drop k out₀) (omega-eq n) in
-      let none : drop (length out - 48 * n) (drop (48 * n) out) ≡ [] = drop-of-length-le (drop (48 * n) out) {i = length out - 48 * n} (let l = length-drop (48 * n) out in omega arith) in
-      ap₂ (λ (x y : List ℕ). x ++ y) before
-      (ap (λ (t : List ℕ). part ++ t) none ∙ append-nil part ∙ shown ∙ ap (λ (t : List ℕ). shownAt signed blocks n ++ drop 48 t) mid ∙ ap (λ (t : List ℕ). shownAt signed blocks n ++ t) behind)
-      ∙ sym (append-assoc (runOf signed blocks n) (shownAt signed blocks n) (drop (48 * (n + 1)) out₀))
-      ∙ ap (λ (t : List ℕ). t ++ drop (48 * (n + 1)) out₀) (sym (run-more n))
-    where
-      omega-eq : (n : ℕ) → 48 * n + 48 ≡ 48 * (n + 1)
-      omega-eq n = omega arith
+  unfolding runOf
+  run-step out₀ out part n e len room = joined.run-step (shownAt signed blocks) 48 length-shown out₀ out part n e len (omega arith)
 
   -- every block is written and counted
   pub run-end : (out₀ out : List ℕ) (infinite count n : ℕ) → out ≡ runOf signed blocks n ++ drop (48 * n) out₀
@@ -106,15 +88,5 @@ module _ (signed : Bool) (blocks : List ℕ) where
 
   -- the 48 values of block n stand behind those of the blocks before it
   pub run-at : (count n : ℕ) (rest : List ℕ) → n < count → take 48 (drop (48 * n) (runOf signed blocks count ++ rest)) ≡ shownAt signed blocks n
-  run-at zero n rest h = absurd (not-suc-le-zero h)
-  run-at (suc c) n rest h =
-      let more : runOf signed blocks (suc c) ++ rest ≡ runOf signed blocks c ++ (shownAt signed blocks c ++ rest) =
-      ap (λ (k : ℕ). runOf signed blocks k ++ rest) (sym (add-one c)) ∙ ap (λ (t : List ℕ). t ++ rest) (run-more c)
-      ∙ append-assoc (runOf signed blocks c) (shownAt signed blocks c) rest in
-      ap (λ (t : List ℕ). take 48 (drop (48 * n) t)) more
-      ∙ ⊎-elim
-      (λ e. rw e
-      (ap (take 48) (drop-at (runOf signed blocks c) (shownAt signed blocks c ++ rest) (48 * c) (length-run c))
-      ∙ take-at (shownAt signed blocks c) rest 48 (length-shown c)))
-      (λ l. run-at c n (shownAt signed blocks c ++ rest) l)
-      (eq-or-lt-of-le (le-of-suc-le-suc h))
+  unfolding runOf
+  run-at = joined.run-at (shownAt signed blocks) 48 length-shown

@@ -11,9 +11,6 @@ use Rattle.bc6.proofs.Calls.{painted-format, painted-block, painted-out
 use Rattle.bc6.proofs.block_pixels.Statement.{statement}
 use Rattle.bc6.proofs.block_pixels.Tie as tie
 
-returns : tie.Need-returns
-returns c = painted-format _ _ _ _ (c .before .if1 .taken) (c .refused .ensures)
-
 returns-2 : tie.Need-returns-2
 returns-2 c = painted-block _ _ _ _ (omega arith) (c .before .if2 .taken) (c .refused2 .ensures)
 
@@ -37,7 +34,7 @@ block-pixels-spec =
     tie.close
     (tie.spec
     (λ c κs. search needs)
-    returns
+    (λ c. painted-format _ _ _ _ (c .before .if1 .taken) (c .refused .ensures))
     (λ c κs. search needs)
     returns-2
     (λ c κs. search needs)

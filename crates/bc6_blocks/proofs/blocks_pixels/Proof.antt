@@ -5,9 +5,6 @@ use Rattle.bc6_blocks.proofs.Calls.{painted-format, painted-blocks, pai
 use Rattle.bc6_blocks.proofs.blocks_pixels.Statement.{statement}
 use Rattle.bc6_blocks.proofs.blocks_pixels.Tie as tie
 
-returns : tie.Need-returns
-returns c = painted-format _ _ _ _ (c .before .if1 .taken) (c .refused .ensures)
-
 returns-2 : tie.Need-returns-2
 returns-2 c = painted-blocks _ _ _ _ (omega arith) (c .before .if2 .taken) (c .refused2 .ensures)
 
@@ -22,7 +19,7 @@ blocks-pixels-spec =
     tie.close
     (tie.spec
     (λ c κs. search needs)
-    returns
+    (λ c. painted-format _ _ _ _ (c .before .if1 .taken) (c .refused .ensures))
     (λ c κs. search needs)
     returns-2
     (λ c κs. search needs)

@@ -22,9 +22,6 @@ Inv-loop blocks signed count out₀ infinite₀ n₀ out infinite n =
 abbrev μ-loop : tie.MeasureT-loop
 μ-loop blocks signed count out₀ infinite₀ n₀ out infinite n = count - n
 
-loop-holds : tie.Need-loop-holds Inv-loop μ-loop
-loop-holds c = (search needs, run-start _ _ _, refl, none-counted _ _)
-
 few : (c : tie.After-extract-mode Inv-loop μ-loop) → c .extract-mode .result ≤ 14
 few c = rw (c .extract-mode .ensures) (mode-range _)
 
@@ -58,7 +55,7 @@ paint-run-spec =
     (tie.spec
     Inv-loop
     μ-loop
-    loop-holds
+    (λ c. (search needs, run-start _ _ _, refl, none-counted _ _))
     (λ c. search needs)
     (λ c. search needs)
     (λ c. search needs)

@@ -17,11 +17,8 @@ told c = c .keep-bits .ensures ∙ ap (λ (z : ℤ). pos (keep 16 z)) (toZ-ofZ w
 abbrev out : tie.After-keep-bits → Num
 out c = given 65535 (c .keep-bits .result) (record { sfits = c .keep-bits .ok }) (rw (told c) (omega (arith, keep-lt 16 (c .before .args .x))))
 
-cast-result : tie.Need-cast-result
-cast-result c = to-u16 (out c) (told c) (keep-lt 16 (c .before .args .x))
-
 returns : tie.Need-returns
 returns c = u16-is (out c) (told c)
 
 pub kept-16-spec : {M : Type 1} → statement M
-kept-16-spec = tie.close (tie.spec (λ c κs. search needs) cast-result returns)
+kept-16-spec = tie.close (tie.spec (λ c κs. search needs) (λ c. to-u16 (out c) (told c) (keep-lt 16 (c .before .args .x))) returns)

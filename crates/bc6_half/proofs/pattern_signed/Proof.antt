@@ -68,9 +68,6 @@ sum-is c =
 add-result : tie.Need-add-result
 add-result c = record { fits = rw (sum-is (c .before)) (finish-lt (x (c .before .before .before)) (inside (c .before .before .before))) }
 
-returns : tie.Need-returns
-returns c = sum-is (c .before)
-
 pub pattern-signed-spec : {M : Type 1} → statement M
 pattern-signed-spec =
-    tie.close (tie.spec (λ c κs. search needs) magnitude-requires (λ c. need (product c) tt) cast-t add-result returns)
+    tie.close (tie.spec (λ c κs. search needs) magnitude-requires (λ c. need (product c) tt) cast-t add-result (λ c. sum-is (c .before)))

@@ -5,8 +5,5 @@ use Rattle.bc6_half.proofs.Weights.{three}
 use Rattle.bc6_half.proofs.weight_3.Statement.{statement}
 use Rattle.bc6_half.proofs.weight_3.Tie as tie
 
-returns : tie.Need-returns
-returns c = (three (c .args .i) (c .pre), omega arith)
-
 pub weight-3-spec : {M : Type 1} → statement M
-weight-3-spec = tie.close (tie.spec (λ c. search needs) returns)
+weight-3-spec = tie.close (tie.spec (λ c. search needs) (λ c. (three (c .args .i) (c .pre), omega arith)))

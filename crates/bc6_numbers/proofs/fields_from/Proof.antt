@@ -4,9 +4,6 @@ use Rattle.bc6_numbers.proofs.Record.{no-record, a-record}
 use Rattle.bc6_numbers.proofs.fields_from.Statement.{statement}
 use Rattle.bc6_numbers.proofs.fields_from.Tie as tie
 
-returns : tie.Need-returns
-returns c = no-record _ (c .before .if1 .taken) (c .none .ensures)
-
 returns-2 : tie.Need-returns-2
 returns-2 c =
     a-record _ (c .before .before .before .before .before .before .before .before .before .before .if1 .left) (c .before .before .before .before .before .before .before .before .byte-from .ensures) (c .before .before .before .before .before .before .byte-from2 .ensures) (c .before .before .before .before .before .endpoints-from .ensures)
@@ -17,7 +14,7 @@ fields-from-spec =
     tie.close
     (tie.spec
     (λ c κs. search needs)
-    returns
+    (λ c. no-record _ (c .before .if1 .taken) (c .none .ensures))
     (λ c. search needs)
     (λ c κs. search needs)
     (λ c. search needs)

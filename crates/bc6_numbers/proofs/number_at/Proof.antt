@@ -3,18 +3,6 @@ use Rattle.bc6_numbers.proofs.Record.{at-format, at-mode, at-endpoint, 
 use Rattle.bc6_numbers.proofs.number_at.Statement.{statement}
 use Rattle.bc6_numbers.proofs.number_at.Tie as tie
 
-returns : tie.Need-returns
-returns c = at-format _ _ (search needs)
-
-returns-2 : tie.Need-returns-2
-returns-2 c = at-mode _ _ (search needs) (search needs)
-
-returns-3 : tie.Need-returns-3
-returns-3 c = at-endpoint _ _ (search needs) (search needs) (search needs)
-
-returns-4 : tie.Need-returns-4
-returns-4 c = at-partition _ _ (search needs) (search needs) (search needs) (search needs)
-
 returns-5 : tie.Need-returns-5
 returns-5 c = at-region1 _ _ (search needs) (search needs) (search needs) (search needs) (search needs)
 
@@ -26,14 +14,14 @@ number-at-spec =
     tie.close
     (tie.spec
     (λ c. search needs)
-    returns
+    (λ c. at-format _ _ (search needs))
     (λ c. search needs)
-    returns-2
+    (λ c. at-mode _ _ (search needs) (search needs))
     (λ c. search needs)
     (λ c. search needs)
-    returns-3
+    (λ c. at-endpoint _ _ (search needs) (search needs) (search needs))
     (λ c. search needs)
-    returns-4
+    (λ c. at-partition _ _ (search needs) (search needs) (search needs) (search needs))
     (λ c. search needs)
     returns-5
     (λ c. search needs)

@@ -16,9 +16,6 @@ Inv-loop fields numbers₀ k₀ numbers k = (k ≤ 32) × (numbers ≡ made (num
 abbrev μ-loop : tie.MeasureT-loop
 μ-loop fields numbers₀ k₀ numbers k = 32 - k
 
-loop-holds : tie.Need-loop-holds Inv-loop μ-loop
-loop-holds c = (search needs, made-none _ _, refl)
-
 loop-again : tie.Need-loop-again Inv-loop μ-loop
 loop-again c = (search needs, made-store _ _ _ _ _ _ (c .before .before .loop .inv .1) refl (c .number-at .ensures) (omega arith), simp length-set (c .before .before .loop .inv .2))
 
@@ -32,7 +29,7 @@ write-numbers-spec =
     (tie.spec
     Inv-loop
     μ-loop
-    loop-holds
+    (λ c. (search needs, made-none _ _, refl))
     (λ c κs. search needs)
     (λ c. search needs)
     (λ c. search needs)

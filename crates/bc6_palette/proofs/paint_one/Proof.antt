@@ -18,12 +18,6 @@ Inv-loop palette indices picture₀ k₀ picture k = (k ≤ 16) × (picture ≡ 
 abbrev μ-loop : tie.MeasureT-loop
 μ-loop palette indices picture₀ k₀ picture k = 16 - k
 
-mul-picture : tie.Need-mul-picture Inv-loop μ-loop
-mul-picture c = omega (arith, c .before .before .before .pre (c .before .loop .k) (omega arith))
-
-array-copy-out-picture : tie.Need-array-copy-out-picture Inv-loop μ-loop
-array-copy-out-picture c = omega (arith, c .before .before .before .pre (c .before .loop .k) (omega arith))
-
 loop-again : tie.Need-loop-again Inv-loop μ-loop
 unfolding onePixel
 loop-again c = (search needs, made-store _ _ _ _ _ _ (c .before .before .loop .inv .1) refl refl (omega arith))
@@ -41,8 +35,8 @@ paint-one-spec =
     (λ c. (search needs, made-none _ _))
     (λ c. search needs)
     (λ c. search needs)
-    mul-picture
-    array-copy-out-picture
+    (λ c. omega (arith, c .before .before .before .pre (c .before .loop .k) (omega arith)))
+    (λ c. omega (arith, c .before .before .before .pre (c .before .loop .k) (omega arith)))
     (λ c. search needs)
     (λ c. search needs)
     (λ c. search needs)

@@ -5,8 +5,5 @@ use borrow.Author.Needs.{needs}
 use Rattle.bc6_table.proofs.bit_at.Statement.{statement}
 use Rattle.bc6_table.proofs.bit_at.Tie as tie
 
-returns : tie.Need-returns
-returns c = shl-exact 1 (c .args .at) 16 (c .pre .0) (omega arith)
-
 pub bit-at-spec : {M : Type 1} → statement M
-bit-at-spec = tie.close (tie.spec (λ c. search needs) (λ c. search needs) returns)
+bit-at-spec = tie.close (tie.spec (λ c. search needs) (λ c. search needs) (λ c. shl-exact 1 (c .args .at) 16 (c .pre .0) (omega arith)))

@@ -11,14 +11,8 @@ use Rattle.bc7.proofs.bc7_pixels.Tie as tie
 mode-is : (c : tie.After-mode-of) → c .mode-of .result ≡ modeIn (number (c .before .new .result))
 mode-is c = c .mode-of .ensures ∙ mode-low (c .before .new .result .lo) (c .before .new .result .hi)
 
-returns : tie.Need-returns
-returns c = painted-block _ _ _ (c .before .if1 .taken) (c .refused .ensures)
-
 returns-2 : tie.Need-returns-2
 returns-2 c = painted-output _ _ _ (c .before .before .if1 .left) (c .before .if2 .taken) (c .refused2 .ensures)
-
-show-requires : tie.Need-show-requires
-show-requires c κs = (mode-is (c .before), c .before .before .before .if2 .left)
 
 returns-3 : tie.Need-returns-3
 returns-3 c =
@@ -32,11 +26,11 @@ bc7-pixels-spec =
     tie.close
     (tie.spec
     (λ c κs. search needs)
-    returns
+    (λ c. painted-block _ _ _ (c .before .if1 .taken) (c .refused .ensures))
     (λ c κs. search needs)
     returns-2
     (λ c κs. search needs)
     (λ c κs. search needs)
-    show-requires
+    (λ c κs. (mode-is (c .before), c .before .before .before .if2 .left))
     (λ c. search needs)
     returns-3)

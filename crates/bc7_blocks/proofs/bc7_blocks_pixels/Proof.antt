@@ -5,12 +5,6 @@ use Rattle.bc7_blocks.proofs.Calls.{painted-blocks, painted-output, pai
 use Rattle.bc7_blocks.proofs.bc7_blocks_pixels.Statement.{statement}
 use Rattle.bc7_blocks.proofs.bc7_blocks_pixels.Tie as tie
 
-returns : tie.Need-returns
-returns c = painted-blocks _ _ _ (c .before .if1 .taken) (c .refused .ensures)
-
-returns-2 : tie.Need-returns-2
-returns-2 c = painted-output _ _ _ (omega arith) (omega arith) (c .refused2 .ensures)
-
 returns-3 : tie.Need-returns-3
 returns-3 c = painted-done _ _ _ (omega arith) (omega arith) (c .before .before .paint-run .ensures)
 
@@ -19,9 +13,9 @@ bc7-blocks-pixels-spec =
     tie.close
     (tie.spec
     (λ c κs. search needs)
-    returns
+    (λ c. painted-blocks _ _ _ (c .before .if1 .taken) (c .refused .ensures))
     (λ c κs. search needs)
-    returns-2
+    (λ c. painted-output _ _ _ (omega arith) (omega arith) (c .refused2 .ensures))
     (λ c κs. (omega arith, omega arith))
     (λ c. search needs)
     returns-3)

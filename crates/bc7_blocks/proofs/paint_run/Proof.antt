@@ -18,9 +18,6 @@ Inv-loop blocks count out₀ n₀ out n = (n ≤ count) × (out ≡ runOf blocks
 abbrev μ-loop : tie.MeasureT-loop
 μ-loop blocks count out₀ n₀ out n = count - n
 
-loop-holds : tie.Need-loop-holds Inv-loop μ-loop
-loop-holds c = (search needs, run-start (shownAt _) 64 (each _) _, refl)
-
 loop-again : tie.Need-loop-again Inv-loop μ-loop
 loop-again c =
     let shown = c .before .before in
@@ -42,7 +39,7 @@ paint-run-spec =
     (tie.spec
     Inv-loop
     μ-loop
-    loop-holds
+    (λ c. (search needs, run-start (shownAt _) 64 (each _) _, refl))
     (λ c. search needs)
     (λ c. search needs)
     (λ c. search needs)

@@ -19,9 +19,6 @@ Inv-loop input out₀ size count i₀ out i = (i ≤ count) × (out ≡ join (ma
 abbrev μ-loop : tie.MeasureT-loop
 μ-loop input out₀ size count i₀ out i = count - i
 
-loop-holds : tie.Need-loop-holds Inv-loop μ-loop
-loop-holds c = (search needs, run-start (shownAt _) 66 (each _) _, refl)
-
 loop-again : tie.Need-loop-again Inv-loop μ-loop
 loop-again c =
     let k = c .before .before .decode-piece in
@@ -45,7 +42,7 @@ decode-pieces-spec =
     Inv-loop
     μ-loop
     (λ c. search needs)
-    loop-holds
+    (λ c. (search needs, run-start (shownAt _) 66 (each _) _, refl))
     (λ c. search needs)
     (λ c κs. search needs)
     (λ c. search needs)

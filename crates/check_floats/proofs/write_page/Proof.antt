@@ -12,9 +12,6 @@ Inv-loop page first bytes₀ k₀ bytes k = (k ≤ 1024) × (4096 ≡ length byt
 abbrev μ-loop : tie.MeasureT-loop
 μ-loop page first bytes₀ k₀ bytes k = 1024 - k
 
-loop-again : tie.Need-loop-again Inv-loop μ-loop
-loop-again c = (search needs, simp length-set (search needs))
-
 pub write-page-spec : {M : Type 1} → statement M
 write-page-spec =
     tie.close
@@ -43,7 +40,7 @@ write-page-spec =
     (λ c. search needs)
     (λ c. search needs)
     (λ c. search needs)
-    loop-again
+    (λ c. (search needs, simp length-set (search needs)))
     (λ c. search needs)
     (λ c κs. search needs)
     (λ c. search needs))

@@ -13,9 +13,6 @@ Inv-loop values from count₀ i₀ count i = count ≤ i
 abbrev μ-loop : tie.MeasureT-loop
 μ-loop values from count₀ i₀ count i = length values - i
 
-loop-again : tie.Need-loop-again Inv-loop μ-loop
-loop-again c = ⊎-elim (λ w. omega arith) (λ w. omega arith) (c .if1 .came)
-
 pub changed-spec : {M : Type 1} → statement M
 changed-spec =
     tie.close
@@ -28,5 +25,5 @@ changed-spec =
     (λ c. search needs)
     (λ c. search needs)
     (λ c. search needs)
-    loop-again
+    (λ c. ⊎-elim (λ w. omega arith) (λ w. omega arith) (c .if1 .came))
     (λ c. tt))

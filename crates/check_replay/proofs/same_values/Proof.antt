@@ -14,9 +14,6 @@ Inv-loop values bytes k₀ k = (k ≤ 48) × ((i : ℕ) → i < k → getD value
 abbrev μ-loop : tie.MeasureT-loop
 μ-loop values bytes k₀ k = 48 - k
 
-loop-holds : tie.Need-loop-holds Inv-loop μ-loop
-loop-holds c = (search needs, below-none _)
-
 returns : tie.Need-returns Inv-loop μ-loop
 returns c =
     let s = c .before .before .before .before .before .before .before .args in
@@ -37,7 +34,7 @@ same-values-spec =
     (tie.spec
     Inv-loop
     μ-loop
-    loop-holds
+    (λ c. (search needs, below-none _))
     (λ c. search needs)
     (λ c. search needs)
     (λ c κs. search needs)

@@ -15,20 +15,11 @@ even c = sym (c .before .size-even .ensures) ∙ not-false _ (c .if1 .left)
 returns : tie.Need-returns
 returns c = length-none _ _ (sym (c .before .size-even .ensures) ∙ not-true _ (c .if1 .taken))
 
-mul-result : tie.Need-mul-result
-mul-result c = let k = lines-small _ _ (even (c .before)) in record { fits = omega arith }
-
-add-result : tie.Need-add-result
-add-result c = let k = lines-small _ _ (even (c .before)) in record { fits = omega arith }
-
 mul-result-2 : tie.Need-mul-result-2
 mul-result-2 c = let k = lines-small _ _ (even (c .before)) in record { fits = omega (arith, k .all) }
 
 add-result-2 : tie.Need-add-result-2
 add-result-2 c = let k = lines-small _ _ (even (c .before)) in record { fits = omega (arith, k .all, k .front, c .front-length .ensures) }
-
-returns-2 : tie.Need-returns-2
-returns-2 c = length-some _ _ (even (c .before)) (c .front-length .ensures)
 
 pub exr-length-spec : {M : Type 1} → statement M
 exr-length-spec =
@@ -37,8 +28,8 @@ exr-length-spec =
     (λ c κs. search needs)
     returns
     (λ c κs. search needs)
-    mul-result
-    add-result
+    (λ c. let k = lines-small _ _ (even (c .before)) in record { fits = omega arith })
+    (λ c. let k = lines-small _ _ (even (c .before)) in record { fits = omega arith })
     mul-result-2
     add-result-2
-    returns-2)
+    (λ c. length-some _ _ (even (c .before)) (c .front-length .ensures)))

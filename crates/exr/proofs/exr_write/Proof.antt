@@ -16,9 +16,6 @@ fine c = room-for _ _ _ _ _ (sym (c .before .write-refusal .ensures) ∙ c .if1 
 returns : tie.Need-returns
 returns c = told-refused _ _ _ _ _ (c .before .before .write-refusal .ensures) (c .before .if1 .taken) (c .refused .ensures)
 
-put-front-requires : tie.Need-put-front-requires
-put-front-requires c κs = let k = fine (c .before) in (k .sized, omega (arith, k .fits))
-
 sub-put-bands : tie.Need-sub-put-bands
 sub-put-bands c = let k = fine (c .before .before .before .before) in let a = c .before .before .before .before .before .before .before .before .args in omega (arith, k .fits, front-end (a .width) (a .height) (c .before .before .put-front .ensures))
 
@@ -45,7 +42,7 @@ exr-write-spec =
     returns
     (λ c. search needs)
     (λ c. search needs)
-    put-front-requires
+    (λ c κs. let k = fine (c .before) in (k .sized, omega (arith, k .fits)))
     sub-put-bands
     part-put-bands-start
     (λ c. search needs)

@@ -18,9 +18,6 @@ Inv-loop blocks format first across y out₀ column₀ out column =
 abbrev μ-loop : tie.MeasureT-loop
 μ-loop blocks format first across y out₀ column₀ out column = across - column
 
-loop-holds : tie.Need-loop-holds Inv-loop μ-loop
-loop-holds c = (search needs, band-start _ _ _ _ _ (search needs), refl)
-
 loop-again : tie.Need-loop-again Inv-loop μ-loop
 loop-again c =
     let l = c .before .before .before .before .before .before .before .before .before .before .loop in
@@ -47,7 +44,7 @@ put-band-spec =
     (tie.spec
     Inv-loop
     μ-loop
-    loop-holds
+    (λ c. (search needs, band-start _ _ _ _ _ (search needs), refl))
     (λ c. search needs)
     (λ c. search needs)
     (λ c. search needs)

@@ -24,12 +24,6 @@ abbrev μ-loop : tie.MeasureT-loop
 here : (c : tie.In-loop Inv-loop μ-loop) → Placed (c .before .before .before .before .args .across) (c .before .before .before .before .args .down) (c .before .loop .n) (length (c .before .before .before .before .args .blocks .now)) (length (c .before .before .before .before .args .out .now))
 here c = placed _ _ _ _ _ (search needs) (search needs) (search needs) (search needs) (search needs)
 
-loop-holds : tie.Need-loop-holds Inv-loop μ-loop
-loop-holds c = (search needs, run-start _ _ (length-of _ _ _) _, refl)
-
-mul-at-2 : tie.Need-mul-at-2 Inv-loop μ-loop
-mul-at-2 c = let p = here c in record { fits = omega (arith, p .most) }
-
 put-band-requires : tie.Need-put-band-requires Inv-loop μ-loop
 put-band-requires c κs =
     let p = here (c .before) in
@@ -60,11 +54,11 @@ put-bands-spec =
     (tie.spec
     Inv-loop
     μ-loop
-    loop-holds
+    (λ c. (search needs, run-start _ _ (length-of _ _ _) _, refl))
     (λ c. let p = here c in record { fits = omega arith })
     (λ c. search needs)
     (λ c. search needs)
-    mul-at-2
+    (λ c. let p = here c in record { fits = omega (arith, p .most) })
     (λ c. search needs)
     (λ c. let p = here c in omega (arith, p .behind-it))
     (λ c. let p = here c in omega (arith, p .behind-it))

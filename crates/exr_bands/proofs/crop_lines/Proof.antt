@@ -15,20 +15,11 @@ Inv-loop lines across width first rows out₀ row₀ out row = (row ≤ rows) ×
 abbrev μ-loop : tie.MeasureT-loop
 μ-loop lines across width first rows out₀ row₀ out row = rows - row
 
-loop-holds : tie.Need-loop-holds Inv-loop μ-loop
-loop-holds c = (search needs, fill-start _ _ _)
-
 -- where the turn's line is read and written
 here : (c : tie.In-loop Inv-loop μ-loop)
     → (let a = c .before .before .before .before .args in
     Turn (a .across) (a .width) (c .before .loop .row) (length (a .lines .now)) (length (a .out .now)))
 here c = turn _ _ (c .before .before .before .before .args .rows) _ _ _ (search needs) (search needs) (search needs) (search needs) (search needs) (search needs)
-
-mul-crop-line-2 : tie.Need-mul-crop-line-2 Inv-loop μ-loop
-mul-crop-line-2 c = let p = here c in record { fits = omega (arith, p .first) }
-
-mul-crop-line-4 : tie.Need-mul-crop-line-4 Inv-loop μ-loop
-mul-crop-line-4 c = let p = here (c .before) in record { fits = omega (arith, p .place) }
 
 crop-line-requires : tie.Need-crop-line-requires Inv-loop μ-loop
 crop-line-requires c κs =
@@ -54,14 +45,14 @@ crop-lines-spec =
     (tie.spec
     Inv-loop
     μ-loop
-    loop-holds
+    (λ c. (search needs, fill-start _ _ _))
     (λ c. search needs)
     (λ c. search needs)
-    mul-crop-line-2
+    (λ c. let p = here c in record { fits = omega (arith, p .first) })
     (λ c. search needs)
     (λ c. search needs)
     (λ c. search needs)
-    mul-crop-line-4
+    (λ c. let p = here (c .before) in record { fits = omega (arith, p .place) })
     crop-line-requires
     (λ c. search needs)
     (λ c. search needs)

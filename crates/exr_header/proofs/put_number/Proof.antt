@@ -16,9 +16,6 @@ Inv-loop n size out₀ at rest₀ k₀ out rest k =
 abbrev μ-loop : tie.MeasureT-loop
 μ-loop n size out₀ at rest₀ k₀ out rest k = size - k
 
-loop-holds : tie.Need-loop-holds Inv-loop μ-loop
-loop-holds c = (search needs, number-start _ _ _ _, refl)
-
 loop-again : tie.Need-loop-again Inv-loop μ-loop
 loop-again c =
     let l = c .before .loop in
@@ -33,7 +30,7 @@ put-number-spec =
     (tie.spec
     Inv-loop
     μ-loop
-    loop-holds
+    (λ c. (search needs, number-start _ _ _ _, refl))
     (λ c. search needs)
     (λ c. search needs)
     (λ c. search needs)

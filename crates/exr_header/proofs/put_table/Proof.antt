@@ -18,9 +18,6 @@ Inv-loop width height out₀ lines first size y₀ out y =
 abbrev μ-loop : tie.MeasureT-loop
 μ-loop width height out₀ lines first size y₀ out y = height - y
 
-loop-holds : tie.Need-loop-holds Inv-loop μ-loop
-loop-holds c = (search needs, table-start _ _ _, refl)
-
 mul-put-number : tie.Need-mul-put-number Inv-loop μ-loop
 mul-put-number c =
     let k = start-small (c .before .before .before .before .args .width) (c .before .before .before .before .args .height) (c .before .loop .y) (search needs) (search needs) in
@@ -60,7 +57,7 @@ put-table-spec =
     (λ c κs. search needs)
     (λ c. search needs)
     (λ c. search needs)
-    loop-holds
+    (λ c. (search needs, table-start _ _ _, refl))
     mul-put-number
     add-put-number
     (λ c. search needs)

@@ -19,27 +19,9 @@ Inv-loop values side channel y out₀ at x₀ out x =
 abbrev μ-loop : tie.MeasureT-loop
 μ-loop values side channel y out₀ at x₀ out x = side - x
 
-loop-holds : tie.Need-loop-holds Inv-loop μ-loop
-loop-holds c = (search needs, refl, none-put (squareValue _ _ _ _) _ _)
-
 -- the pixel of this turn, and how many there are
 here : (c : tie.In-loop Inv-loop μ-loop) → (c .before .before .before .before .args .y * c .before .before .before .before .args .side + c .before .loop .x < c .before .before .before .before .args .side * c .before .before .before .before .args .side) × (c .before .before .before .before .args .side * c .before .before .before .before .args .side ≤ 4096)
 here c = (pixel-inside _ _ _ (search needs) (search needs), square-few _ (search needs))
-
-mul-put-half : tie.Need-mul-put-half Inv-loop μ-loop
-mul-put-half c = let p = here c in record { fits = omega (arith, p .0, p .1) }
-
-add-put-half : tie.Need-add-put-half Inv-loop μ-loop
-add-put-half c = let p = here c in record { fits = omega (arith, p .0, p .1) }
-
-mul-put-half-2 : tie.Need-mul-put-half-2 Inv-loop μ-loop
-mul-put-half-2 c = let p = here c in record { fits = omega (arith, p .0, p .1) }
-
-add-put-half-2 : tie.Need-add-put-half-2 Inv-loop μ-loop
-add-put-half-2 c = let p = here c in record { fits = omega (arith, p .0, p .1) }
-
-mul-put-half-3 : tie.Need-mul-put-half-3 Inv-loop μ-loop
-mul-put-half-3 c = let p = here c in record { fits = omega (arith, p .0, p .1) }
 
 loop-again : tie.Need-loop-again Inv-loop μ-loop
 unfolding squareValue
@@ -61,12 +43,12 @@ put-channel-spec =
     (tie.spec
     Inv-loop
     μ-loop
-    loop-holds
-    mul-put-half
-    add-put-half
-    mul-put-half-2
-    add-put-half-2
-    mul-put-half-3
+    (λ c. (search needs, refl, none-put (squareValue _ _ _ _) _ _))
+    (λ c. let p = here c in record { fits = omega (arith, p .0, p .1) })
+    (λ c. let p = here c in record { fits = omega (arith, p .0, p .1) })
+    (λ c. let p = here c in record { fits = omega (arith, p .0, p .1) })
+    (λ c. let p = here c in record { fits = omega (arith, p .0, p .1) })
+    (λ c. let p = here c in record { fits = omega (arith, p .0, p .1) })
     (λ c. let p = here (c .before) in omega (arith, p .0))
     (λ c. search needs)
     (λ c. search needs)

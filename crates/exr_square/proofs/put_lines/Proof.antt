@@ -19,21 +19,9 @@ Inv-loop values edge out₀ at count y₀ out y =
 abbrev μ-loop : tie.MeasureT-loop
 μ-loop values edge out₀ at count y₀ out y = count - y
 
-loop-holds : tie.Need-loop-holds Inv-loop μ-loop
-loop-holds c = (search needs, refl, none-put (squareLine _ _) _ _)
-
 -- where the line of this turn is
 here : (c : tie.In-loop Inv-loop μ-loop) → Within (c .before .before .before .before .args .edge) (c .before .loop .y) (c .before .before .before .before .args .at) (length (c .before .before .before .before .args .out .now))
 here c = within _ _ _ _ (search needs) (search needs) (search needs)
-
-mul-put-line-2 : tie.Need-mul-put-line-2 Inv-loop μ-loop
-mul-put-line-2 c = record { fits = omega (arith, here (c .before) .most) }
-
-add-put-line-2 : tie.Need-add-put-line-2 Inv-loop μ-loop
-add-put-line-2 c = record { fits = omega (arith, here (c .before) .behind) }
-
-put-line-requires : tie.Need-put-line-requires Inv-loop μ-loop
-put-line-requires c κs = (search needs, (search needs, omega (arith, here (c .before) .behind)))
 
 loop-again : tie.Need-loop-again Inv-loop μ-loop
 loop-again c =
@@ -58,12 +46,12 @@ put-lines-spec =
     Inv-loop
     μ-loop
     (λ c. search needs)
-    loop-holds
+    (λ c. (search needs, refl, none-put (squareLine _ _) _ _))
     (λ c. search needs)
     (λ c. search needs)
-    mul-put-line-2
-    add-put-line-2
-    put-line-requires
+    (λ c. record { fits = omega (arith, here (c .before) .most) })
+    (λ c. record { fits = omega (arith, here (c .before) .behind) })
+    (λ c κs. (search needs, (search needs, omega (arith, here (c .before) .behind))))
     (λ c. search needs)
     (λ c. search needs)
     loop-again

@@ -15,20 +15,11 @@ Inv-loop lines across width rows out₀ hidden i₀ out i = (i ≤ rows) × Fill
 abbrev μ-loop : tie.MeasureT-loop
 μ-loop lines across width rows out₀ hidden i₀ out i = rows - i
 
-loop-holds : tie.Need-loop-holds Inv-loop μ-loop
-loop-holds c = (search needs, fill-start _ _ _)
-
 -- where the turn's row is read and written
 here : (c : tie.In-loop Inv-loop μ-loop)
     → (let a = c .before .before .before .before .args in
     Turn (a .across) (a .width) (a .rows) (c .before .loop .i) (length (a .lines .now)) (length (a .out .now)))
 here c = turn _ _ _ _ _ _ (search needs) (search needs) (search needs) (search needs) (search needs) (search needs)
-
-mul-copy-part-2 : tie.Need-mul-copy-part-2 Inv-loop μ-loop
-mul-copy-part-2 c = let p = here c in record { fits = omega (arith, p .first) }
-
-mul-copy-part-5 : tie.Need-mul-copy-part-5 Inv-loop μ-loop
-mul-copy-part-5 c = let p = here (c .before) in record { fits = omega (arith, p .place) }
 
 copy-part-requires : tie.Need-copy-part-requires Inv-loop μ-loop
 copy-part-requires c κs = let p = here (c .before) in (p .from, omega (arith, p .to, c .before .before .loop .inv .1 .long))
@@ -50,13 +41,13 @@ crop-rows-spec =
     Inv-loop
     μ-loop
     (λ c. search needs)
-    loop-holds
+    (λ c. (search needs, fill-start _ _ _))
     (λ c. search needs)
     (λ c. search needs)
-    mul-copy-part-2
+    (λ c. let p = here c in record { fits = omega (arith, p .first) })
     (λ c. search needs)
     (λ c. search needs)
-    mul-copy-part-5
+    (λ c. let p = here (c .before) in record { fits = omega (arith, p .place) })
     copy-part-requires
     (λ c. search needs)
     (λ c. search needs)

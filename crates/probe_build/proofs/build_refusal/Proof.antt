@@ -4,15 +4,6 @@ use borrow.Author.Needs.{needs}
 use Rattle.probe_build.proofs.build_refusal.Statement.{statement}
 use Rattle.probe_build.proofs.build_refusal.Tie as tie
 
-returns : tie.Need-returns
-returns c = no-edge _ _ _ _ (search needs)
-
-returns-2 : tie.Need-returns-2
-returns-2 c = long-edge _ _ _ _ (search needs)
-
-returns-3 : tie.Need-returns-3
-returns-3 c = bad-format _ _ _ _ (search needs) (search needs) (search needs)
-
 returns-4 : tie.Need-returns-4
 returns-4 c = bad-blocks _ _ _ _ (search needs) (search needs) (search needs) (λ e. omega arith)
 
@@ -26,9 +17,9 @@ pub build-refusal-spec : {M : Type 1} → statement M
 build-refusal-spec =
     tie.close
     (tie.spec
-    returns
-    returns-2
-    returns-3
+    (λ c. no-edge _ _ _ _ (search needs))
+    (λ c. long-edge _ _ _ _ (search needs))
+    (λ c. bad-format _ _ _ _ (search needs) (search needs) (search needs))
     (λ c κs. search needs)
     (λ c. search needs)
     returns-4

@@ -16,17 +16,11 @@ Inv-loop store k₀ k = (k ≤ edgeLimit) × (firstBelow (isEdge (length store))
 abbrev μ-loop : tie.MeasureT-loop
 μ-loop store k₀ k = edgeLimit - k
 
-loop-holds : tie.Need-loop-holds Inv-loop μ-loop
-loop-holds c = (search needs, first-none _)
-
 returns : tie.Need-returns Inv-loop μ-loop
 returns c = edge-here _ _ (count-is (c .before .before .u32-to-usize .ensures) (c .before .record-count .ensures .0)) (c .before .before .before .before .loop .inv .1) (search needs) (c .if1 .taken)
 
 loop-again : tie.Need-loop-again Inv-loop μ-loop
 loop-again c = (search needs, edge-next _ _ (count-is (c .before .before .u32-to-usize .ensures) (c .before .record-count .ensures .0)) (c .before .before .before .before .loop .inv .1) (c .if1 .left))
-
-returns-2 : tie.Need-returns-2 Inv-loop μ-loop
-returns-2 c = edge-none _ _ (c .before .loop .inv .1) (search needs) (search needs)
 
 pub probe-edge-spec : {M : Type 1} → statement M
 probe-edge-spec =
@@ -34,7 +28,7 @@ probe-edge-spec =
     (tie.spec
     Inv-loop
     μ-loop
-    loop-holds
+    (λ c. (search needs, first-none _))
     (λ c. search needs)
     (λ c κs. search needs)
     (λ c κs. search needs)
@@ -44,4 +38,4 @@ probe-edge-spec =
     (λ c. search needs)
     (λ c. search needs)
     loop-again
-    returns-2)
+    (λ c. edge-none _ _ (c .before .loop .inv .1) (search needs) (search needs)))

@@ -16,9 +16,6 @@ Inv-loop blocks n tile format place out₀ k₀ out k = (k ≤ placeSize) × (ou
 abbrev μ-loop : tie.MeasureT-loop
 μ-loop blocks n tile format place out₀ k₀ out k = placeSize - k
 
-loop-holds : tie.Need-loop-holds Inv-loop μ-loop
-loop-holds c = (search needs, made-none _ _, refl)
-
 loop-again : tie.Need-loop-again Inv-loop μ-loop
 unfolding recordByte
 loop-again c = let i = c .before .before .loop .inv in (search needs, made-store (recordByte _ _ _ _ _) _ _ _ _ _ (i .1) refl (c .record-byte .ensures) (search needs), simp length-set (i .2))
@@ -32,7 +29,7 @@ write-record-spec =
     (tie.spec
     Inv-loop
     μ-loop
-    loop-holds
+    (λ c. (search needs, made-none _ _, refl))
     (λ c κs. search needs)
     (λ c. search needs)
     (λ c. search needs)

@@ -22,9 +22,6 @@ abbrev μ-loop : tie.MeasureT-loop
 loop-holds : tie.Need-loop-holds Inv-loop μ-loop
 loop-holds c = (search needs, run-start (builtRecord _ _ _ _) placeSize (each-length _ _ _ _) _, refl)
 
-write-record-requires : tie.Need-write-record-requires Inv-loop μ-loop
-write-record-requires c κs = (search needs, search needs, simp (length-take, length-drop) (omega arith))
-
 loop-again : tie.Need-loop-again Inv-loop μ-loop
 loop-again c = let w = c .before .before .write-record in let b = c .before .before .before .before in let l = b .before .before .before .loop in (search needs, run-step (builtRecord _ _ _ _) placeSize (each-length _ _ _ _) _ _ _ (l .n) (l .inv .1) (l .inv .2) (omega arith) (record-shown _ _ _ _ _ (midOf (placeSize * l .n) (length (l .out) - placeSize * l .n) (l .out)) (b .before .tile-of .ensures) (b .place-of .ensures) (w .ensures)), same-len-mid {X = ℕ} (placeSize * l .n) (length (l .out) - placeSize * l .n) (l .out) (w .last .1 .1 .1 .1 .1 .0) (w .kept .1 .1 .1 .1 .1 .0) ∙ l .inv .2)
 
@@ -45,7 +42,7 @@ write-records-spec =
     (λ c. search needs)
     (λ c. search needs)
     (λ c. search needs)
-    write-record-requires
+    (λ c κs. (search needs, search needs, simp (length-take, length-drop) (omega arith)))
     (λ c. search needs)
     (λ c. search needs)
     loop-again

@@ -17,9 +17,6 @@ Inv-loop holders table₀ k₀ table k = (k ≤ placeCount) × (table ≡ made (
 abbrev μ-loop : tie.MeasureT-loop
 μ-loop holders table₀ k₀ table k = placeCount - k
 
-loop-holds : tie.Need-loop-holds Inv-loop μ-loop
-loop-holds c = (search needs, made-none _ _, refl)
-
 loop-again : tie.Need-loop-again Inv-loop μ-loop
 loop-again c =
     let l = c .before .before .loop in
@@ -37,7 +34,7 @@ copy-table-spec =
     (tie.spec
     Inv-loop
     μ-loop
-    loop-holds
+    (λ c. (search needs, made-none _ _, refl))
     (λ c. search needs)
     (λ c. search needs)
     (λ c. search needs)

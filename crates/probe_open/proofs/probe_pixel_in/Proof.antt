@@ -7,12 +7,6 @@ use Rattle.probe_open.proofs.Asking.{ask-no-edge, ask-long-edge, ask-qu
 use Rattle.probe_open.proofs.probe_pixel_in.Statement.{statement}
 use Rattle.probe_open.proofs.probe_pixel_in.Tie as tie
 
-returns : tie.Need-returns
-returns c = ask-no-edge _ _ _ _ _ _ (search needs) (c .refused .ensures)
-
-returns-2 : tie.Need-returns-2
-returns-2 c = ask-long-edge _ _ _ _ _ _ (search needs) (c .refused2 .ensures)
-
 returns-3 : tie.Need-returns-3
 returns-3 c = ask-question _ _ _ _ _ _ (c .before .before .before .before .if1 .left) (search needs) (c .before .before .question-refusal .ensures) (c .before .if3 .taken) (c .refused3 .ensures)
 
@@ -27,9 +21,6 @@ holder-at-requires c κs =
 returns-5 : tie.Need-returns-5
 returns-5 c = ask-holder _ _ _ _ _ _ (c .before .before .before .before .before .before .before .before .if1 .left) (search needs) (sym (c .before .before .before .before .before .before .question-refusal .ensures) ∙ c .before .before .before .before .before .if3 .left) (search needs) (c .before .before .before .holder-at .ensures) (c .before .before .holder-refusal .ensures) (c .before .if5 .taken) (c .refused5 .ensures)
 
-sub-triple-at : tie.Need-sub-triple-at
-sub-triple-at c = holder-known _ _ (c .before .holder-refusal .ensures) (c .if5 .left) .there
-
 triple-at-requires : tie.Need-triple-at-requires
 triple-at-requires c κs = let k = holder-known _ _ (c .before .holder-refusal .ensures) (c .if5 .left) in (k .inside, k .format, omega arith)
 
@@ -41,9 +32,9 @@ probe-pixel-in-spec =
     tie.close
     (tie.spec
     (λ c κs. search needs)
-    returns
+    (λ c. ask-no-edge _ _ _ _ _ _ (search needs) (c .refused .ensures))
     (λ c κs. search needs)
-    returns-2
+    (λ c. ask-long-edge _ _ _ _ _ _ (search needs) (c .refused2 .ensures))
     (λ c κs. search needs)
     (λ c κs. search needs)
     returns-3
@@ -53,7 +44,7 @@ probe-pixel-in-spec =
     (λ c κs. search needs)
     (λ c κs. search needs)
     returns-5
-    sub-triple-at
+    (λ c. holder-known _ _ (c .before .holder-refusal .ensures) (c .if5 .left) .there)
     (λ c. search needs)
     (λ c. search needs)
     triple-at-requires

@@ -7,8 +7,5 @@ use Rattle.probe_put.proofs.head_refusal.Tie as tie
 returns : tie.Need-returns
 returns c = head-other _ _ (c .before .place-record-refusal .ensures) (c .if1 .taken)
 
-returns-2 : tie.Need-returns-2
-returns-2 c = head-own _ _ (c .before .place-record-refusal .ensures) (c .if1 .left)
-
 pub head-refusal-spec : {M : Type 1} → statement M
-head-refusal-spec = tie.close (tie.spec (λ c κs. search needs) returns returns-2)
+head-refusal-spec = tie.close (tie.spec (λ c κs. search needs) returns (λ c. head-own _ _ (c .before .place-record-refusal .ensures) (c .if1 .left)))

@@ -4,12 +4,6 @@ use Rattle.probe_put.proofs.Checks.{put-long, put-uneven, put-short, pu
 use Rattle.probe_put.proofs.putting_fault.Statement.{statement}
 use Rattle.probe_put.proofs.putting_fault.Tie as tie
 
-returns : tie.Need-returns
-returns c = put-long _ _ _ _ (search needs) (c .alone .ensures)
-
-returns-2 : tie.Need-returns-2
-returns-2 c = put-uneven _ _ _ _ (search needs) (search needs) (c .alone2 .ensures)
-
 returns-3 : tie.Need-returns-3
 returns-3 c = put-short _ _ _ _ (search needs) (search needs) (search needs) (c .alone3 .ensures)
 
@@ -27,9 +21,9 @@ putting-fault-spec =
     tie.close
     (tie.spec
     (λ c κs. search needs)
-    returns
+    (λ c. put-long _ _ _ _ (search needs) (c .alone .ensures))
     (λ c κs. search needs)
-    returns-2
+    (λ c. put-uneven _ _ _ _ (search needs) (search needs) (c .alone2 .ensures))
     (λ c κs. search needs)
     returns-3
     (λ c κs. search needs)

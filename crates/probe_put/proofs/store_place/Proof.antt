@@ -7,9 +7,6 @@ use Rattle.probe_put.proofs.Putting.{five}
 use Rattle.probe_put.proofs.store_place.Statement.{statement}
 use Rattle.probe_put.proofs.store_place.Tie as tie
 
-returns : tie.Need-returns
-returns c = five (c .args .out .now) (c .args .n * 32 + 5) _ _ _ _ _
-
 pub store-place-spec : {M : Type 1} → statement M
 store-place-spec =
     tie.close
@@ -30,4 +27,4 @@ store-place-spec =
     (λ c. search needs)
     (λ c. simp length-set (omega arith))
     (λ c. search needs)
-    returns)
+    (λ c. five (c .args .out .now) (c .args .n * 32 + 5) _ _ _ _ _))

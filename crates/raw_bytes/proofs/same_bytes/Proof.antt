@@ -13,9 +13,6 @@ Inv-loop a b size k₀ k = (k ≤ size) × ((i : ℕ) → i < k → getD a i 0 �
 abbrev μ-loop : tie.MeasureT-loop
 μ-loop a b size k₀ k = size - k
 
-loop-holds : tie.Need-loop-holds Inv-loop μ-loop
-loop-holds c = (search needs, below-none _)
-
 returns : tie.Need-returns Inv-loop μ-loop
 returns c = let s = c .before .before .before .before .before .args in sym (same-not (s .a .now) (s .b .now) (c .before .before .before .before .loop .k) (c .if1 .taken))
 
@@ -31,7 +28,7 @@ same-bytes-spec =
     (tie.spec
     Inv-loop
     μ-loop
-    loop-holds
+    (λ c. (search needs, below-none _))
     (λ c. search needs)
     (λ c. search needs)
     returns

@@ -4,9 +4,6 @@ use Rattle.raw_bytes.proofs.Bytes.{two-bytes}
 use Rattle.raw_bytes.proofs.u16_at.Statement.{statement}
 use Rattle.raw_bytes.proofs.u16_at.Tie as tie
 
-returns : tie.Need-returns
-returns c = (cc) ∙ two-bytes _ _
-
 pub u16-at-spec : {M : Type 1} → statement M
 u16-at-spec =
     tie.close
@@ -18,4 +15,4 @@ u16-at-spec =
     (λ c κs. search needs)
     (λ c. search needs)
     (λ c. search needs)
-    returns)
+    (λ c. (cc) ∙ two-bytes _ _))

@@ -4,9 +4,6 @@ use Rattle.raw_bytes.proofs.Bytes.{four-bytes}
 use Rattle.raw_bytes.proofs.u32_at.Statement.{statement}
 use Rattle.raw_bytes.proofs.u32_at.Tie as tie
 
-returns : tie.Need-returns
-returns c = (cc) ∙ four-bytes _ _
-
 pub u32-at-spec : {M : Type 1} → statement M
 u32-at-spec =
     tie.close
@@ -28,4 +25,4 @@ u32-at-spec =
     (λ c κs. search needs)
     (λ c. search needs)
     (λ c. search needs)
-    returns)
+    (λ c. (cc) ∙ four-bytes _ _))

@@ -3,9 +3,6 @@ use Rattle.raw_bytes.proofs.Bytes.{eight-bytes}
 use Rattle.raw_bytes.proofs.u64_at.Statement.{statement}
 use Rattle.raw_bytes.proofs.u64_at.Tie as tie
 
-returns : tie.Need-returns
-returns c = eight-bytes _ _ (search needs) (search needs)
-
 pub u64-at-spec : {M : Type 1} → statement M
 u64-at-spec =
     tie.close
@@ -15,4 +12,4 @@ u64-at-spec =
     (λ c κs. search needs)
     (λ c. search needs)
     (λ c. search needs)
-    returns)
+    (λ c. eight-bytes _ _ (search needs) (search needs)))

@@ -5,9 +5,6 @@ use Rattle.run_export.proofs.Starts.{wish-means}
 use Rattle.run_export.proofs.main.Statement.{statement}
 use Rattle.run_export.proofs.main.Tie as tie
 
-export-requires : tie.Need-export-requires
-export-requires c κs = wish-means _ _ _ _ (sym (c .before .is-ours .ensures) ∙ c .if2 .taken)
-
 pub main-spec : {M : Type 1} → statement M
 main-spec =
     tie.close
@@ -23,7 +20,7 @@ main-spec =
     (λ c κs. search needs)
     (λ c. search needs)
     (λ c. search needs)
-    export-requires
+    (λ c κs. wish-means _ _ _ _ (sym (c .before .is-ours .ensures) ∙ c .if2 .taken))
     (λ c. search needs)
     (λ c. search needs)
     (λ c. search needs))

@@ -10,9 +10,6 @@ use Rattle.run_pixels.proofs.Bytes.{headed, headed-length, head-stored}
 use Rattle.run_pixels.proofs.put_shown.Statement.{statement}
 use Rattle.run_pixels.proofs.put_shown.Tie as tie
 
-put-values-requires : tie.Need-put-values-requires
-put-values-requires c κs = simp (length-take, length-drop, length-set) (omega arith)
-
 same-length : tie.Need-same-length
 same-length c =
     let p = c .before .before in
@@ -41,6 +38,6 @@ put-shown-spec =
     (λ c. simp length-set (omega arith))
     (λ c. simp length-set (omega arith))
     (λ c. search needs)
-    put-values-requires
+    (λ c κs. simp (length-take, length-drop, length-set) (omega arith))
     same-length
     returns)

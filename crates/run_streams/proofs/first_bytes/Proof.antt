@@ -4,8 +4,5 @@ use borrow.Author.Needs.{needs}
 use Rattle.run_streams.proofs.first_bytes.Statement.{statement}
 use Rattle.run_streams.proofs.first_bytes.Tie as tie
 
-returns-2 : tie.Need-returns-2
-returns-2 c = sym (take-all _ _ (c .if1 .left))
-
 pub first-bytes-spec : {M : Type 1} → statement M
-first-bytes-spec = tie.close (tie.spec (λ c. sym (length-take-le _ _ (search needs))) (λ c. search needs) returns-2)
+first-bytes-spec = tie.close (tie.spec (λ c. sym (length-take-le _ _ (search needs))) (λ c. search needs) (λ c. sym (take-all _ _ (c .if1 .left))))

@@ -4,27 +4,18 @@ use Rattle.run_write.proofs.Bytes.{at-byte, at-endpoint, at-last}
 use Rattle.run_write.proofs.number_in.Statement.{statement}
 use Rattle.run_write.proofs.number_in.Tie as tie
 
-returns : tie.Need-returns
-returns c = at-byte _ _ (search needs) (c .u8-to-u16 .ensures .0)
-
-returns-2 : tie.Need-returns-2
-returns-2 c = at-endpoint _ _ (search needs) (search needs) (c .u16-at .ensures)
-
-returns-3 : tie.Need-returns-3
-returns-3 c = at-last _ _ (search needs) (search needs) (c .u8-to-u162 .ensures .0)
-
 pub number-in-spec : {M : Type 1} → statement M
 number-in-spec =
     tie.close
     (tie.spec
     (λ c. search needs)
     (λ c κs. search needs)
-    returns
+    (λ c. at-byte _ _ (search needs) (c .u8-to-u16 .ensures .0))
     (λ c. search needs)
     (λ c. search needs)
     (λ c κs. search needs)
-    returns-2
+    (λ c. at-endpoint _ _ (search needs) (search needs) (c .u16-at .ensures))
     (λ c. search needs)
     (λ c. search needs)
     (λ c κs. search needs)
-    returns-3)
+    (λ c. at-last _ _ (search needs) (search needs) (c .u8-to-u162 .ensures .0)))

@@ -11,20 +11,11 @@ Inv-loop form store count refused₀ damaged₀ n₀ refused damaged n = (n ≤ 
 abbrev μ-loop : tie.MeasureT-loop
 μ-loop form store count refused₀ damaged₀ n₀ refused damaged n = count - n
 
-loop-holds : tie.Need-loop-holds Inv-loop μ-loop
-loop-holds c = (search needs, none-counted _ _)
-
-add-refused : tie.Need-add-refused Inv-loop μ-loop
-add-refused c = let few = c .before .before .before .loop .inv .1 .few in search needs
-
 add-damaged : tie.Need-add-damaged Inv-loop μ-loop
 add-damaged c = let few = c .before .before .before .before .before .loop .inv .1 .few in search needs
 
 loop-again : tie.Need-loop-again Inv-loop μ-loop
 loop-again c = (search needs, one-counted _ _ (c .before .before .before .before .before .loop .inv .1) (c .before .before .before .is-refused .ensures) (c .before .before .one-if .ensures) (c .before .is-damaged .ensures) (c .one-if2 .ensures))
-
-returns : tie.Need-returns Inv-loop μ-loop
-returns c = all-counted _ _ (search needs) (search needs) (c .before .loop .inv .1)
 
 pub count-faults-spec : {M : Type 1} → statement M
 count-faults-spec =
@@ -33,14 +24,14 @@ count-faults-spec =
     Inv-loop
     μ-loop
     (λ c κs. search needs)
-    loop-holds
+    (λ c. (search needs, none-counted _ _))
     (λ c κs. search needs)
     (λ c κs. search needs)
-    add-refused
+    (λ c. let few = c .before .before .before .loop .inv .1 .few in search needs)
     (λ c κs. search needs)
     (λ c κs. search needs)
     add-damaged
     (λ c. search needs)
     (λ c. search needs)
     loop-again
-    returns)
+    (λ c. all-counted _ _ (search needs) (search needs) (c .before .loop .inv .1)))

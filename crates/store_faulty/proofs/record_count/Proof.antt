@@ -4,11 +4,8 @@ use borrow.Author.Needs.{needs}
 use Rattle.store_faulty.proofs.record_count.Statement.{statement}
 use Rattle.store_faulty.proofs.record_count.Tie as tie
 
-div-result : tie.Need-div-result
-div-result c = omega (arith, size-some (c .before .before .args .form))
-
 returns : tie.Need-returns
 returns c = rw (c .record-size .ensures)
 
 pub record-count-spec : {M : Type 1} → statement M
-record-count-spec = tie.close (tie.spec (λ c κs. search needs) div-result returns)
+record-count-spec = tie.close (tie.spec (λ c κs. search needs) (λ c. omega (arith, size-some (c .before .before .args .form))) returns)

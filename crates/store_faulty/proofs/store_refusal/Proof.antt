@@ -4,9 +4,6 @@ use borrow.Author.Needs.{needs}
 use Rattle.store_faulty.proofs.store_refusal.Statement.{statement}
 use Rattle.store_faulty.proofs.store_refusal.Tie as tie
 
-returns : tie.Need-returns
-returns c = long _ _ (search needs)
-
 rem-if2 : tie.Need-rem-if2
 rem-if2 c = omega (arith, size-some (c .before .before .before .before .args .form))
 
@@ -19,4 +16,4 @@ returns-3 c = whole _ _ (search needs) (rw (c .before .record-size .ensures) at 
 pub store-refusal-spec : {M : Type 1} → statement M
 store-refusal-spec =
     tie.close
-    (tie.spec (λ c κs. search needs) returns (λ c κs. search needs) rem-if2 returns-2 returns-3)
+    (tie.spec (λ c κs. search needs) (λ c. long _ _ (search needs)) (λ c κs. search needs) rem-if2 returns-2 returns-3)

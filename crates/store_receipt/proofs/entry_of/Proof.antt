@@ -3,9 +3,6 @@ use borrow.Author.Needs.{needs}
 use Rattle.store_receipt.proofs.entry_of.Statement.{statement}
 use Rattle.store_receipt.proofs.entry_of.Tie as tie
 
-returns : tie.Need-returns
-returns c = entry-is _ _ _ (search needs)
-
 pub entry-of-spec : {M : Type 1} → statement M
 entry-of-spec =
     tie.close
@@ -22,4 +19,4 @@ entry-of-spec =
     (λ c. search needs)
     (λ c. search needs)
     (λ c. search needs)
-    returns)
+    (λ c. entry-is _ _ _ (search needs)))

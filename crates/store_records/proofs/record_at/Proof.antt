@@ -4,12 +4,6 @@ use Rattle.store_records.proofs.Readings as laws
 use Rattle.store_records.proofs.record_at.Statement.{statement}
 use Rattle.store_records.proofs.record_at.Tie as tie
 
-returns : tie.Need-returns
-returns c = laws.read-refused _ _ 4 (checks.long _ _ (search needs))
-
-returns-2 : tie.Need-returns-2
-returns-2 c = laws.read-refused _ _ 5 (checks.uneven _ _ (search needs) (search needs))
-
 returns-3 : tie.Need-returns-3
 returns-3 c = laws.read-refused _ _ 7 (checks.past _ _ (search needs) (search needs) (search needs))
 
@@ -32,8 +26,8 @@ pub record-at-spec : {M : Type 1} → statement M
 record-at-spec =
     tie.close
     (tie.spec
-    returns
-    returns-2
+    (λ c. laws.read-refused _ _ 4 (checks.long _ _ (search needs)))
+    (λ c. laws.read-refused _ _ 5 (checks.uneven _ _ (search needs) (search needs)))
     (λ c κs. search needs)
     returns-3
     (λ c. search needs)

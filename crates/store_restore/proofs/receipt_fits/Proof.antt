@@ -21,12 +21,6 @@ Inv-loop receipt total entries least₀ e₀ least e =
 abbrev μ-loop : tie.MeasureT-loop
 μ-loop receipt total entries least₀ e₀ least e = entries - e
 
-returns : tie.Need-returns Inv-loop μ-loop
-returns c = laws.uneven-receipt _ _ (search needs)
-
-loop-holds : tie.Need-loop-holds Inv-loop μ-loop
-loop-holds c = (search needs, refl, refl, search needs)
-
 returns-2 : tie.Need-returns-2 Inv-loop μ-loop
 returns-2 c = laws.entry-fails _ _ (c .before .before .before .loop .inv .3) (c .before .before .before .loop .e) (sym (c .before .entry-fits .ensures) ∙ not-true _ (c .if2 .taken)) (search needs)
 
@@ -52,8 +46,8 @@ receipt-fits-spec =
     (tie.spec
     Inv-loop
     μ-loop
-    returns
-    loop-holds
+    (λ c. laws.uneven-receipt _ _ (search needs))
+    (λ c. (search needs, refl, refl, search needs))
     (λ c κs. search needs)
     returns-2
     (λ c κs. search needs)

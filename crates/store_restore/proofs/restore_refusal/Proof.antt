@@ -5,15 +5,6 @@ use borrow.Author.Needs.{needs}
 use Rattle.store_restore.proofs.restore_refusal.Statement.{statement}
 use Rattle.store_restore.proofs.restore_refusal.Tie as tie
 
-returns : tie.Need-returns
-returns c = sym (laws.long _ _ _ (search needs))
-
-returns-2 : tie.Need-returns-2
-returns-2 c = sym (laws.many _ _ _ (search needs) (search needs))
-
-returns-3 : tie.Need-returns-3
-returns-3 c = sym (laws.uneven _ _ _ (search needs) (search needs) (search needs))
-
 returns-4 : tie.Need-returns-4
 returns-4 c = sym (laws.unfit _ _ _ (search needs) (search needs) (search needs) (sym (laws.fits-of _ _ _ (c .before .receipt-fits .ensures) (search needs)) ∙ not-true _ (c .if4 .taken)))
 
@@ -27,11 +18,11 @@ pub restore-refusal-spec : {M : Type 1} → statement M
 restore-refusal-spec =
     tie.close
     (tie.spec
-    returns
+    (λ c. sym (laws.long _ _ _ (search needs)))
     (λ c κs. search needs)
     (λ c. search needs)
-    returns-2
-    returns-3
+    (λ c. sym (laws.many _ _ _ (search needs) (search needs)))
+    (λ c. sym (laws.uneven _ _ _ (search needs) (search needs) (search needs)))
     (λ c κs. search needs)
     returns-4
     (λ c. search needs)

@@ -15,9 +15,6 @@ Inv-loop store scratch₀ count n₀ scratch n = (n ≤ count) × Printed store 
 abbrev μ-loop : tie.MeasureT-loop
 μ-loop store scratch₀ count n₀ scratch n = count - n
 
-loop-holds : tie.Need-loop-holds Inv-loop μ-loop
-loop-holds c = (search needs, made-none _ _, refl)
-
 loop-again : tie.Need-loop-again Inv-loop μ-loop
 loop-again c =
     let i = c .before .before .before .before .loop .inv in
@@ -29,9 +26,6 @@ kind-at-requires c κs =
     let e = c .before .found .given .1 in
     (unrefused r e, format-is r e)
 
-fingerprint-requires : tie.Need-fingerprint-requires Inv-loop μ-loop
-fingerprint-requires c κs = ap length (c .picture-in .ensures) ∙ picture-in-length _ _ _ (search needs)
-
 loop-again-2 : tie.Need-loop-again-2 Inv-loop μ-loop
 loop-again-2 c =
     let l = c .before .before .before .before .before .before .before .before .before .loop in
@@ -42,9 +36,6 @@ loop-again-2 c =
       simp length-set (l .inv .2),
     )
 
-returns : tie.Need-returns Inv-loop μ-loop
-returns c = made-upto _ _ _ _ _ (c .before .loop .inv .1) (search needs) (search needs)
-
 pub keep-prints-spec : {M : Type 1} → statement M
 keep-prints-spec =
     tie.close
@@ -52,7 +43,7 @@ keep-prints-spec =
     Inv-loop
     μ-loop
     (λ c κs. search needs)
-    loop-holds
+    (λ c. (search needs, made-none _ _, refl))
     (λ c κs. search needs)
     (λ c. search needs)
     (λ c. search needs)
@@ -61,11 +52,11 @@ keep-prints-spec =
     loop-again
     kind-at-requires
     (λ c κs. search needs)
-    fingerprint-requires
+    (λ c κs. ap length (c .picture-in .ensures) ∙ picture-in-length _ _ _ (search needs))
     (λ c. search needs)
     (λ c. search needs)
     (λ c. search needs)
     (λ c. search needs)
     loop-again-2
     (λ c. search needs)
-    returns)
+    (λ c. made-upto _ _ _ _ _ (c .before .loop .inv .1) (search needs) (search needs)))

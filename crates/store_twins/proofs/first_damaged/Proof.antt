@@ -14,12 +14,6 @@ Inv-loop store count n₀ n = (n ≤ count) × (firstBelow (damaged store) n ≡
 abbrev μ-loop : tie.MeasureT-loop
 μ-loop store count n₀ n = count - n
 
-returns : tie.Need-returns Inv-loop μ-loop
-returns c = c .before .record-count .ensures ∙ long-none _ (c .if1 .taken)
-
-loop-holds : tie.Need-loop-holds Inv-loop μ-loop
-loop-holds c = (search needs, first-none _)
-
 returns-2 : tie.Need-returns-2 Inv-loop μ-loop
 unfolding firstDamaged
 returns-2 c = sym (first-at _ _ _ (c .before .before .before .loop .inv .1) (sym (c .before .is-damaged .ensures) ∙ c .if2 .taken) (search needs))
@@ -38,8 +32,8 @@ first-damaged-spec =
     Inv-loop
     μ-loop
     (λ c κs. search needs)
-    returns
-    loop-holds
+    (λ c. c .before .record-count .ensures ∙ long-none _ (c .if1 .taken))
+    (λ c. (search needs, first-none _))
     (λ c κs. search needs)
     returns-2
     (λ c. search needs)

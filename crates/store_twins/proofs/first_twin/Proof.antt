@@ -21,14 +21,8 @@ returns c = sym (no-twin _ _ (refused (c .before .before .record-at .ensures) (c
 mode-at-requires : tie.Need-mode-at-requires Inv-loop μ-loop
 mode-at-requires c κs = unrefused (c .before .before .before .record-at .ensures) (c .before .found .given .1)
 
-returns-2 : tie.Need-returns-2 Inv-loop μ-loop
-returns-2 c = sym (reserved-no-twin _ _ (sym (c .before .mode-at .ensures) ∙ c .if1 .taken))
-
 decode-record-requires : tie.Need-decode-record-requires Inv-loop μ-loop
 decode-record-requires c κs = let r = c .before .before .before .before .before .before .record-at .ensures in let e = c .before .before .before .before .found .given .1 in (unrefused r e, (format-is r e, search needs))
-
-loop-holds : tie.Need-loop-holds Inv-loop μ-loop
-loop-holds c = (search needs, first-none _)
 
 returns-3 : tie.Need-returns-3 Inv-loop μ-loop
 unfolding firstTwin
@@ -52,10 +46,10 @@ first-twin-spec =
     (λ c. search needs)
     returns
     mode-at-requires
-    returns-2
+    (λ c. sym (reserved-no-twin _ _ (sym (c .before .mode-at .ensures) ∙ c .if1 .taken)))
     (λ c. search needs)
     decode-record-requires
-    loop-holds
+    (λ c. (search needs, first-none _))
     (λ c. search needs)
     (λ c κs. search needs)
     returns-3

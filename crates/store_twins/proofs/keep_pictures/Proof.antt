@@ -14,9 +14,6 @@ Inv-loop store pictures₀ count n₀ pictures n = (n ≤ count) × Fore store p
 abbrev μ-loop : tie.MeasureT-loop
 μ-loop store pictures₀ count n₀ pictures n = count - n
 
-loop-holds : tie.Need-loop-holds Inv-loop μ-loop
-loop-holds c = (search needs, run-start _ _ (slot-length _ _) _, refl)
-
 loop-again : tie.Need-loop-again Inv-loop μ-loop
 loop-again c =
     let i = c .before .before .before .before .loop .inv in
@@ -38,9 +35,6 @@ loop-again-2 c =
       search needs,
     )
 
-returns : tie.Need-returns Inv-loop μ-loop
-returns c = slots-done _ _ _ _ (c .before .loop .inv .1) (search needs) (search needs)
-
 pub keep-pictures-spec : {M : Type 1} → statement M
 keep-pictures-spec =
     tie.close
@@ -48,7 +42,7 @@ keep-pictures-spec =
     Inv-loop
     μ-loop
     (λ c κs. search needs)
-    loop-holds
+    (λ c. (search needs, run-start _ _ (slot-length _ _) _, refl))
     (λ c κs. search needs)
     (λ c. search needs)
     (λ c. search needs)
@@ -65,4 +59,4 @@ keep-pictures-spec =
     (λ c. search needs)
     loop-again-2
     (λ c. search needs)
-    returns)
+    (λ c. slots-done _ _ _ _ (c .before .loop .inv .1) (search needs) (search needs)))

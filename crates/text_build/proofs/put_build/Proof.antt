@@ -4,9 +4,6 @@ use Rattle.text_build.proofs.Outputs.{no-wish, few-records, build-refus
 use Rattle.text_build.proofs.put_build.Statement.{statement}
 use Rattle.text_build.proofs.put_build.Tie as tie
 
-returns : tie.Need-returns
-returns c = no-wish _ _ (c .if1 .taken)
-
 returns-2 : tie.Need-returns-2
 returns-2 c =
     let u = c .before .before .before .before .before .before .before in
@@ -29,7 +26,7 @@ pub put-build-spec : {M : Type 1} → statement M
 put-build-spec =
     tie.close
     (tie.spec
-    returns
+    (λ c. no-wish _ _ (c .if1 .taken))
     (λ c. search needs)
     (λ c κs. search needs)
     (λ c κs. search needs)

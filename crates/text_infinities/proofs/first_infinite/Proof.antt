@@ -15,9 +15,6 @@ Inv-loop values j₀ j = (j ≤ 48) × (firstBelow (infiniteAt values) j ≡ j)
 abbrev μ-loop : tie.MeasureT-loop
 μ-loop values j₀ j = 48 - j
 
-loop-holds : tie.Need-loop-holds Inv-loop μ-loop
-loop-holds c = (search needs, first-none _)
-
 returns : tie.Need-returns Inv-loop μ-loop
 unfolding infiniteAt
 returns c = let l = c .before .before .before .loop in sym (first-at _ 48 (l .j) (l .inv .1) (eq-eqb _ _ (c .if1 .taken)) (search needs))
@@ -35,7 +32,7 @@ first-infinite-spec =
     (tie.spec
     Inv-loop
     μ-loop
-    loop-holds
+    (λ c. (search needs, first-none _))
     (λ c. search needs)
     (λ c. search needs)
     returns

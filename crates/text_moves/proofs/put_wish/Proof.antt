@@ -4,9 +4,6 @@ use Rattle.text_moves.proofs.Outputs.{no-wish, wish-refused, wish-done}
 use Rattle.text_moves.proofs.put_wish.Statement.{statement}
 use Rattle.text_moves.proofs.put_wish.Tie as tie
 
-returns : tie.Need-returns
-returns c = no-wish _ _ (c .if1 .taken)
-
 returns-2 : tie.Need-returns-2
 returns-2 c =
     let u = c .before .before .before .before .before .before .before in
@@ -25,7 +22,7 @@ pub put-wish-spec : {M : Type 1} → statement M
 put-wish-spec =
     tie.close
     (tie.spec
-    returns
+    (λ c. no-wish _ _ (c .if1 .taken))
     (λ c κs. search needs)
     (λ c κs. search needs)
     (λ c. search needs)

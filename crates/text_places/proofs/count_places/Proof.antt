@@ -10,12 +10,6 @@ Inv-loop store count placed₀ unplaced₀ n₀ placed unplaced n = (n ≤ count
 abbrev μ-loop : tie.MeasureT-loop
 μ-loop store count placed₀ unplaced₀ n₀ placed unplaced n = count - n
 
-loop-holds : tie.Need-loop-holds Inv-loop μ-loop
-loop-holds c = (search needs, none-sorted _)
-
-add-placed : tie.Need-add-placed Inv-loop μ-loop
-add-placed c = let few = c .before .before .before .loop .inv .1 .few in search needs
-
 add-unplaced : tie.Need-add-unplaced Inv-loop μ-loop
 add-unplaced c = let few = c .before .before .before .before .before .loop .inv .1 .few in search needs
 
@@ -31,10 +25,10 @@ count-places-spec =
     (tie.spec
     Inv-loop
     μ-loop
-    loop-holds
+    (λ c. (search needs, none-sorted _))
     (λ c κs. search needs)
     (λ c κs. search needs)
-    add-placed
+    (λ c. let few = c .before .before .before .loop .inv .1 .few in search needs)
     (λ c κs. search needs)
     (λ c κs. search needs)
     add-unplaced

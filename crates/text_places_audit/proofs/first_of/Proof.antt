@@ -14,9 +14,6 @@ Inv-loop store n earlier₀ earlier = (earlier ≤ n) × (firstBelow (repeatsIn 
 abbrev μ-loop : tie.MeasureT-loop
 μ-loop store n earlier₀ earlier = n - earlier
 
-loop-holds : tie.Need-loop-holds Inv-loop μ-loop
-loop-holds c = (search needs, first-none _)
-
 returns : tie.Need-returns Inv-loop μ-loop
 unfolding firstIn
 returns c = (search needs, sym (first-at _ _ _ (c .before .before .before .loop .inv .1) (sym (c .before .is-repeat .ensures) ∙ c .if1 .taken) (search needs)))
@@ -34,7 +31,7 @@ first-of-spec =
     (tie.spec
     Inv-loop
     μ-loop
-    loop-holds
+    (λ c. (search needs, first-none _))
     (λ c κs. search needs)
     returns
     (λ c. search needs)

@@ -23,9 +23,6 @@ abbrev μ-loop : tie.MeasureT-loop
 mul-count : tie.Need-mul-count Inv-loop μ-loop
 mul-count c = record { fits = let s = square-few (c .before .before .args .side) (search needs) in omega arith }
 
-loop-holds : tie.Need-loop-holds Inv-loop μ-loop
-loop-holds c = (search needs, refl, none-put (imagePixel _ _) _ _)
-
 put-rgb-requires : tie.Need-put-rgb-requires Inv-loop μ-loop
 put-rgb-requires c κs = (search needs, rw (c .before .of .ensures) (c .before .before .before .before .before .before .before .before .before .before .pre .1 .each (c .before .before .before .before .before .pixel-up .result) (c .before .before .before .before .before .pixel-up .ensures .1)))
 
@@ -48,7 +45,7 @@ put-pixels-spec =
     Inv-loop
     μ-loop
     mul-count
-    loop-holds
+    (λ c. (search needs, refl, none-put (imagePixel _ _) _ _))
     (λ c κs. search needs)
     (λ c. search needs)
     (λ c. search needs)

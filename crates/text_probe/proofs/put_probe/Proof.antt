@@ -5,9 +5,6 @@ use borrow.Author.Needs.{needs}
 use Rattle.text_probe.proofs.put_probe.Statement.{statement}
 use Rattle.text_probe.proofs.put_probe.Tie as tie
 
-returns : tie.Need-returns
-returns c = none-written _ _ (c .if1 .taken)
-
 returns-2 : tie.Need-returns-2
 returns-2 c =
     let w = c .before .before .before .before .before .before in
@@ -37,7 +34,7 @@ pub put-probe-spec : {M : Type 1} → statement M
 put-probe-spec =
     tie.close
     (tie.spec
-    returns
+    (λ c. none-written _ _ (c .if1 .taken))
     (λ c. search needs)
     (λ c κs. search needs)
     (λ c κs. search needs)

@@ -4,8 +4,5 @@ use Rattle.bcn_spec.proofs.Partitions.{ones-counted}
 use Rattle.bcn_data.proofs.Subset2Map.count_ones.Statement.{statement}
 use Rattle.bcn_data.proofs.Subset2Map.count_ones.Tie as tie
 
-returns : tie.Need-returns
-returns c = ones-counted 16 (c .before .args .self .«subset_indexes») (search needs)
-
 pub count-ones-spec : {M : Type 1} → statement M
-count-ones-spec = tie.close (tie.spec returns)
+count-ones-spec = tie.close (tie.spec (λ c. ones-counted 16 (c .before .args .self .«subset_indexes») (search needs)))

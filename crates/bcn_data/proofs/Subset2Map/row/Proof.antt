@@ -9,9 +9,6 @@ use Rattle.bcn_data.proofs.Rows.{small2, apart2, first-rows}
 use Rattle.bcn_data.proofs.Subset2Map.row.Statement.{statement}
 use Rattle.bcn_data.proofs.Subset2Map.row.Tie as tie
 
-returns : tie.Need-returns
-returns c = c .of .ensures ∙ sym (first-rows _ (c .before .if1 .taken))
-
 number : (c : tie.After-later-row) → c .later-row .result ≡ packedRow2 (c .before .before .args .partition)
 unfolding laterRow
 number c =
@@ -19,16 +16,13 @@ number c =
     let back : p - 32 + 32 ≡ p = omega arith in
     row-is (c .later-row .ensures) ∙ ap packedRow2 back
 
-returns-2 : tie.Need-returns-2
-returns-2 c = apart2 _ _ (c .before .before .pre) (number c)
-
 pub row-spec : {M : Type 1} → statement M
 row-spec =
     tie.close
     (tie.spec
     (λ c κs. search needs)
-    returns
+    (λ c. c .of .ensures ∙ sym (first-rows _ (c .before .if1 .taken)))
     (λ c κs. search needs)
     (λ c. search needs)
     (λ c. record { fits = small2 _ _ (c .before .before .pre) (number c) })
-    returns-2)
+    (λ c. apart2 _ _ (c .before .before .pre) (number c)))

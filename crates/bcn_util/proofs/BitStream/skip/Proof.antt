@@ -4,9 +4,6 @@ use Rattle.bcn_util.proofs.Words.{skip-none, sum-fits, shortened, from-
 use Rattle.bcn_util.proofs.BitStream.skip.Statement.{statement}
 use Rattle.bcn_util.proofs.BitStream.skip.Tie as tie
 
-add-t9 : tie.Need-add-t9
-add-t9 c = record { fits = sum-fits _ _ _ (search needs) (search needs) }
-
 pub skip-spec : {M : Type 1} → statement M
 skip-spec =
     tie.close
@@ -15,7 +12,7 @@ skip-spec =
     (λ c. search needs)
     (λ c. search needs)
     (λ c. search needs)
-    add-t9
+    (λ c. record { fits = sum-fits _ _ _ (search needs) (search needs) })
     (λ c. search needs)
     (λ c. shortened _ _ _ (search needs))
     (λ c. search needs)

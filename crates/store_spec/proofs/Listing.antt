@@ -2,7 +2,7 @@
 -- admits one outcome. Assumes nothing.
 use mathlib.Core.Path.{_≡_, refl, sym, _∙_, ap}
 use mathlib.Core.List.{List, _++_}
-use Prim.Native.Nat.{ℕ, zero, suc, _+_, _*_, _/_, _%_, _≤_, _<_}
+use Prim.Native.Nat.{ℕ, zero, suc, _+_, _-_, _*_, _/_, _%_, _≤_, _<_}
 use native.Mathlib.Omega.{arith}
 use lib.Dec.{eqb, ltb}
 use lib.ListN.{length, getD, take, drop, List·getD-append}
@@ -70,11 +70,10 @@ module _ {store lent after : List ℕ} {r : TwinList} (d : Listed store lent r a
 
   -- a refusal is its number alone: every count is zero
   pub refused-alone : (r .answer ≡ done → ⊥) → r ≡ refusal (r .answer)
-  refused-alone n = d .answers ∙ go (listRefusal (length store) (length lent)) refl ∙ ap refusal (sym answer-number)
-    where
-      go : (k : ℕ) → listRefusal (length store) (length lent) ≡ k → answerAt k store ≡ refusal k
-      go zero q = absurd (n (answer-number ∙ q))
-      go (suc k) q = refl
+  refused-alone n =
+      let number = listRefusal (length store) (length lent) in
+      let s : number ≡ suc (number - 1) = omega (arith, answer-number) in
+      rw s at (d .answers) ∙ ap refusal (sym (answer-number ∙ s))
 
   module _ (z : r .answer ≡ done) where
     unrefused : listRefusal (length store) (length lent) ≡ done
@@ -191,16 +190,14 @@ module _ {store lent space after spaceAfter : List ℕ} {r : TwinList} (d : List
     pub same-space : spaceAfter ≡ space
 
   pub silent-in : (r .answer ≡ done → ⊥) → Silent
-  silent-in n = go (scratchRefusal (length store) (length lent) (length space)) refl
-    where
-      go : (k : ℕ) → scratchRefusal (length store) (length lent) (length space) ≡ k → Silent
-      go zero q = absurd (n (answer-number-in ∙ q))
-      go (suc k) q =
-          record {
-            alone = rw q at (d .answers) ∙ ap refusal (sym (answer-number-in ∙ q));
-            same-marks = rw q at (d .holds);
-            same-space = rw q at (d .leaves);
-          }
+  silent-in n =
+      let number = scratchRefusal (length store) (length lent) (length space) in
+      let s : number ≡ suc (number - 1) = omega (arith, answer-number-in) in
+      record {
+        alone = rw s at (d .answers) ∙ ap refusal (sym (answer-number-in ∙ s));
+        same-marks = rw s at (d .holds);
+        same-space = rw s at (d .leaves);
+      }
 
   -- where it is done, what it answers and marks is what the ordinary list does
   pub list-is : r .answer ≡ done → Listed store lent r after

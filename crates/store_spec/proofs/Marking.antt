@@ -9,7 +9,7 @@ use lib.ListN.{length, getD}
 use borrow.Author.Tests.{not-true, eq-eqb, ne-eqb, eqb-true, eqb-false, lt-ltb, le-ltb, ltb-true, ltb-false}
 use Rattle.laws.specs.Every.{same}
 use Rattle.laws.specs.First.{firstBelow}
-use Rattle.laws.proofs.Tests.{cases, both-true}
+use Rattle.laws.proofs.Tests.{picks, cases, both-true}
 use Rattle.laws.proofs.Firsts.{first-end, first-at, first-passes, first-least, first-never}
 use Rattle.laws.proofs.Sameness.{not-so, same-so, same-means}
 use Rattle.bc6h_spec.specs.Fields.{modeOf}
@@ -43,13 +43,6 @@ module _ (store : List ℕ) (n format : ℕ) where
   unfolding holding
   holding-mode u f m = rw (is-record store n u, eq-eqb _ _ f, m)
 
-  pub holding-reserved : Reserved store n → holding store n format ≡ false
-  unfolding holding
-  holding-reserved z =
-      cases (isRecord store n)
-      (λ a. cases (eqb (formatOf store n) format) (λ b. rw (a, b, eq-eqb _ _ z)) (λ b. rw (a, b)))
-      (λ a. rw a)
-
   pub holding-so : Holds store n format → holding store n format ≡ true
   unfolding holding
   holding-so h = rw (is-record store n (h .unrefused), eq-eqb _ _ (h .of-format), ne-eqb _ _ (h .unreserved))
@@ -64,6 +57,9 @@ module _ (store : List ℕ) (n format : ℕ) where
         of-format = eqb-true _ _ (b .0);
         unreserved = eqb-false _ _ (not-true (isReserved store n) (b .1));
       }
+
+  pub holding-reserved : Reserved store n → holding store n format ≡ false
+  holding-reserved z = not-so _ (λ t. holding-means t .unreserved z)
 
 -- ---- alike
 
@@ -205,9 +201,8 @@ module _ (store : List ℕ) (n : ℕ) where
   pub mark-small : markAt store n ≤ 2
   unfolding markAt
   mark-small =
-      cases (isRecord store n)
-      (λ a. cases (ltb (firstTwin store n) n) (λ t. rw (a, t) (omega arith)) (λ f. rw (a, f) (omega arith)))
-      (λ f. rw f (omega arith))
+      picks (isRecord store n) _ badMark (λ k. k ≤ 2)
+      (λ a. picks (ltb (firstTwin store n) n) twinMark keptMark (λ k. k ≤ 2) (λ t. omega arith) (λ f. omega arith)) (λ f. omega arith)
 
   -- what a mark says
   pub twin-marked : markAt store n ≡ twinMark → firstTwin store n < n

@@ -7,7 +7,9 @@ use native.Mathlib.Decide.{decLt}
 use native.Mathlib.Omega.{arith}
 use lib.IntN.{ℤ, pos, negsuc, negℤ, natAbs, _+ℤ_}
 use lib.Pow.{pow-mono}
-use borrow.Author.Tests.{lt-ltb, le-ltb}
+use lib.Dec.{ltb}
+use borrow.Author.Tests.{lt-ltb, le-ltb, ltb-true, ltb-false}
+use Rattle.laws.proofs.Tests.{picks, cases}
 use Rattle.laws.proofs.Near.{mod-near}
 use Rattle.laws.proofs.Off.{Off, off-same, off-add, off-fun}
 use Rattle.bc6h_spec.specs.Half.{signExtend, keep, transform}
@@ -21,25 +23,12 @@ pos-inj a b e = ap natAbs e
 
 -- ---- sign extension, lifted by 2 ^ w above zero
 
-record LiftedRange (w d : ℕ) : Type 0 where
-  low : 2 ^ (w - 1) ≤ lifted w d
-  high : lifted w d < 3 * 2 ^ (w - 1)
-
-lifted-range : (w d : ℕ) → 1 ≤ w → d < 2 ^ w → LiftedRange w d
+lifted-range : (w d : ℕ) → 1 ≤ w → d < 2 ^ w → (2 ^ (w - 1) ≤ lifted w d) × (lifted w d < 3 * 2 ^ (w - 1))
 unfolding lifted
-lifted-range w d o h = go (decLt d (2 ^ (w - 1)))
-  where
-    go : Dec (d < 2 ^ (w - 1)) → LiftedRange w d
-    go (yes l) =
-        record {
-          low = rw (lt-ltb d (2 ^ (w - 1)) l) (omega (arith, twice w o));
-          high = rw (lt-ltb d (2 ^ (w - 1)) l) (omega (arith, twice w o));
-        }
-    go (no l) =
-        record {
-          low = rw (le-ltb d (2 ^ (w - 1)) (omega arith)) (omega arith);
-          high = rw (le-ltb d (2 ^ (w - 1)) (omega arith)) (omega (arith, twice w o));
-        }
+lifted-range w d o h =
+    let t = twice w o in
+    picks (ltb d (2 ^ (w - 1))) (2 ^ w + d) d (λ n. (2 ^ (w - 1) ≤ n) × (n < 3 * 2 ^ (w - 1)))
+    (λ e. let l = ltb-true d (2 ^ (w - 1)) e in (omega arith, omega arith)) (λ e. let l = ltb-false d (2 ^ (w - 1)) e in (omega arith, omega arith))
 
 lifted-inj : (w d e : ℕ) → d < 2 ^ w → e < 2 ^ w → lifted w d ≡ lifted w e → d ≡ e
 unfolding lifted
@@ -59,15 +48,13 @@ extend-inj w d e hd he q =
 
 not-least : (H : ℕ) (z : ℤ) (n : ℕ) → Off (2 * H) z n → H ≤ n → n < 3 * H → z ≢ negℤ (pos H) → natAbs z < H
 not-least H (pos x) n o l h q = omega arith
-not-least H (negsuc x) n o l h q = go (decLt (suc x) H)
-  where
-    go : Dec (suc x < H) → suc x < H
-    go (yes m) = m
-    go (no m) = let e : suc x ≡ H = omega arith in absurd (q (ap (λ (k : ℕ). negℤ (pos k)) e))
+not-least H (negsuc x) n o l h q =
+    cases (ltb (suc x) H) (ltb-true (suc x) H)
+    (λ f. let e : suc x ≡ H = omega (arith, ltb-false (suc x) H f) in absurd (q (ap (λ (k : ℕ). negℤ (pos k)) e)))
 
 extended-ok : (w p d : ℕ) → 1 ≤ w → w ≤ p → d < 2 ^ w → signExtend w d ≢ negℤ (pos (2 ^ (p - 1))) → OkS p (signExtend w d)
 extended-ok w p d o h l q =
-    let s : LiftedRange w d = lifted-range w d o l in
+    let s = lifted-range w d o l in
     let k : w - 1 ≤ p - 1 = omega arith in
     not-least (2 ^ (p - 1)) (signExtend w d) (lifted w d + (2 ^ p - 2 ^ w))
     (off-same (2 ^ p) (2 * 2 ^ (p - 1)) (signExtend w d) _ _ (omega (arith, twice p (omega arith))) refl (wide w p d h))
@@ -118,8 +105,8 @@ keep-inj p w d e a A o h hd he oa q =
 
     near : A + (lifted w d + (2 ^ p - 2 ^ w)) ≡ A + (lifted w e + (2 ^ p - 2 ^ w))
     near =
-        let s : LiftedRange w d = lifted-range w d o hd in
-        let t : LiftedRange w e = lifted-range w e o he in
+        let s = lifted-range w d o hd in
+        let t = lifted-range w e o he in
         mod-near (2 ^ p) _ _ (sym (sum d) ∙ q ∙ sum e)
         (omega (arith, twice w o, pow-mono {i = w} {j = p} h)) (omega (arith, twice w o, pow-mono {i = w} {j = p} h))
 

@@ -7,6 +7,7 @@ use native.Mathlib.Omega.{arith}
 use lib.Dec.{eqb, eqb·suc-zero, lit≤}
 use Rattle.laws.specs.Pick.{pick}
 use Rattle.laws.specs.Bit.{bit}
+use Rattle.laws.proofs.Tests.{cases}
 use Rattle.bc6h_spec.specs.Layout.{twoRegions}
 use Rattle.bcn_spec.specs.Regions.{mapOf, fixupOf}
 use Rattle.bc6h_spec.specs.Regions.{regionOf}
@@ -19,11 +20,7 @@ fixOf part r = pick (eqb r 0) 0 (fixupOf part)
 
 pub region-known : (m part k : ℕ) → regionOf m part k < regions m
 unfolding regionOf
-region-known m part k = go (twoRegions m)
-  where
-    go : (b : Bool) → pick b (bit (mapOf part) k) 0 < pick b 2 1
-    go true = mod-lt (mapOf part / 2 ^ k) (lit≤ tt)
-    go false = lit≤ tt
+region-known m part k = cases (twoRegions m) (λ e. rw e (mod-lt (mapOf part / 2 ^ k) (lit≤ tt))) (λ e. rw e (lit≤ tt))
 
 pub record Fix (m part r : ℕ) : Type 0 where
   pub fix-fits : fixOf part r < 16

@@ -26,18 +26,13 @@ use Rattle.store_copies.specs.Words.{PixelAt, ChannelDiffers, paletteVal
 use Rattle.store_copies.specs.Trust.{isBlock}
 use Rattle.store_copies.proofs.Demand3.{demand3}
 use Rattle.store_copies.proofs.Trust.{block-sound}
-use Rattle.store_copies.proofs.Premises.{Pair, Premise, Claim, Row, Without, fools?, all-refuted}
+use Rattle.store_copies.proofs.Premises.{Pair, Premise, each, Claim, Row, Without, fools?, all-refuted}
 use Rattle.store_copies.proofs.Pairs.{longer, two-modes, in-mode-14, without-index-0, without-index-15, only-ends-differ, least}
 
 -- ---- the premises, one by one
 
 abbrev pub sixteen-bytes : Premise
-sixteen-bytes =
-    record {
-      Met = λ p. IsBlock (p .x) × IsBlock (p .y);
-      test = λ p. both (isBlock (p .x)) (isBlock (p .y));
-      shows = λ p t. (block-sound (p .x) (both-left (isBlock (p .x)) _ t), block-sound (p .y) (both-right (isBlock (p .x)) _ t));
-    }
+sixteen-bytes = each (λ n b. IsBlock b) (λ n b. isBlock b) (λ n b. block-sound b)
 
 abbrev pub one-mode : Premise
 one-mode = record { Met = λ p. modeOf (p .x) ≡ modeOf (p .y); test = λ p. eqb (modeOf (p .x)) (modeOf (p .y)); shows = λ p t. eqb→eq _ _ t }
@@ -48,14 +43,9 @@ in? a b m = both (leb a m) (leb m b)
 pub in-shown : (a b m : ℕ) → T (in? a b m) → (a ≤ m) × (m ≤ b)
 in-shown a b m t = (leb→le _ _ (both-left (leb a m) _ t), leb→le _ _ (both-right (leb a m) _ t))
 
--- both modes from a to b
+-- both modes from a to z
 abbrev pub modes : ℕ → ℕ → Premise
-modes a b =
-    record {
-      Met = λ p. ((a ≤ modeOf (p .x)) × (modeOf (p .x) ≤ b)) × ((a ≤ modeOf (p .y)) × (modeOf (p .y) ≤ b));
-      test = λ p. both (in? a b (modeOf (p .x))) (in? a b (modeOf (p .y)));
-      shows = λ p t. (in-shown a b _ (both-left (in? a b (modeOf (p .x))) _ t), in-shown a b _ (both-right (in? a b (modeOf (p .x))) _ t));
-    }
+modes a z = each (λ n b. (a ≤ modeOf b) × (modeOf b ≤ z)) (λ n b. in? a z (modeOf b)) (λ n b. in-shown a z (modeOf b))
 
 abbrev at? : ℕ → List ℕ → Bool
 at? n block = some (λ pixel. eqb (indexOf (fieldsOf 0 block) pixel) n) 16
@@ -66,12 +56,7 @@ at-shown n block t =
     record { pixel = r .place; is-pixel = r .inside; at-index = eqb→eq _ _ (r .there) }
 
 abbrev index : ℕ → Premise
-index n =
-    record {
-      Met = λ p. PixelAt (p .x) n × PixelAt (p .y) n;
-      test = λ p. both (at? n (p .x)) (at? n (p .y));
-      shows = λ p t. (at-shown n (p .x) (both-left (at? n (p .x)) _ t), at-shown n (p .y) (both-right (at? n (p .x)) _ t));
-    }
+index k = each (λ n b. PixelAt b k) (λ n b. at? k b) (λ n b. at-shown k b)
 
 abbrev differ? : ℕ → List ℕ → Bool
 differ? format block = some (λ c. distinct (paletteValue (isSigned format) block c) 16) 3
@@ -92,12 +77,7 @@ channel-differs =
     }
 
 abbrev unsigned : Premise
-unsigned =
-    record {
-      Met = λ p. (p .format ≡ 0) × (p .other ≡ 0);
-      test = λ p. both (eqb (p .format) 0) (eqb (p .other) 0);
-      shows = λ p t. (eqb→eq _ _ (both-left (eqb (p .format) 0) _ t), eqb→eq _ _ (both-right (eqb (p .format) 0) _ t));
-    }
+unsigned = each (λ n b. n ≡ 0) (λ n b. eqb n 0) (λ n b. eqb→eq n 0)
 
 abbrev pub premises : List Premise
 premises = sixteen-bytes ∷ one-mode ∷ modes 11 13 ∷ index 0 ∷ index 15 ∷ channel-differs ∷ unsigned ∷ []
@@ -144,10 +124,6 @@ pub needed : (k : ℕ) → k < 7 → Claim (Without premises unsigned (getD agai
 needed = all-refuted premises unsigned against (record { against = 0; pair = longer }) all-fool
 
 -- the signed pair's first ends: −2 ^ (p − 1) and its neighbour
-least-end : endpoint true (fieldsOf 1 (least .x)) 0 0 ≡ negsuc 511
+least-ends : (endpoint true (fieldsOf 1 (least .x)) 0 0 ≡ negsuc 511) × (endpoint true (fieldsOf 1 (least .y)) 0 0 ≡ negsuc 510)
 unfolding made countOf rows row11 partitions regionOf region1Of modeIn modeOf gathered before unpacked fieldsAt fieldsOf signExtend firstEnd endpoint
-least-end = refl
-
-neighbour : endpoint true (fieldsOf 1 (least .y)) 0 0 ≡ negsuc 510
-unfolding made countOf rows row11 partitions regionOf region1Of modeIn modeOf gathered before unpacked fieldsAt fieldsOf signExtend firstEnd endpoint
-neighbour = refl
+least-ends = (refl, refl)

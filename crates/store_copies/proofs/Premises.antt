@@ -26,6 +26,18 @@ pub record Premise : Type 1 where
   pub test : Pair → Bool
   pub shows : (p : Pair) → T (test p) → Met p
 
+-- what is asked of each of the two, in its format
+abbrev pub each : (Met : ℕ → List ℕ → Type 0) (test : ℕ → List ℕ → Bool) → ((n : ℕ) (b : List ℕ) → T (test n b) → Met n b) → Premise
+each Met test shows =
+    record {
+      Met = λ p. Met (p .format) (p .x) × Met (p .other) (p .y);
+      test = λ p. both (test (p .format) (p .x)) (test (p .other) (p .y));
+      shows = λ p t. (
+        shows (p .format) (p .x) (both-left (test (p .format) (p .x)) _ t),
+        shows (p .other) (p .y) (both-right (test (p .format) (p .x)) _ t),
+      );
+    }
+
 -- two blocks that show one picture are one block, if what is claimed holds of them
 abbrev pub Claim : (Pair → Type 0) → Type 0
 Claim Holds = (p : Pair) → Holds p → pixelsOf (isSigned (p .format)) (p .x) ≡ pixelsOf (isSigned (p .other)) (p .y) → p .x ≡ p .y

@@ -13,6 +13,7 @@ use lib.ListN.{getD}
 use lib.Seq.{ext-getD}
 use borrow.Author.Tests.{eq-eqb, ne-eqb}
 use Rattle.laws.specs.Pick.{pick}
+use Rattle.laws.proofs.Tests.{picks, cases}
 use Rattle.laws.proofs.Search.{is-true, either-other}
 use Rattle.bc6h_spec.specs.declared.Fields.{Fields}
 use Rattle.bc6h_spec.specs.Layout.{twoRegions, precision, ownWidth, transformed}
@@ -37,18 +38,10 @@ format true m k h = signed (precision m) (k .some) (k .few h)
 format false m k h = unsigned (precision m) (k .few h)
 
 few-regions : (m : ℕ) → regions m ≤ 2
-few-regions m = go (twoRegions m)
-  where
-    go : (b : Bool) → pick b 2 1 ≤ 2
-    go true = omega arith
-    go false = omega arith
+few-regions m = picks (twoRegions m) 2 1 (λ n. n ≤ 2) (λ e. omega arith) (λ e. omega arith)
 
 one-region : (m j : ℕ) → 2 * regions m ≤ j → j < 4 → twoRegions m ≡ false
-one-region m j l h = go (twoRegions m) refl l
-  where
-    go : (b : Bool) → twoRegions m ≡ b → 2 * pick b 2 1 ≤ j → twoRegions m ≡ false
-    go true e k = absurd (omega arith)
-    go false e k = e
+one-region m j l h = cases (twoRegions m) (λ e. absurd (omega (arith, rw e at l))) (λ e. e)
 
 -- ---- the endpoints
 
@@ -79,11 +72,9 @@ end-ok s f v u e c he hc = go (ℕ-discrete e 0)
 -- ---- the indices of a valid record, by the last index
 
 index-le : (f : Fields) → Valid f → (k : ℕ) → k < 16 → indexOf f k ≤ lastIndex (f .mode)
-index-le f v k h = go (twoRegions (f .mode)) (v .index-fits k h)
-  where
-    go : (b : Bool) → indexOf f k < 2 ^ pick b 3 4 → indexOf f k ≤ pick b 7 15
-    go true l = omega arith
-    go false l = omega arith
+index-le f v k h =
+    let l = v .index-fits k h in
+    cases (twoRegions (f .mode)) (λ e. rw e (omega (arith, rw e at l))) (λ e. rw e (omega (arith, rw e at l)))
 
 low-half : (b : Bool) (x : ℕ) → x < 2 ^ (pick b 3 4 - 1) → 2 * x < pick b 7 15
 low-half true x h = omega arith
@@ -171,27 +162,16 @@ module _ (s : Bool) (f : Fields) (ends : List ℕ) (ones : ℕ) (indices : List 
       go (inr x) = cited (x .channel, x .is-channel) (inr (x .all-differ))
 
   -- every endpoint, after the transform
-  even-same : (r : ℕ) → r < regions (f .mode) → (c : ℕ) → c < 3 → endpoint s f (2 * r) c ≡ endpoint s g (2 * r) c
-  unfolding region
-  even-same r h c k = agree r h .a-same (c, k)
-
-  odd-same : (r : ℕ) → r < regions (f .mode) → (c : ℕ) → c < 3 → endpoint s f (2 * r + 1) c ≡ endpoint s g (2 * r + 1) c
-  unfolding region
-  odd-same r h c k = agree r h .b-same (c, k)
-
   end-same : (j c : ℕ) → j < 2 * regions (f .mode) → c < 3 → endpoint s f j c ≡ endpoint s g j c
+  unfolding region
   end-same j c h k = go (ℕ-discrete (j % 2) 0)
     where
       go : Dec (j % 2 ≡ 0) → endpoint s f j c ≡ endpoint s g j c
-      go (yes z) = let q : 2 * (j / 2) ≡ j = omega arith in rw q at (even-same (j / 2) (omega arith) c k)
-      go (no z) = let q : 2 * (j / 2) + 1 ≡ j = omega arith in rw q at (odd-same (j / 2) (omega arith) c k)
+      go (yes z) = let q : 2 * (j / 2) ≡ j = omega arith in rw q at (agree (j / 2) (omega arith) .a-same (c, k))
+      go (no z) = let q : 2 * (j / 2) + 1 ≡ j = omega arith in rw q at (agree (j / 2) (omega arith) .b-same (c, k))
 
   some-region : 1 ≤ regions (f .mode)
-  some-region = go (twoRegions (f .mode))
-    where
-      go : (b : Bool) → 1 ≤ pick b 2 1
-      go true = omega arith
-      go false = omega arith
+  some-region = picks (twoRegions (f .mode)) 2 1 (λ n. 1 ≤ n) (λ e. omega arith) (λ e. omega arith)
 
   -- every endpoint, as stored
   first-same : (c : ℕ) → c < 3 → stored f 0 c ≡ stored g 0 c

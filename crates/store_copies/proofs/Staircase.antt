@@ -3,11 +3,11 @@
 use mathlib.Core.Path.{_≡_, sym, ap, _∙_}
 use Prim.Native.Nat.{ℕ, suc, _+_, _-_, _*_, _/_, _^_, _≤_, _<_}
 use native.Mathlib.Nat.{mul-le-mul-left, mul-div-cancel}
-use native.Mathlib.Decide.{ℕ-discrete, decLt}
 use native.Mathlib.Omega.{arith}
 use lib.Dec.{leb, eqb}
 use lib.Pow.{pow-pos, pow-mono, pow-add}
-use borrow.Author.Tests.{lt-leb, le-leb, eq-eqb, ne-eqb}
+use borrow.Author.Tests.{lt-leb, le-leb, ne-eqb, eqb-true, eqb-false}
+use Rattle.laws.proofs.Tests.{cases}
 use Rattle.laws.specs.Pick.{pick}
 use Rattle.bc6h_spec.specs.Half.{unquantizeU, unquantizeM}
 
@@ -24,18 +24,12 @@ module _ (T N h : ℕ) (pos-N : 0 < N) (whole : N * h ≡ T) (large : 8 ≤ h) w
       e = omega (arith, whole, ap (λ (x : ℕ). x * c) whole)
 
   stair-le : (c : ℕ) → suc c < N → stair T N c ≤ h * (2 * c + 1)
-  stair-le c l = go (ℕ-discrete c 0)
-    where
-      go : Dec (c ≡ 0) → stair T N c ≤ h * (2 * c + 1)
-      go (yes e) = rw (eq-eqb c 0 e) (omega arith)
-      go (no e) = rw (ne-eqb c 0 e, lt-leb (N - 1) c (omega arith), middle c) (omega arith)
+  stair-le c l = cases (eqb c 0) (λ e. rw e (omega arith)) (λ e. rw (e, lt-leb (N - 1) c (omega arith), middle c) (omega arith))
 
   stair-ge : (c : ℕ) → 0 < c → c < N → h * (2 * c + 1) ≤ stair T N c
-  stair-ge c z l = go (decLt c (N - 1))
-    where
-      go : Dec (c < N - 1) → h * (2 * c + 1) ≤ stair T N c
-      go (yes m) = rw (ne-eqb c 0 (omega arith), lt-leb (N - 1) c m, middle c) (omega arith)
-      go (no m) = rw (ne-eqb c 0 (omega arith), le-leb (N - 1) c (omega arith)) (omega (arith, whole, mul-le-mul-left h l))
+  stair-ge c z l =
+      cases (leb (N - 1) c) (λ e. rw (ne-eqb c 0 (omega arith), e) (omega (arith, whole, mul-le-mul-left h l)))
+      (λ e. rw (ne-eqb c 0 (omega arith), e, middle c) (omega arith))
 
   stair-gap : (a b : ℕ) → a < b → b < N → stair T N a + 16 ≤ stair T N b
   stair-gap a b l m = omega (arith, stair-le a (omega arith), stair-ge b (omega arith) m, mul-le-mul-left h l)
@@ -53,11 +47,9 @@ large p h = pow-mono {i = 3} {j = 15 - p} (omega arith)
 
 unsigned-stair : (p : ℕ) → p ≤ 12 → (c : ℕ) → c < 2 ^ p → unquantizeU p c ≡ stair 32768 (2 ^ p) c
 unfolding unquantizeU
-unsigned-stair p h c l = go (ℕ-discrete c (2 ^ p - 1))
-  where
-    go : Dec (c ≡ 2 ^ p - 1) → unquantizeU p c ≡ stair 32768 (2 ^ p) c
-    go (yes e) = rw (lt-leb 15 p (omega arith), eq-eqb c (2 ^ p - 1) e, le-leb (2 ^ p - 1) c (omega arith))
-    go (no e) = rw (lt-leb 15 p (omega arith), ne-eqb c (2 ^ p - 1) e, lt-leb (2 ^ p - 1) c (omega arith))
+unsigned-stair p h c l =
+    cases (eqb c (2 ^ p - 1)) (λ e. rw (lt-leb 15 p (omega arith), e, le-leb (2 ^ p - 1) c (omega (arith, eqb-true c (2 ^ p - 1) e))))
+    (λ e. rw (lt-leb 15 p (omega arith), e, lt-leb (2 ^ p - 1) c (omega (arith, eqb-false c (2 ^ p - 1) e))))
 
 pub unsigned-gap : (p : ℕ) → p ≤ 12 → (a b : ℕ) → a < b → b < 2 ^ p → unquantizeU p a + 16 ≤ unquantizeU p b
 unsigned-gap p h a b l m =

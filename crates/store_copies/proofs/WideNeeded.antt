@@ -27,7 +27,7 @@ use Rattle.store_copies.specs.Wide.{regions, lastIndex, AllReach, NoLeas
 use Rattle.store_copies.specs.Trust.{Trusted, reaches, channelDiffers, differs, leastEnd, hasLeast, regionTrusted, fieldsTrusted, trusted}
 use Rattle.store_copies.proofs.Wide.{copies}
 use Rattle.store_copies.proofs.Trust.{reaches-sound, differs-sound, not-least-sound, sound}
-use Rattle.store_copies.proofs.Premises.{Pair, Premise, Claim, Row, Without, fools?, all-refuted}
+use Rattle.store_copies.proofs.Premises.{Pair, Premise, each, Claim, Row, Without, fools?, all-refuted}
 use Rattle.store_copies.proofs.Needed.{sixteen-bytes, one-mode, modes}
 use Rattle.store_copies.proofs.Pairs.{longer, two-modes, in-mode-14, without-index-0, without-index-15, only-ends-differ, least, two-formats, two-partitions, region-without-index-0, region-without-index-7, flat-region, least-of-region, regions-of-two-formats}
 
@@ -52,35 +52,25 @@ one-partition =
     }
 
 -- what is asked of the fields of each block, in its format
-abbrev each : (Met : ℕ → Fields → Type 0) (test : ℕ → Fields → Bool) → ((format : ℕ) (f : Fields) → T (test format f) → Met format f) → Premise
-each Met test shows =
-    record {
-      Met = λ p. Met (p .format) (fieldsOf (p .format) (p .x)) × Met (p .other) (fieldsOf (p .other) (p .y));
-      test = λ p. both (test (p .format) (fieldsOf (p .format) (p .x))) (test (p .other) (fieldsOf (p .other) (p .y)));
-      shows = λ p t. (
-        shows (p .format) (fieldsOf (p .format) (p .x)) (both-left (test (p .format) (fieldsOf (p .format) (p .x))) _ t),
-        shows (p .other) (fieldsOf (p .other) (p .y)) (both-right (test (p .format) (fieldsOf (p .format) (p .x))) _ t),
-      );
-    }
+abbrev of-fields : (Met : ℕ → Fields → Type 0) (test : ℕ → Fields → Bool) → ((n : ℕ) (f : Fields) → T (test n f) → Met n f) → Premise
+of-fields Met test shows = each (λ n b. Met n (fieldsOf n b)) (λ n b. test n (fieldsOf n b)) (λ n b. shows n (fieldsOf n b))
 
 pub all-shown : (f : Fields) (n : ℕ) → T (below (λ r. reaches f r n) (regions (f .mode))) → AllReach f n
 all-shown f n t r h = reaches-sound f r n (below-at (λ r. reaches f r n) (regions (f .mode)) r t h)
 
 -- S-4: each region has a pixel at index 0
 abbrev index-0 : Premise
-index-0 = each (λ format f. AllReach f 0) (λ format f. below (λ r. reaches f r 0) (regions (f .mode))) (λ format f t. all-shown f 0 t)
+index-0 = of-fields (λ n f. AllReach f 0) (λ n f. below (λ r. reaches f r 0) (regions (f .mode))) (λ n f. all-shown f 0)
 
 -- S-4: each region has a pixel at the last index, 7 or 15
 abbrev last-index : Premise
 last-index =
-    each (λ format f. AllReach f (lastIndex (f .mode))) (λ format f. below (λ r. reaches f r (lastIndex (f .mode))) (regions (f .mode)))
-    (λ format f t. all-shown f (lastIndex (f .mode)) t)
+    of-fields (λ n f. AllReach f (lastIndex (f .mode))) (λ n f. below (λ r. reaches f r (lastIndex (f .mode))) (regions (f .mode)))
+    (λ n f. all-shown f (lastIndex (f .mode)))
 
 -- S-5: no endpoint, after the transform, is −2^(p−1)
 abbrev no-least : Premise
-no-least =
-    each (λ format f. NoLeast (isSigned format) f) (λ format f. not (both (isSigned format) (hasLeast f)))
-    (λ format f t. not-least-sound (isSigned format) f t)
+no-least = of-fields (λ n f. NoLeast (isSigned n) f) (λ n f. not (both (isSigned n) (hasLeast f))) (λ n f. not-least-sound (isSigned n) f)
 
 abbrev differ? : Pair → ℕ → Bool
 differ? p r = either (differs (isSigned (p .format)) (fieldsOf (p .format) (p .x)) r) (differs (isSigned (p .other)) (fieldsOf (p .other) (p .y)) r)

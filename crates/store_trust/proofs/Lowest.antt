@@ -9,9 +9,10 @@ use lib.IntN.{ℤ, pos, negsuc, negℤ}
 use lib.Pow.{pow-pos}
 use lib.Signed.{ltZ, mag}
 use borrow.Author.Tests.{eq-eqb, ne-eqb, lt-ltb, le-ltb}
-use Rattle.laws.specs.Pick.{pick, either}
+use Rattle.laws.specs.Pick.{either}
 use Rattle.laws.specs.Ranges.{InBits}
 use Rattle.laws.specs.Search.{some}
+use Rattle.laws.proofs.Tests.{picks}
 use Rattle.laws.proofs.Search.{some-none, some-more, some-here, some-upto}
 use Rattle.bc6h_spec.specs.declared.Fields.{Fields}
 use Rattle.bc6h_spec.specs.Layout.{precision, twoRegions}
@@ -78,11 +79,7 @@ module _ (f : Fields) (v : Valid f) (bits : ModeBits) (told : bits ≡ bitsFor (
 -- ---- the endpoints, one after the other
 
 ends-few : (m : ℕ) → (2 ≤ 2 * regions m) × (2 * regions m ≤ 4)
-ends-few m = go (twoRegions m)
-  where
-    go : (b : Bool) → (2 ≤ 2 * pick b 2 1) × (2 * pick b 2 1 ≤ 4)
-    go true = (omega arith, omega arith)
-    go false = (omega arith, omega arith)
+ends-few m = picks (twoRegions m) 2 1 (λ n. (2 ≤ 2 * n) × (2 * n ≤ 4)) (λ e. (omega arith, omega arith)) (λ e. (omega arith, omega arith))
 
 module _ (f : Fields) where
   pub end-inside : (e n : ℕ) → n ≡ endCount f → e < n → e < 4

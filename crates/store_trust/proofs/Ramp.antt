@@ -3,18 +3,17 @@ use mathlib.Core.Path.{_≡_, sym, ap, ap₂, _∙_, subst}
 use mathlib.Core.Bool.{Bool, true, false}
 use mathlib.Core.List.{List, [], _∷_, _++_}
 use Prim.Native.Nat.{ℕ, suc, _+_, _-_, _*_, _/_, _%_, _^_, _≤_, _<_}
-use native.Mathlib.Decide.{decLt}
 use native.Mathlib.Omega.{arith}
 use lib.Dec.{T, eqb, ltb, eqb→eq, lit<, lit≤}
 use lib.ListN.{length, getD, take, drop, take-append-drop, List·getD-eq-default}
 use lib.Seq.{drop-cons, length-take-le, getD-take}
-use borrow.Author.Tests.{lt-leb, le-leb}
+use borrow.Author.Tests.{lt-leb, le-leb, ltb-true, ltb-false}
 use Rattle.laws.specs.Pick.{pick, both}
 use Rattle.laws.specs.Bit.{bit}
 use Rattle.laws.specs.Every.{below}
 use Rattle.laws.specs.Made.{made}
 use Rattle.laws.specs.Packed.{before, unpacked}
-use Rattle.laws.proofs.Tests.{both-left, both-right, below-at}
+use Rattle.laws.proofs.Tests.{cases, both-left, both-right, below-at}
 use Rattle.laws.proofs.Rows.{made-same}
 use Rattle.laws.proofs.Taken.{made-taken}
 use Rattle.bc6h_spec.specs.declared.Fields.{Fields}
@@ -90,11 +89,9 @@ module _ (block : List ℕ) (b : IsBlock block) (n : ℕ) (h : n ≤ 15) where
   front-lt = subst (λ (k : ℕ). front < 256 ^ k) length-front (number-lt (take n block) bytes)
     where
       bytes : (i : ℕ) → getD (take n block) i 0 < 256
-      bytes i = go (decLt i n)
-        where
-          go : Dec (i < n) → getD (take n block) i 0 < 256
-          go (yes l) = rw (getD-take n block i 0 l) (b .byte i)
-          go (no l) = rw (List·getD-eq-default (take n block) 0 {n = i} (omega (arith, length-front))) (lit< tt)
+      bytes i =
+          cases (ltb i n) (λ t. rw (getD-take n block i 0 (ltb-true i n t)) (b .byte i))
+          (λ f. rw (List·getD-eq-default (take n block) 0 {n = i} (omega (arith, length-front, ltb-false i n f))) (lit< tt))
 
   number-front : (rest : List ℕ) → numberOf (take n block ++ rest) ≡ front + 256 ^ n * numberOf rest
   unfolding front

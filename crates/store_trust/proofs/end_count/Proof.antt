@@ -4,11 +4,7 @@ use borrow.Author.Tests.{lt-leb, le-leb}
 use Rattle.store_trust.proofs.end_count.Statement.{statement}
 use Rattle.store_trust.proofs.end_count.Tie as tie
 
-returns : tie.Need-returns
-returns c = rw (lt-leb _ 10 (c .if1 .taken)) refl
-
-returns-2 : tie.Need-returns-2
-returns-2 c = rw (le-leb _ 10 (c .if1 .left)) refl
-
 pub end-count-spec : {M : Type 1} → statement M
-end-count-spec = tie.close (tie.spec returns returns-2)
+end-count-spec = tie.close (tie.spec
+    (λ c. rw (lt-leb _ 10 (c .if1 .taken)) refl)
+    (λ c. rw (le-leb _ 10 (c .if1 .left)) refl))

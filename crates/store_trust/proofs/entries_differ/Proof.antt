@@ -15,9 +15,6 @@ Inv-loop palettes first count channel i₀ i = (i ≤ count) × (some (repeated 
 abbrev μ-loop : tie.MeasureT-loop
 μ-loop palettes first count channel i₀ i = count - i
 
-loop-holds : tie.Need-loop-holds Inv-loop μ-loop
-loop-holds c = (search needs, some-none _)
-
 returns : tie.Need-returns Inv-loop μ-loop
 unfolding entriesDiffer
 returns c = ap not (some-here _ _ _ (sym (c .before .is-repeated .ensures) ∙ c .if1 .taken) (search needs))
@@ -35,7 +32,7 @@ entries-differ-spec =
     (tie.spec
     Inv-loop
     μ-loop
-    loop-holds
+    (λ c. (search needs, some-none _))
     (λ c κs. search needs)
     returns
     (λ c. search needs)

@@ -18,9 +18,6 @@ Inv-loop fields bits first e₀ e-end e = (1 ≤ e) × (e ≤ e-end) × (some (l
 abbrev μ-loop : tie.MeasureT-loop
 μ-loop fields bits first e₀ e-end e = e-end - e
 
-of-requires : tie.Need-of-requires Inv-loop μ-loop
-of-requires c κs = (c .pre .mode-first, c .pre .mode-last)
-
 some-channel-least-requires : tie.Need-some-channel-least-requires Inv-loop μ-loop
 some-channel-least-requires c κs =
     let s = c .before .before in
@@ -90,7 +87,7 @@ has-least-spec =
     (tie.spec
     Inv-loop
     μ-loop
-    of-requires
+    (λ c κs. (c .pre .mode-first, c .pre .mode-last))
     (λ c κs. search needs)
     some-channel-least-requires
     returns

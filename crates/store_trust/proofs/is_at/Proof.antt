@@ -5,11 +5,9 @@ use mathlib.Core.Path.{refl, sym, _∙_}
 use Rattle.store_trust.proofs.is_at.Statement.{statement}
 use Rattle.store_trust.proofs.is_at.Tie as tie
 
-returns : tie.Need-returns
-returns c = rw (ne-eqb _ _ (λ e. c .if1 .taken (c .before .region-of .ensures ∙ e))) refl
-
-returns-2 : tie.Need-returns-2
-returns-2 c = rw (eq-eqb _ _ (sym (c .before .before .region-of .ensures) ∙ c .before .if1 .left)) refl
-
 pub is-at-spec : {M : Type 1} → statement M
-is-at-spec = tie.close (tie.spec (λ c κs. search needs) returns (λ c. search needs) returns-2)
+is-at-spec = tie.close (tie.spec
+    (λ c κs. search needs)
+    (λ c. rw (ne-eqb _ _ (λ e. c .if1 .taken (c .before .region-of .ensures ∙ e))) refl)
+    (λ c. search needs)
+    (λ c. rw (eq-eqb _ _ (sym (c .before .before .region-of .ensures) ∙ c .before .if1 .left)) refl))

@@ -16,18 +16,6 @@ Inv-loop palettes first channel i value k₀ k = (k ≤ i) × (some (equals (ram
 abbrev μ-loop : tie.MeasureT-loop
 μ-loop palettes first channel i value k₀ k = i - k
 
-loop-holds : tie.Need-loop-holds Inv-loop μ-loop
-loop-holds c = (search needs, some-none _)
-
-returns : tie.Need-returns Inv-loop μ-loop
-returns c = some-here _ _ _ (eq-eqb _ _ (c .if1 .taken)) (search needs)
-
-loop-again : tie.Need-loop-again Inv-loop μ-loop
-loop-again c = (search needs, some-more _ _ (c .before .before .before .loop .inv .1) (ne-eqb _ _ (c .if1 .left)))
-
-returns-2 : tie.Need-returns-2 Inv-loop μ-loop
-returns-2 c = some-upto _ _ _ (c .before .loop .inv .1) (search needs) (search needs)
-
 pub is-repeated-spec : {M : Type 1} → statement M
 is-repeated-spec =
     tie.close
@@ -39,14 +27,14 @@ is-repeated-spec =
     (λ c. search needs)
     (λ c. search needs)
     (λ c. search needs)
-    loop-holds
+    (λ c. (search needs, some-none _))
     (λ c. search needs)
     (λ c. search needs)
     (λ c. search needs)
     (λ c. search needs)
     (λ c. search needs)
-    returns
+    (λ c. some-here _ _ _ (eq-eqb _ _ (c .if1 .taken)) (search needs))
     (λ c. search needs)
     (λ c. search needs)
-    loop-again
-    returns-2)
+    (λ c. (search needs, some-more _ _ (c .before .before .before .loop .inv .1) (ne-eqb _ _ (c .if1 .left))))
+    (λ c. some-upto _ _ _ (c .before .loop .inv .1) (search needs) (search needs)))

@@ -4,18 +4,6 @@ use Rattle.store_trust.proofs.Verdict.{other-format, other-length, rese
 use Rattle.store_trust.proofs.is_trusted.Statement.{statement}
 use Rattle.store_trust.proofs.is_trusted.Tie as tie
 
-returns : tie.Need-returns
-returns c = other-format _ _ (c .if1 .taken)
-
-returns-2 : tie.Need-returns-2
-returns-2 c = other-length _ _ (c .if2 .taken)
-
-returns-3 : tie.Need-returns-3
-returns-3 c = reserved _ _ _ (c .before .fields-of .ensures) (c .if3 .taken)
-
-returns-4 : tie.Need-returns-4
-returns-4 c = mode-above _ _ _ (c .before .before .fields-of .ensures) (c .if4 .taken)
-
 is-ambiguous-requires : tie.Need-is-ambiguous-requires
 is-ambiguous-requires c κs =
     let f = c .before .before in
@@ -41,11 +29,11 @@ pub is-trusted-spec : {M : Type 1} → statement M
 is-trusted-spec =
     tie.close
     (tie.spec
-    returns
-    returns-2
+    (λ c. other-format _ _ (c .if1 .taken))
+    (λ c. other-length _ _ (c .if2 .taken))
     (λ c κs. search needs)
-    returns-3
-    returns-4
+    (λ c. reserved _ _ _ (c .before .fields-of .ensures) (c .if3 .taken))
+    (λ c. mode-above _ _ _ (c .before .before .fields-of .ensures) (c .if4 .taken))
     is-ambiguous-requires
     returns-5
     (λ c κs. search needs)

@@ -15,9 +15,6 @@ Inv-loop fields region n k₀ k = (k ≤ 16) × (some (indexedAt fields region n
 abbrev μ-loop : tie.MeasureT-loop
 μ-loop fields region n k₀ k = 16 - k
 
-loop-holds : tie.Need-loop-holds Inv-loop μ-loop
-loop-holds c = (search needs, some-none _)
-
 returns : tie.Need-returns Inv-loop μ-loop
 unfolding reaches
 returns c = some-here _ _ _ (sym (c .before .is-at .ensures) ∙ c .if1 .taken) (search needs)
@@ -35,7 +32,7 @@ reaches-spec =
     (tie.spec
     Inv-loop
     μ-loop
-    loop-holds
+    (λ c. (search needs, some-none _))
     (λ c κs. search needs)
     returns
     (λ c. search needs)

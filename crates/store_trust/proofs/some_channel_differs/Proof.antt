@@ -15,17 +15,8 @@ Inv-loop palettes first count channel₀ channel = (channel ≤ 3) × (some (ent
 abbrev μ-loop : tie.MeasureT-loop
 μ-loop palettes first count channel₀ channel = 3 - channel
 
-loop-holds : tie.Need-loop-holds Inv-loop μ-loop
-loop-holds c = (search needs, some-none _)
-
-returns : tie.Need-returns Inv-loop μ-loop
-returns c = some-here _ _ _ (sym (c .before .entries-differ .ensures) ∙ c .if1 .taken) (search needs)
-
 loop-again : tie.Need-loop-again Inv-loop μ-loop
 loop-again c = (search needs, some-more _ _ (c .before .before .before .loop .inv .1) (sym (c .before .entries-differ .ensures) ∙ c .if1 .left))
-
-returns-2 : tie.Need-returns-2 Inv-loop μ-loop
-returns-2 c = some-upto _ _ _ (c .before .loop .inv .1) (search needs) (search needs)
 
 pub some-channel-differs-spec : {M : Type 1} → statement M
 some-channel-differs-spec =
@@ -33,10 +24,10 @@ some-channel-differs-spec =
     (tie.spec
     Inv-loop
     μ-loop
-    loop-holds
+    (λ c. (search needs, some-none _))
     (λ c κs. search needs)
-    returns
+    (λ c. some-here _ _ _ (sym (c .before .entries-differ .ensures) ∙ c .if1 .taken) (search needs))
     (λ c. search needs)
     (λ c. search needs)
     loop-again
-    returns-2)
+    (λ c. some-upto _ _ _ (c .before .loop .inv .1) (search needs) (search needs)))

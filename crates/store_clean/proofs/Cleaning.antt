@@ -91,7 +91,7 @@ module _ (store lent : List ℕ) where
 
 -- ---- what it says
 
-answer-is : (k : ℕ) (store : List ℕ) → answerAt k store .answer ≡ k
+pub answer-is : (k : ℕ) (store : List ℕ) → answerAt k store .answer ≡ k
 answer-is zero store = refl
 answer-is (suc k) store = refl
 
@@ -104,19 +104,14 @@ module _ {store lent after : List ℕ} {r : Cleaned} (d : CleanedInto store lent
 
   -- a refusal is its number alone: both counts are zero and no byte is changed
   module _ (n : r .answer ≡ done → ⊥) where
+    refused : cleanRefusal (length store) (length lent) ≡ suc (r .answer - 1)
+    refused = omega (arith, answer-number)
+
     pub refused-alone : r ≡ refusal (r .answer)
-    refused-alone = d .answers ∙ go (cleanRefusal (length store) (length lent)) refl ∙ ap refusal (sym answer-number)
-      where
-        go : (k : ℕ) → cleanRefusal (length store) (length lent) ≡ k → answerAt k store ≡ refusal k
-        go zero q = absurd (n (answer-number ∙ q))
-        go (suc k) q = refl
+    refused-alone = rw refused at (d .answers) ∙ ap refusal (sym (answer-number ∙ refused))
 
     pub silent : after ≡ lent
-    silent = go (cleanRefusal (length store) (length lent)) refl
-      where
-        go : (k : ℕ) → cleanRefusal (length store) (length lent) ≡ k → after ≡ lent
-        go zero q = absurd (n (answer-number ∙ q))
-        go (suc k) q = rw q at (d .holds)
+    silent = rw refused at (d .holds)
 
   module _ (z : r .answer ≡ done) where
     unrefused : cleanRefusal (length store) (length lent) ≡ done

@@ -155,9 +155,7 @@ staying-same f g zero e = refl
 staying-same f g (suc n) e = ap₂ (λ (m : ℕ) (t : Bool). m + pick t 0 1) (staying-same f g n (λ k h. e k (omega arith))) (e n (omega arith))
 
 pub going-same : (f g : ℕ → Bool) (n : ℕ) → ((k : ℕ) → k < n → f k ≡ g k) → going f n ≡ going g n
-unfolding going
-going-same f g zero e = refl
-going-same f g (suc n) e = ap₂ (λ (m : ℕ) (t : Bool). m + pick t 1 0) (going-same f g n (λ k h. e k (omega arith))) (e n (omega arith))
+going-same f g n e = omega (arith, staying-adds f n, staying-adds g n, staying-same f g n e)
 
 -- how many of the first n elements of a list are v
 pub going-count : (v : ℕ) (l : List ℕ) (n : ℕ) → n ≤ length l → going (λ k. eqb (getD l k 0) v) n ≡ countOf v (take n l)

@@ -7,7 +7,7 @@ use native.Mathlib.Omega.{arith}
 use lib.Dec.{eqb}
 use borrow.Author.Tests.{not-true, eq-eqb, ne-eqb, eqb-true, eqb-false, lt-ltb, le-ltb, ltb-true, ltb-false}
 use Rattle.laws.specs.Every.{same}
-use Rattle.laws.proofs.Tests.{cases, both-true}
+use Rattle.laws.proofs.Tests.{both-true}
 use Rattle.laws.proofs.Firsts.{first-passes, first-least, first-never}
 use Rattle.laws.proofs.Sameness.{not-so, same-so, same-means}
 use Rattle.bc6h_spec.specs.Fields.{modeOf}
@@ -23,15 +23,6 @@ module _ (store : List ℕ) (n earlier : ℕ) where
   pub repeats-refused : (Unrefused store n → ⊥) → repeats store n earlier ≡ false
   unfolding repeats
   repeats-refused r = rw (is-refused store n r)
-
-  pub repeats-reserved : Reserved store n → repeats store n earlier ≡ false
-  unfolding repeats
-  repeats-reserved z =
-      cases (isRecord store n)
-      (λ a. cases (isRecord store earlier)
-      (λ b. cases (eqb (formatOf store n) (formatOf store earlier)) (λ d. rw (a, b, d, eq-eqb _ _ z)) (λ d. rw (a, b, d)))
-      (λ b. rw (a, b)))
-      (λ a. rw a)
 
   module _ (u : Unrefused store n) where
     pub other-refused : (Unrefused store earlier → ⊥) → repeats store n earlier ≡ false
@@ -72,6 +63,9 @@ module _ (store : List ℕ) (n earlier : ℕ) where
         earlier-unreserved = λ q. z (ap modeOf bytes ∙ q);
         same-bytes = bytes;
       }
+
+  pub repeats-reserved : Reserved store n → repeats store n earlier ≡ false
+  repeats-reserved z = not-so _ (λ t. repeats-means t .unreserved z)
 
   pub repeats-so : Repeats store n earlier → repeats store n earlier ≡ true
   repeats-so p =

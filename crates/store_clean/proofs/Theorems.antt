@@ -1,6 +1,6 @@
 -- The theorems of specs/Theorems, from the calls' statements. Assumes nothing.
 use mathlib.Core.Path.{_≡_, sym, _∙_, ap, ap₂, subst}
-use mathlib.Core.Bool.{true, false}
+use mathlib.Core.Bool.{false}
 use mathlib.Core.List.{List}
 use Prim.Native.Nat.{ℕ, _*_, _≤_, _<_}
 use native.Mathlib.Omega.{arith}
@@ -146,12 +146,8 @@ repeats-alike p =
       same-values = ap₂ (λ (f : ℕ) (b : List ℕ). pixelsOf (isSigned f) b) (sym (p .same-format)) (sym (p .same-bytes));
     }
 
-module _ {store room marks : List ℕ} {list : TwinList} (c : Listed store room list marks) (y : list .answer ≡ done) where
-  gone-marked : (n : ℕ) → n < recordsIn store → goes store n ≡ true → getD marks n 0 ≡ twinMark
-  gone-marked n h t =
-      let l = repeating.goes-first store n t in
-      let twin : Twin store n = record { earlier = firstOf store n; before = l; shows = repeats-alike (repeating.first-repeated store n l) } in
-      listing.mark-here c y n h ∙ mark-is store n .twin twin
-
 pub gone-are-twins : GoneAreTwins
-gone-are-twins store room marks list c y n h t = gone-marked c y n h t
+gone-are-twins store room marks list c y n h t =
+    let l = repeating.goes-first store n t in
+    let twin : Twin store n = record { earlier = firstOf store n; before = l; shows = repeats-alike (repeating.first-repeated store n l) } in
+    listing.mark-here c y n h ∙ mark-is store n .twin twin

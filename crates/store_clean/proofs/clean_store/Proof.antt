@@ -21,9 +21,6 @@ returns c = laws.cleaned-refused _ _ _ (c .before .before .list-refusal .ensures
 link-records-requires : tie.Need-link-records-requires Inv-loop μ-loop
 link-records-requires c κs = let w = whole-when (c .before .before .list-refusal .ensures) (c .before .if1 .left) in (search needs, search needs)
 
-loop-holds : tie.Need-loop-holds Inv-loop μ-loop
-loop-holds c = laws.so-far-none _ _
-
 repeated-along-requires : tie.Need-repeated-along-requires Inv-loop μ-loop
 repeated-along-requires c κs = let w = whole-when (c .before .before .before .before .before .before .before .before .list-refusal .ensures) (c .before .before .before .before .before .before .before .if1 .left) in (search needs, (search needs, c .before .before .before .before .before .link-records .ensures))
 
@@ -51,7 +48,7 @@ clean-store-spec =
     (λ c. search needs)
     link-records-requires
     (λ c κs. search needs)
-    loop-holds
+    (λ c. laws.so-far-none _ _)
     (λ c. search needs)
     repeated-along-requires
     (λ c. search needs)

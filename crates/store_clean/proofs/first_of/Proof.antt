@@ -15,12 +15,6 @@ Inv-loop store n earlier₀ earlier = (earlier ≤ n) × (firstBelow (repeats st
 abbrev μ-loop : tie.MeasureT-loop
 μ-loop store n earlier₀ earlier = n - earlier
 
-returns : tie.Need-returns Inv-loop μ-loop
-returns c = sym (laws.none-refused _ _ (refused (c .before .before .record-at .ensures) (c .enum-told2 .given .1)))
-
-loop-holds : tie.Need-loop-holds Inv-loop μ-loop
-loop-holds c = (search needs, first-none _)
-
 returns-2 : tie.Need-returns-2 Inv-loop μ-loop
 unfolding firstOf
 returns-2 c = sym (first-at _ _ _ (c .before .before .before .loop .inv .1) (sym (c .before .is-repeat .ensures) ∙ c .if1 .taken) (search needs))
@@ -41,8 +35,8 @@ first-of-spec =
     (λ c κs. search needs)
     (λ c. search needs)
     (λ c. search needs)
-    returns
-    loop-holds
+    (λ c. sym (laws.none-refused _ _ (refused (c .before .before .record-at .ensures) (c .enum-told2 .given .1))))
+    (λ c. (search needs, first-none _))
     (λ c κs. search needs)
     returns-2
     (λ c. search needs)

@@ -6,9 +6,6 @@ use Rattle.store_clean.proofs.Repeating as laws
 use Rattle.store_clean.proofs.is_repeat.Statement.{statement}
 use Rattle.store_clean.proofs.is_repeat.Tie as tie
 
-returns : tie.Need-returns
-returns c = sym (laws.repeats-refused _ _ _ (refused (c .before .before .record-at .ensures) (c .enum-told .given .1)))
-
 returns-2 : tie.Need-returns-2
 returns-2 c = let f = c .before .before .before .before in sym (laws.other-refused _ _ _ (unrefused (f .before .before .record-at .ensures) (f .again .given .1)) (refused (c .before .before .record-at2 .ensures) (c .enum-told2 .given .1)))
 
@@ -17,9 +14,6 @@ returns-3 c = let k = c .before .before .before .before in let r = k .before .be
 
 mode-at-requires : tie.Need-mode-at-requires
 mode-at-requires c κs = let f = c .before .before .before .before .before .before .before .before in unrefused (f .before .before .record-at .ensures) (f .again .given .1)
-
-returns-4 : tie.Need-returns-4
-returns-4 c = sym (laws.repeats-reserved _ _ _ (sym (c .before .mode-at .ensures) ∙ c .if2 .taken))
 
 same-bytes-requires : tie.Need-same-bytes-requires
 same-bytes-requires c κs = let k = c .before .before .before .before .before .before .before .before in let r = k .before .before in let f = r .before .before in let s = f .before .before in (part-length _ _ (unrefused (s .record-at .ensures) (f .again .given .1)) (c .before .record-block .ensures), part-length _ _ (unrefused (r .record-at2 .ensures) (k .kept .given .1)) (c .record-block2 .ensures))
@@ -34,14 +28,14 @@ is-repeat-spec =
     (λ c κs. search needs)
     (λ c. search needs)
     (λ c. search needs)
-    returns
+    (λ c. sym (laws.repeats-refused _ _ _ (refused (c .before .before .record-at .ensures) (c .enum-told .given .1))))
     (λ c κs. search needs)
     (λ c. search needs)
     (λ c. search needs)
     returns-2
     returns-3
     mode-at-requires
-    returns-4
+    (λ c. sym (laws.repeats-reserved _ _ _ (sym (c .before .mode-at .ensures) ∙ c .if2 .taken)))
     (λ c κs. search needs)
     (λ c κs. search needs)
     same-bytes-requires

@@ -17,9 +17,6 @@ Inv-loop store links₀ count heads₀ n₀ links heads n = (n ≤ count) × (le
 abbrev μ-loop : tie.MeasureT-loop
 μ-loop store links₀ count heads₀ n₀ links heads n = count - n
 
-loop-holds : tie.Need-loop-holds Inv-loop μ-loop
-loop-holds c = (search needs, refl, search needs, linking-none _ _)
-
 loop-again : tie.Need-loop-again Inv-loop μ-loop
 loop-again c =
     let i = c .before .before .before .before .loop .inv in
@@ -47,7 +44,7 @@ link-records-spec =
     Inv-loop
     μ-loop
     (λ c κs. search needs)
-    loop-holds
+    (λ c. (search needs, refl, search needs, linking-none _ _))
     (λ c κs. search needs)
     (λ c. search needs)
     (λ c. search needs)

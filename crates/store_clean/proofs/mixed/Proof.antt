@@ -13,14 +13,8 @@ Inv-loop format block mix₀ k₀ mix k = (k ≤ 16) × (mix ≡ blockMixed form
 abbrev μ-loop : tie.MeasureT-loop
 μ-loop format block mix₀ k₀ mix k = 16 - k
 
-loop-holds : tie.Need-loop-holds Inv-loop μ-loop
-loop-holds c = (search needs, mixed-none _ _ _ (c .u8-to-u64 .ensures .0))
-
 loop-again : tie.Need-loop-again Inv-loop μ-loop
 loop-again c = (search needs, mixed-more _ _ _ _ _ _ (c .before .before .before .before .loop .inv .1) (c .before .before .mixed-on .ensures .0) (c .u8-to-u642 .ensures .0))
-
-returns : tie.Need-returns Inv-loop μ-loop
-returns c = let e : c .before .loop .k ≡ 16 = omega arith in rw e at (c .before .loop .inv .1)
 
 pub mixed-spec : {M : Type 1} → statement M
 mixed-spec =
@@ -30,7 +24,7 @@ mixed-spec =
     μ-loop
     (λ c κs. search needs)
     (λ c. search needs)
-    loop-holds
+    (λ c. (search needs, mixed-none _ _ _ (c .u8-to-u64 .ensures .0)))
     (λ c κs. search needs)
     (λ c. search needs)
     (λ c κs. search needs)
@@ -38,4 +32,4 @@ mixed-spec =
     (λ c. search needs)
     (λ c. search needs)
     loop-again
-    returns)
+    (λ c. let e : c .before .loop .k ≡ 16 = omega arith in rw e at (c .before .loop .inv .1)))

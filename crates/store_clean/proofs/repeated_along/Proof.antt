@@ -11,15 +11,6 @@ Inv-loop store links n at₀ at = Passed store n at
 abbrev μ-loop : tie.MeasureT-loop
 μ-loop store links n at₀ at = at
 
-returns : tie.Need-returns Inv-loop μ-loop
-returns c = met-refused _ _ (refused (c .before .before .record-at .ensures) (c .enum-told2 .given .1))
-
-mode-at-requires : tie.Need-mode-at-requires Inv-loop μ-loop
-mode-at-requires c κs = unrefused (c .before .before .record-at .ensures) (c .enum-told .given .1)
-
-returns-2 : tie.Need-returns-2 Inv-loop μ-loop
-returns-2 c = met-reserved _ _ (sym (c .before .mode-at .ensures) ∙ c .if1 .taken)
-
 loop-holds : tie.Need-loop-holds Inv-loop μ-loop
 loop-holds c = let s = c .before .before .before .before .before .before .before .before .before .pre in passed-none (s .1 .1) _ (s .0) (unrefused (c .before .before .before .before .before .before .record-at .ensures) (c .before .before .before .before .enum-told .given .1)) (c .u16-to-usize .ensures .0)
 
@@ -50,9 +41,9 @@ repeated-along-spec =
     (λ c κs. search needs)
     (λ c. search needs)
     (λ c. search needs)
-    returns
-    mode-at-requires
-    returns-2
+    (λ c. met-refused _ _ (refused (c .before .before .record-at .ensures) (c .enum-told2 .given .1)))
+    (λ c κs. unrefused (c .before .before .record-at .ensures) (c .enum-told .given .1))
+    (λ c. met-reserved _ _ (sym (c .before .mode-at .ensures) ∙ c .if1 .taken))
     (λ c. search needs)
     (λ c. search needs)
     (λ c κs. search needs)

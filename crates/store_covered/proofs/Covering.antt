@@ -33,6 +33,9 @@ use Rattle.store_covered.proofs.Theorem.{one-picture, clean-up}
 pub trusted-length : (format : ℕ) (block : List ℕ) → trusted format block ≡ true → length block ≡ blockSize
 trusted-length format block t = sound format block (holds t) .suited .bytes .sixteen
 
+mode-is : (format : ℕ) (block : List ℕ) {f : Fields} → f ≡ fieldsOf format block → f .mode ≡ modeOf block
+mode-is format block e = ap (λ (x : Fields). x .mode) e ∙ fields-mode format block
+
 module _ (format : ℕ) (block earlier : List ℕ) where
   pub pair-untrusted : trusted format block ≡ false → false ≡ coveredPair format block earlier
   unfolding coveredPair
@@ -44,21 +47,15 @@ module _ (format : ℕ) (block earlier : List ℕ) where
     pair-other-untrusted f = rw (t, f)
 
     module _ (u : trusted format earlier ≡ true) {f g : Fields} (e : f ≡ fieldsOf format block) (q : g ≡ fieldsOf format earlier) where
-      mode-is : f .mode ≡ modeOf block
-      mode-is = ap (λ (x : Fields). x .mode) e ∙ fields-mode format block
-
-      other-mode-is : g .mode ≡ modeOf earlier
-      other-mode-is = ap (λ (x : Fields). x .mode) q ∙ fields-mode format earlier
-
       pub pair-two-modes : (f .mode ≡ g .mode → ⊥) → false ≡ coveredPair format block earlier
       unfolding coveredPair
-      pair-two-modes n = rw (t, u, ne-eqb (modeOf block) (modeOf earlier) (λ m. n (mode-is ∙ m ∙ sym other-mode-is)))
+      pair-two-modes n = rw (t, u, ne-eqb (modeOf block) (modeOf earlier) (λ m. n (mode-is format block e ∙ m ∙ sym (mode-is format earlier q))))
 
       pub pair-partitions : f .mode ≡ g .mode → eqb (f .partition) (g .partition) ≡ coveredPair format block earlier
       unfolding coveredPair
       pair-partitions m =
           ap₂ eqb (ap (λ (x : Fields). x .partition) e) (ap (λ (x : Fields). x .partition) q)
-          ∙ rw (t, u, eq-eqb (modeOf block) (modeOf earlier) (sym mode-is ∙ m ∙ other-mode-is)) refl
+          ∙ rw (t, u, eq-eqb (modeOf block) (modeOf earlier) (sym (mode-is format block e) ∙ m ∙ mode-is format earlier q)) refl
 
 -- ---- two records
 

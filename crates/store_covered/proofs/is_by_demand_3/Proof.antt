@@ -7,9 +7,6 @@ use Rattle.store_covered.proofs.Covering as laws
 use Rattle.store_covered.proofs.is_by_demand_3.Statement.{statement}
 use Rattle.store_covered.proofs.is_by_demand_3.Tie as tie
 
-returns : tie.Need-returns
-returns c = laws.demand-3-uncovered _ _ _ (sym (c .before .is-covered .ensures) ∙ not-true _ (c .if1 .taken))
-
 returns-2 : tie.Need-returns-2
 returns-2 c =
     let d = c .before .before .before in
@@ -43,7 +40,7 @@ is-by-demand-3-spec =
     tie.close
     (tie.spec
     (λ c κs. search needs)
-    returns
+    (λ c. laws.demand-3-uncovered _ _ _ (sym (c .before .is-covered .ensures) ∙ not-true _ (c .if1 .taken)))
     (λ c κs. search needs)
     (λ c. search needs)
     (λ c. search needs)

@@ -5,9 +5,6 @@ use Rattle.store_covered.proofs.Covering as laws
 use Rattle.store_covered.proofs.is_covered.Statement.{statement}
 use Rattle.store_covered.proofs.is_covered.Tie as tie
 
-returns : tie.Need-returns
-returns c = laws.covered-refused _ _ _ (refused (c .before .before .record-at .ensures) (c .enum-told .given .1))
-
 returns-2 : tie.Need-returns-2
 returns-2 c =
     let f = c .before .before .before .before in
@@ -41,7 +38,7 @@ is-covered-spec =
     (λ c κs. search needs)
     (λ c. search needs)
     (λ c. search needs)
-    returns
+    (λ c. laws.covered-refused _ _ _ (refused (c .before .before .record-at .ensures) (c .enum-told .given .1)))
     (λ c κs. search needs)
     (λ c. search needs)
     (λ c. search needs)

@@ -6,9 +6,6 @@ use Rattle.store_covered.proofs.Covering as laws
 use Rattle.store_covered.proofs.is_covered_pair.Statement.{statement}
 use Rattle.store_covered.proofs.is_covered_pair.Tie as tie
 
-returns : tie.Need-returns
-returns c = laws.pair-untrusted _ _ _ (sym (c .before .is-trusted .ensures) ∙ not-true _ (c .if1 .taken))
-
 returns-2 : tie.Need-returns-2
 returns-2 c =
     let x = c .before .before in
@@ -46,7 +43,7 @@ is-covered-pair-spec =
     tie.close
     (tie.spec
     (λ c κs. search needs)
-    returns
+    (λ c. laws.pair-untrusted _ _ _ (sym (c .before .is-trusted .ensures) ∙ not-true _ (c .if1 .taken)))
     (λ c κs. search needs)
     returns-2
     fields-of-requires

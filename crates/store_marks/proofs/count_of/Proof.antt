@@ -15,9 +15,6 @@ Inv-loop marks mark count₀ n₀ n-end count n = (n ≤ length marks) × (count
 abbrev μ-loop : tie.MeasureT-loop
 μ-loop marks mark count₀ n₀ n-end count n = length marks - n
 
-loop-holds : tie.Need-loop-holds Inv-loop μ-loop
-loop-holds c = (search needs, count-none _ (c .args .marks .now), search needs)
-
 loop-again : tie.Need-loop-again Inv-loop μ-loop
 loop-again c = let i = c .before .before .before .loop in let l = c .before .before .before .before .args .marks .now in (search needs, ⊎-elim (λ w. w .1 ∙ count-hit _ l (i .n) (omega arith) _ (i .inv .1) (w .0 .taken)) (λ w. w .1 ∙ count-miss _ l (i .n) (omega arith) _ (i .inv .1) (w .0 .left)) (c .if1 .came), ⊎-elim (λ w. omega arith) (λ w. omega arith) (c .if1 .came))
 
@@ -30,7 +27,7 @@ count-of-spec =
     (tie.spec
     Inv-loop
     μ-loop
-    loop-holds
+    (λ c. (search needs, count-none _ (c .args .marks .now), search needs))
     (λ c. search needs)
     (λ c. search needs)
     (λ c. search needs)

@@ -5,9 +5,6 @@ use Rattle.store_spec.proofs.Marking.{holding-refused, holding-other, holding-m
 use Rattle.store_marks.proofs.holds_picture.Statement.{statement}
 use Rattle.store_marks.proofs.holds_picture.Tie as tie
 
-returns : tie.Need-returns
-returns c = sym (holding-refused _ _ _ (refused (c .before .before .record-at .ensures) (c .enum-told .given .1)))
-
 returns-2 : tie.Need-returns-2
 returns-2 c = let r = c .before .before .before .before .before .record-at .ensures in let e = c .before .before .before .found .given .1 in sym (holding-other _ _ _ (unrefused r e) (λ q. c .if1 .taken (format-is r e ∙ q)))
 
@@ -24,7 +21,7 @@ holds-picture-spec =
     (λ c κs. search needs)
     (λ c. search needs)
     (λ c. search needs)
-    returns
+    (λ c. sym (holding-refused _ _ _ (refused (c .before .before .record-at .ensures) (c .enum-told .given .1))))
     returns-2
     mode-at-requires
     returns-3)

@@ -26,20 +26,11 @@ Inv-loop store scratch marks₀ count n₀ marks n = (n ≤ count) × (marks ≡
 abbrev μ-loop : tie.MeasureT-loop
 μ-loop store scratch marks₀ count n₀ marks n = count - n
 
-loop-holds : tie.Need-loop-holds Inv-search μ-search Inv-loop μ-loop
-loop-holds c = (search needs, made-none _ _, refl)
-
 loop-again : tie.Need-loop-again Inv-search μ-search Inv-loop μ-loop
 loop-again c = let i = c .before .before .before .before .loop .inv in (search needs, made-store _ _ _ _ _ _ (i .1) refl (mark-bad _ _ (refused (c .before .before .record-at .ensures) (c .enum-told .given .1))) (search needs), simp length-set (i .2))
 
-mode-at-requires : tie.Need-mode-at-requires Inv-search μ-search Inv-loop μ-loop
-mode-at-requires c κs = unrefused (c .before .before .before .record-at .ensures) (c .before .found .given .1)
-
 loop-again-2 : tie.Need-loop-again-2 Inv-search μ-search Inv-loop μ-loop
 loop-again-2 c = let i = c .before .before .before .before .before .before .before .loop .inv in (search needs, made-store _ _ _ _ _ _ (i .1) refl (mark-reserved _ _ (unrefused (c .before .before .before .before .before .record-at .ensures) (c .before .before .before .found .given .1)) (sym (c .before .mode-at .ensures) ∙ c .if1 .taken)) (search needs), simp length-set (i .2))
-
-search-holds : tie.Need-search-holds Inv-search μ-search Inv-loop μ-loop
-search-holds c = (search needs, refl, first-none _)
 
 search-again : tie.Need-search-again Inv-search μ-search Inv-loop μ-loop
 search-again c = let i = c .before .before .before .search .inv in (search needs, i .1, first-more _ _ (i .2) (alike-other (c .before .before .before .before .before .before .before .before .before .before .before .before .before .before .before .before .before .pre .1 .1) _ _ (search needs) (search needs) (c .if2 .taken)))
@@ -66,7 +57,7 @@ mark-records-spec =
     Inv-loop
     μ-loop
     (λ c κs. search needs)
-    loop-holds
+    (λ c. (search needs, made-none _ _, refl))
     (λ c κs. search needs)
     (λ c. search needs)
     (λ c. search needs)
@@ -74,14 +65,14 @@ mark-records-spec =
     (λ c. search needs)
     (λ c. search needs)
     loop-again
-    mode-at-requires
+    (λ c κs. unrefused (c .before .before .before .record-at .ensures) (c .before .found .given .1))
     (λ c. search needs)
     (λ c. search needs)
     (λ c. search needs)
     loop-again-2
     (λ c. search needs)
     (λ c. search needs)
-    search-holds
+    (λ c. (search needs, refl, first-none _))
     (λ c. search needs)
     (λ c. search needs)
     (λ c. search needs)

@@ -13,14 +13,8 @@ Inv-loop a b k₀ k = (k ≤ 48) × ((i : ℕ) → i < k → getD a i 0 ≡ getD
 abbrev μ-loop : tie.MeasureT-loop
 μ-loop a b k₀ k = 48 - k
 
-loop-holds : tie.Need-loop-holds Inv-loop μ-loop
-loop-holds c = (search needs, below-none _)
-
 returns : tie.Need-returns Inv-loop μ-loop
 returns c = let s = c .before .before .before .before .before .args in sym (same-not (s .a .now) (s .b .now) (c .before .before .before .before .loop .k) (c .if1 .taken))
-
-loop-again : tie.Need-loop-again Inv-loop μ-loop
-loop-again c = (search needs, below-more _ _ (c .before .before .before .before .loop .inv .1) (c .if1 .left))
 
 returns-2 : tie.Need-returns-2 Inv-loop μ-loop
 returns-2 c = let s = c .before .before in sym (same-all (s .args .a .now) (s .args .b .now) 48 _ (s .pre .0) (s .pre .1) (c .loop-test .left) (c .before .loop .inv .1))
@@ -31,7 +25,7 @@ same-picture-spec =
     (tie.spec
     Inv-loop
     μ-loop
-    loop-holds
+    (λ c. (search needs, below-none _))
     (λ c. search needs)
     (λ c. search needs)
     (λ c. search needs)
@@ -39,5 +33,5 @@ same-picture-spec =
     returns
     (λ c. search needs)
     (λ c. search needs)
-    loop-again
+    (λ c. (search needs, below-more _ _ (c .before .before .before .before .loop .inv .1) (c .if1 .left)))
     returns-2)

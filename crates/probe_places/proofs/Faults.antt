@@ -7,7 +7,7 @@ use lib.Dec.{eqb, ltb}
 use borrow.Author.Tests.{lt-ltb, le-ltb, eq-eqb, ne-eqb, eqb-true, ltb-true, ltb-false}
 use Rattle.laws.specs.First.{firstBelow}
 use Rattle.laws.proofs.Tests.{cases}
-use Rattle.laws.proofs.Firsts.{first-end, first-at, first-passes, first-least}
+use Rattle.laws.proofs.Firsts.{first-end, first-at, first-passes, first-least, first-never, first-same}
 use Rattle.laws.proofs.Sameness.{true-false}
 use Rattle.bcn_spec.specs.Answers.{done}
 use Rattle.probe_places.specs.declared.Fault.{Fault}
@@ -36,7 +36,10 @@ module _ (refusal : ℕ → ℕ) where
   unfolding isFaulty
   is-faulty n t z = true-false (sym t ∙ rw (eq-eqb (refusal n) done z))
 
-  -- where the search stands at n, none before n is refused
+  -- the search stands at n exactly where none before n is refused
+  stands : (n : ℕ) → ((k : ℕ) → k < n → refusal k ≡ done) → firstBelow (isFaulty refusal) n ≡ n
+  stands n p = first-same (isFaulty refusal) (λ k. false) n (λ k h. passes refl (p k h)) ∙ first-never (λ k. false) (λ k. refl) n
+
   pub passed-by : (n : ℕ) → firstBelow (isFaulty refusal) n ≡ n → (k : ℕ) → k < n → refusal k ≡ done
   passed-by n e k h = unfaulty k (λ t. omega (arith, e, first-least (isFaulty refusal) n k h t))
 
@@ -67,11 +70,7 @@ module _ (refusal : ℕ → ℕ) where
         (λ f. before n h (let l : count ≤ firstBelow (isFaulty refusal) count = ltb-false _ _ f in omega arith))
 
     pub all-pass : ((n : ℕ) → n < count → refusal n ≡ done) → firstFault refusal count ≡ noFault
-    unfolding firstFault
-    all-pass p =
-        cases (ltb (firstBelow (isFaulty refusal) count) count)
-        (λ t. let l = ltb-true _ _ t in absurd (is-faulty _ (first-passes (isFaulty refusal) count l) (p _ l)))
-        (λ f. rw f)
+    all-pass p = sym (fault-none (stands count p) (omega arith) (omega arith))
 
     pub fault-told : {k : ℕ} → firstFault refusal count .answer ≡ suc k → Told refusal count (suc k) (firstFault refusal count .faulty)
     unfolding firstFault

@@ -1,8 +1,8 @@
 -- Which check gives the record call its answer, what a reading and a part say, and that each call's statement admits one outcome. Assumes
 -- nothing.
-use mathlib.Core.Path.{_≡_, refl, sym, _∙_, ap, ap₂}
+use mathlib.Core.Path.{_≡_, refl, sym, _∙_, ap}
 use mathlib.Core.List.{List, [], _∷_}
-use Prim.Native.Nat.{ℕ, zero, suc, _+_, _*_, _%_, _≤_, _<_}
+use Prim.Native.Nat.{ℕ, zero, suc, _+_, _-_, _*_, _%_, _≤_, _<_}
 use native.Mathlib.Nat.{add-assoc}
 use native.Mathlib.Omega.{arith}
 use lib.ListN.{length, getD, length-take, length-drop}
@@ -72,11 +72,7 @@ pair-read store n k =
     ∙ ap (λ (i : ℕ). getD store (n * placeSize + k) 0 + getD store i 0 * 0x100) (add-assoc (n * placeSize) k 1)
 
 pub read-refused : (store : List ℕ) (n : ℕ) {r : ℕ} → r ≡ placedRefusal store n → (r ≡ done → ⊥) → PlacedRead store n (reading.Refused r)
-read-refused store n {r} e z = record { answers = e; gives = go (placedRefusal store n) e }
-  where
-    go : (a : ℕ) → r ≡ a → [] ≡ valuesAt a store n
-    go zero q = absurd (z q)
-    go (suc a) q = refl
+read-refused store n {r} e z = let s : placedRefusal store n ≡ suc (r - 1) = omega arith in record { answers = e; gives = rw s }
 
 pub read-record : (store : List ℕ) (n : ℕ) {r tile : ℕ} {place : Place} → r ≡ placedRefusal store n → r ≡ done → tile ≡ tileIn store n
     → place ≡ placeIn store n → PlacedRead store n (reading.Record (record { tile = tile; format = formatIn store n; place = place }))
@@ -86,19 +82,17 @@ read-record store n e z t p = let u : Readable store n = sym e ∙ z in record {
 pub unrefused : {store : List ℕ} {n : ℕ} {x : PlacedReading} {r : PlacedRecord} → PlacedRead store n x → x ≡ reading.Record r → Readable store n
 unrefused d e = cc (d .answers)
 
-same-values : {r : PlacedRecord} {tile format face column row : ℕ} → r .tile ≡ tile → r .format ≡ format → r .place .face ≡ face → r .place .column ≡ column
-    → r .place .row ≡ row → r ≡ record { tile = tile; format = format; place = record { face = face; column = column; row = row } }
-same-values {r} {tile} {format} {face} {column} {row} t f a b e =
-    ap₂ (λ x y. record { tile = x; format = y; place = r .place }) t f
-    ∙ ap₂ (λ x y. record { tile = tile; format = format; place = record { face = x; column = y; row = r .place .row } }) a b
-    ∙ ap (λ x. record { tile = tile; format = format; place = record { face = face; column = column; row = x } }) e
-
 pub record-is : {store : List ℕ} {n : ℕ} {x : PlacedReading} {r : PlacedRecord} → PlacedRead store n x → x ≡ reading.Record r
     → r ≡ record { tile = tileIn store n; format = formatIn store n; place = placeIn store n }
 record-is {store} {n} {x} {r} d e =
     let v : r .tile ∷ r .format ∷ r .place .face ∷ r .place .column ∷ r .place .row ∷ []
     ≡ tileIn store n ∷ formatIn store n ∷ faceIn store n ∷ columnIn store n ∷ rowIn store n ∷ [] = rw (e, unrefused d e) at (d .gives) in
-    same-values (cc) (cc) (cc) (cc) (cc)
+    let tile : r .tile ≡ tileIn store n = cc in
+    let format : r .format ≡ formatIn store n = cc in
+    let face : r .place .face ≡ faceIn store n = cc in
+    let column : r .place .column ≡ columnIn store n = cc in
+    let row : r .place .row ≡ rowIn store n = cc in
+    λ i. record { tile = tile i; format = format i; place = record { face = face i; column = column i; row = row i } }
 
 -- a reading that is a refusal
 refused-at : (store : List ℕ) (n a : ℕ) → [] ≡ valuesAt a store n → a ≡ done → ⊥
@@ -128,11 +122,7 @@ block-length k = simp (length-take, length-drop) (omega arith)
 
 -- the part is empty exactly when the record call refuses
 pub empty-refused : (store : List ℕ) (n : ℕ) → (Readable store n → ⊥) → placedPart (placedRefusal store n) store n ≡ []
-empty-refused store n r = go (placedRefusal store n) r
-  where
-    go : (a : ℕ) → (a ≡ done → ⊥) → placedPart a store n ≡ []
-    go zero r = absurd (r refl)
-    go (suc a) r = refl
+empty-refused store n r = let s : placedRefusal store n ≡ suc (placedRefusal store n - 1) = omega arith in rw s
 
 pub empty-only : (store : List ℕ) (n : ℕ) → placedPart (placedRefusal store n) store n ≡ [] → Readable store n → ⊥
 empty-only store n e u =

@@ -4,9 +4,6 @@ use borrow.Author.Needs.{needs}
 use Rattle.probe_places.proofs.pair_at.Statement.{statement}
 use Rattle.probe_places.proofs.pair_at.Tie as tie
 
-returns : tie.Need-returns
-returns c = c .u16-at .ensures ∙ pair-read _ _ _
-
 pub pair-at-spec : {M : Type 1} → statement M
 pair-at-spec =
     tie.close
@@ -14,4 +11,4 @@ pair-at-spec =
     (λ c. search needs)
     (λ c. search needs)
     (λ c κs. search needs)
-    returns)
+    (λ c. c .u16-at .ensures ∙ pair-read _ _ _))

@@ -5,12 +5,6 @@ use borrow.Author.Needs.{needs}
 use Rattle.probe_places.proofs.place_record_refusal.Statement.{statement}
 use Rattle.probe_places.proofs.place_record_refusal.Tie as tie
 
-returns : tie.Need-returns
-returns c = bad-format _ _ (c .if1 .taken)
-
-returns-2 : tie.Need-returns-2
-returns-2 c = bad-rest _ _ (search needs) (sym (c .before .rest-zero .ensures) ∙ not-true _ (c .if2 .taken))
-
 returns-3 : tie.Need-returns-3
 returns-3 c = by-place _ _ (search needs) (sym (c .before .before .before .rest-zero .ensures) ∙ not-false _ (c .before .before .if2 .left)) (c .before .place-at .ensures) (c .refusal .ensures)
 
@@ -21,9 +15,9 @@ place-record-refusal-spec =
     (λ c. search needs)
     (λ c. search needs)
     (λ c. search needs)
-    returns
+    (λ c. bad-format _ _ (c .if1 .taken))
     (λ c κs. search needs)
-    returns-2
+    (λ c. bad-rest _ _ (search needs) (sym (c .before .rest-zero .ensures) ∙ not-true _ (c .if2 .taken)))
     (λ c κs. search needs)
     (λ c κs. search needs)
     returns-3)

@@ -8,24 +8,6 @@ use Rattle.probe_places.proofs.placed_record_at.Tie as tie
 found : (c : tie.Else1) → Known (now (c .before .before .before .args .store)) (c .before .before .before .args .n)
 found c = known-of (c .before .placed-refusal .ensures) (c .if1 .left)
 
-returns : tie.Need-returns
-returns c = read-refused _ _ (c .before .placed-refusal .ensures) (c .if1 .taken)
-
-tile-at-requires : tie.Need-tile-at-requires
-tile-at-requires c κs = found c .below
-
-mul-t6 : tie.Need-mul-t6
-mul-t6 c = let k = found (c .before) in record { fits = omega arith }
-
-add-t7 : tie.Need-add-t7
-add-t7 c = let k = found (c .before) in record { fits = omega arith }
-
-shared-slice-read-t9 : tie.Need-shared-slice-read-t9
-shared-slice-read-t9 c = let k = found (c .before .before) in omega arith
-
-place-at-requires : tie.Need-place-at-requires
-place-at-requires c κs = found (c .before .before) .below
-
 returns-2 : tie.Need-returns-2
 returns-2 c = let e = c .before .before .before in read-record _ _ (e .before .placed-refusal .ensures) (e .if1 .left) (c .before .before .tile-at .ensures) (c .place-at .ensures)
 
@@ -34,10 +16,10 @@ placed-record-at-spec =
     tie.close
     (tie.spec
     (λ c κs. search needs)
-    returns
-    tile-at-requires
-    mul-t6
-    add-t7
-    shared-slice-read-t9
-    place-at-requires
+    (λ c. read-refused _ _ (c .before .placed-refusal .ensures) (c .if1 .taken))
+    (λ c κs. found c .below)
+    (λ c. let k = found (c .before) in record { fits = omega arith })
+    (λ c. let k = found (c .before) in record { fits = omega arith })
+    (λ c. let k = found (c .before .before) in omega arith)
+    (λ c κs. found (c .before .before) .below)
     returns-2)

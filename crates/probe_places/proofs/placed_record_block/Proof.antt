@@ -11,21 +11,6 @@ use Rattle.probe_places.proofs.placed_record_block.Tie as tie
 found : (c : tie.Else1) → Known (now (c .before .before .before .args .store)) (c .before .before .before .args .n)
 found c = known-of (c .before .placed-refusal .ensures) (c .if1 .left)
 
-returns : tie.Need-returns
-returns c = sym (empty-refused _ _ (λ u. c .before .if1 .taken (c .before .before .placed-refusal .ensures ∙ u)))
-
-mul-start : tie.Need-mul-start
-mul-start c = let k = found c in omega arith
-
-add-start : tie.Need-add-start
-add-start c = let k = found c in omega arith
-
-add-end : tie.Need-add-end
-add-end c = let k = found c in omega arith
-
-part-result-end : tie.Need-part-result-end
-part-result-end c = let k = found c in omega arith
-
 returns-2 : tie.Need-returns-2
 unfolding blockIn
 returns-2 c = rw add-sub-cancel-left (part-of _ _ (c .before .before .placed-refusal .ensures) (c .before .if1 .left))
@@ -36,11 +21,11 @@ placed-record-block-spec =
     (tie.spec
     (λ c κs. search needs)
     (λ c. search needs)
-    returns
-    mul-start
-    add-start
-    add-end
+    (λ c. sym (empty-refused _ _ (λ u. c .before .if1 .taken (c .before .before .placed-refusal .ensures ∙ u))))
+    (λ c. let k = found c in omega arith)
+    (λ c. let k = found c in omega arith)
+    (λ c. let k = found c in omega arith)
     (λ c. search needs)
     (λ c. search needs)
-    part-result-end
+    (λ c. let k = found c in omega arith)
     returns-2)

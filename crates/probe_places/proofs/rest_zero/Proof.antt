@@ -14,17 +14,8 @@ Inv-loop store n at k₀ k = (k ≤ 6) × (below (zeroByte store n) k ≡ true)
 abbrev μ-loop : tie.MeasureT-loop
 μ-loop store n at k₀ k = 6 - k
 
-loop-holds : tie.Need-loop-holds Inv-loop μ-loop
-loop-holds c = (search needs, refl)
-
-returns : tie.Need-returns Inv-loop μ-loop
-returns c = rest-fails _ _ (c .before .before .before .loop .k) (search needs) (c .if1 .taken)
-
 loop-again : tie.Need-loop-again Inv-loop μ-loop
 loop-again c = (search needs, rest-more _ _ (c .before .before .before .loop .k) (c .before .before .before .loop .inv .1) (c .if1 .left))
-
-returns-2 : tie.Need-returns-2 Inv-loop μ-loop
-returns-2 c = rest-all _ _ (c .before .loop .k) (search needs) (search needs) (c .before .loop .inv .1)
 
 pub rest-zero-spec : {M : Type 1} → statement M
 rest-zero-spec =
@@ -33,12 +24,12 @@ rest-zero-spec =
     Inv-loop
     μ-loop
     (λ c. search needs)
-    loop-holds
+    (λ c. (search needs, refl))
     (λ c. search needs)
     (λ c. search needs)
     (λ c. search needs)
-    returns
+    (λ c. rest-fails _ _ (c .before .before .before .loop .k) (search needs) (c .if1 .taken))
     (λ c. search needs)
     (λ c. search needs)
     loop-again
-    returns-2)
+    (λ c. rest-all _ _ (c .before .loop .k) (search needs) (search needs) (c .before .loop .inv .1)))

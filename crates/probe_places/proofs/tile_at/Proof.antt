@@ -4,9 +4,6 @@ use Rattle.probe_places.proofs.Readings.{tile-pairs}
 use Rattle.probe_places.proofs.tile_at.Statement.{statement}
 use Rattle.probe_places.proofs.tile_at.Tie as tie
 
-returns : tie.Need-returns
-returns c = (cc) ∙ tile-pairs _ _
-
 pub tile-at-spec : {M : Type 1} → statement M
 tile-at-spec =
     tie.close
@@ -17,4 +14,4 @@ tile-at-spec =
     (λ c. search needs)
     (λ c. search needs)
     (λ c. search needs)
-    returns)
+    (λ c. (cc) ∙ tile-pairs _ _))

@@ -3,20 +3,10 @@ use Rattle.probe_places.proofs.Place.refusal.Statement.{statement}
 use Rattle.probe_places.proofs.Place.refusal.Tie as tie
 use borrow.Author.Needs.{needs}
 
-returns : tie.Need-returns
-returns c = on-face _ (search needs)
-
-returns-2 : tie.Need-returns-2
-returns-2 c = off-face _ (search needs) (search needs)
-
-returns-3 : tie.Need-returns-3
-returns-3 c = with-column _ (search needs) (search needs)
-
-returns-4 : tie.Need-returns-4
-returns-4 c = with-row _ (search needs) (search needs) (search needs)
-
-returns-5 : tie.Need-returns-5
-returns-5 c = without _ (search needs) (search needs) (search needs)
-
 pub refusal-spec : {M : Type 1} → statement M
-refusal-spec = tie.close (tie.spec returns returns-2 returns-3 returns-4 returns-5)
+refusal-spec = tie.close (tie.spec
+    (λ c. on-face _ (search needs))
+    (λ c. off-face _ (search needs) (search needs))
+    (λ c. with-column _ (search needs) (search needs))
+    (λ c. with-row _ (search needs) (search needs) (search needs))
+    (λ c. without _ (search needs) (search needs) (search needs)))

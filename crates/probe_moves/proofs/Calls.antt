@@ -1,7 +1,7 @@
 -- What the two moves say: one outcome each, nothing on a refusal, and that they undo each other. Assumes nothing.
 use mathlib.Core.Path.{_≡_, refl, sym, _∙_, ap, ap₂}
 use mathlib.Core.List.{List, _++_}
-use Prim.Native.Nat.{ℕ, zero, suc, _*_, _%_, _≤_, _<_}
+use Prim.Native.Nat.{ℕ, zero, suc, _-_, _*_, _%_, _≤_, _<_}
 use native.Mathlib.Omega.{arith}
 use lib.Dec.{eqb, ltb}
 use lib.ListN.{length, take, drop}
@@ -56,51 +56,40 @@ module _ {fault : Fault} {count : ℕ} {moved lent after : List ℕ} {r : Moved}
 
   -- .. or nothing
   module _ (n : r .answer ≡ done → ⊥) where
+    refused : fault .answer ≡ suc (r .answer - 1)
+    refused = omega (arith, answer-number)
+
     pub silent : after ≡ lent
-    silent = go (fault .answer) refl
-      where
-        go : (k : ℕ) → fault .answer ≡ k → after ≡ lent
-        go zero q = absurd (n (answer-number ∙ q))
-        go (suc k) q = rw q at (d .holds)
+    silent = rw refused at (d .holds)
 
     pub none-moved : r ≡ record { answer = fault .answer; records = 0; faulty = fault .faulty }
-    none-moved = d .answers ∙ go (fault .answer) refl
-      where
-        go : (k : ℕ) → fault .answer ≡ k → movedAt (fault .answer) (fault .faulty) count ≡ record { answer = fault .answer; records = 0; faulty = fault .faulty }
-        go zero q = absurd (n (answer-number ∙ q))
-        go (suc k) q = rw q
+    none-moved = d .answers ∙ rw refused
 
 -- ---- which number
 
 -- a check of the whole store comes first; else the lowest refused record decides
-module _ (whole : ℕ) (refusal : ℕ → ℕ) (number : ℕ) {count : ℕ} {moved lent after : List ℕ} {r : Moved}
-    (d : MovedTo (wholeFirst whole (firstFault refusal number)) count moved lent r after) where
+module _ (whole : ℕ) (refusal : ℕ → ℕ) (number : ℕ) {moved lent after : List ℕ} {r : Moved}
+    (d : MovedTo (wholeFirst whole (firstFault refusal number)) number moved lent r after) where
   told-whole : (k : ℕ) → whole ≡ suc k → r ≡ record { answer = suc k; records = 0; faulty = 0 }
   told-whole k e = d .answers ∙ rw e
 
   told-first : whole ≡ done → (r .answer ≡ done → ⊥) → Told refusal number (r .answer) (r .faulty)
-  told-first e n = go (firstFault refusal number .answer) refl
+  told-first e n =
+      let q : firstFault refusal number .answer ≡ suc (r .answer - 1) = rw e at (refused d n) in
+      let is : r .answer ≡ suc (r .answer - 1) = omega arith in
+      let tells : r .faulty ≡ firstFault refusal number .faulty = ap (λ (x : Moved). x .faulty) (none-moved d n) ∙ rw e in
+      rw (is, tells) (fault-told refusal number q)
+
+  -- no count is above 2,000, and the record that is told is one of the store's
+  few : (whole ≡ done → number ≤ 2000) → (r .records ≤ 2000) × (r .faulty ≤ 2000)
+  few most = go whole refl
     where
-      is : r .answer ≡ firstFault refusal number .answer
-      is = answer-number d ∙ rw e
-
-      tells : r .faulty ≡ firstFault refusal number .faulty
-      tells = ap (λ (x : Moved). x .faulty) (none-moved d n) ∙ rw e
-
-      go : (k : ℕ) → firstFault refusal number .answer ≡ k → Told refusal number (r .answer) (r .faulty)
-      go zero q = absurd (n (is ∙ q))
-      go (suc k) q = let a : r .answer ≡ suc k = is ∙ q in rw (a, tells) (fault-told refusal number q)
-
-  -- the record that is told is one of the store's
-  few-told : (whole ≡ done → number ≤ 2000) → r .faulty ≤ 2000
-  few-told few = go whole refl
-    where
-      go : (k : ℕ) → whole ≡ k → r .faulty ≤ 2000
+      go : (k : ℕ) → whole ≡ k → (r .records ≤ 2000) × (r .faulty ≤ 2000)
       go zero q =
-          let l = few q in
-          cases (eqb (r .answer) done) (λ t. let e : r .faulty ≡ 0 = ap (λ (x : Moved). x .faulty) (all-moved d (eqb-true _ _ t)) in omega arith)
-          (λ f. omega (arith, told-first q (eqb-false _ _ f) .inside))
-      go (suc k) q = let e : r .faulty ≡ 0 = ap (λ (x : Moved). x .faulty) (told-whole k q) in omega arith
+          let l = most q in
+          cases (eqb (r .answer) done) (λ t. rw (all-moved d (eqb-true _ _ t)) (l, omega arith))
+          (λ f. let n = eqb-false _ _ f in (omega (arith, ap (λ (x : Moved). x .records) (none-moved d n)), omega (arith, told-first q n .inside)))
+      go (suc k) q = rw (told-whole k q) (omega arith, omega arith)
 
 module _ (old : List ℕ) {lent after : List ℕ} {r : Moved} (d : PlacedStore old lent r after) where
   pub place-whole : (k : ℕ) → placeSizes (length old) (length lent) ≡ suc k → r ≡ record { answer = suc k; records = 0; faulty = 0 }
@@ -112,11 +101,13 @@ module _ (old : List ℕ) {lent after : List ℕ} {r : Moved} (d : PlacedStore o
   unfolding placingFault
   place-told = told-first (placeSizes (length old) (length lent)) (recordRefusal old) (recordsIn old) d
 
+  pub place-few : r .records ≤ 2000
+  unfolding placingFault
+  place-few = few (placeSizes (length old) (length lent)) (recordRefusal old) (recordsIn old) d (λ z. omega (arith, sized _ _ _ _ _ z .fits)) .0
+
   pub place-few-told : r .faulty ≤ 2000
   unfolding placingFault
-  place-few-told =
-      few-told (placeSizes (length old) (length lent)) (recordRefusal old) (recordsIn old) d
-      (λ z. let f = sized storeLimit recordSize placeSize (length old) (length lent) z .fits in omega arith)
+  place-few-told = few (placeSizes (length old) (length lent)) (recordRefusal old) (recordsIn old) d (λ z. omega (arith, sized _ _ _ _ _ z .fits)) .1
 
 module _ (new : List ℕ) {lent after : List ℕ} {r : Moved} (d : UnplacedStore new lent r after) where
   pub unplace-whole : (k : ℕ) → unplaceSizes (length new) (length lent) ≡ suc k → r ≡ record { answer = suc k; records = 0; faulty = 0 }
@@ -128,11 +119,13 @@ module _ (new : List ℕ) {lent after : List ℕ} {r : Moved} (d : UnplacedStore
   unfolding unplacingFault
   unplace-told = told-first (unplaceSizes (length new) (length lent)) (backRefusal new) (placesIn new) d
 
+  pub unplace-few : r .records ≤ 2000
+  unfolding unplacingFault
+  unplace-few = few (unplaceSizes (length new) (length lent)) (backRefusal new) (placesIn new) d (λ z. omega (arith, sized _ _ _ _ _ z .fits)) .0
+
   pub unplace-few-told : r .faulty ≤ 2000
   unfolding unplacingFault
-  unplace-few-told =
-      few-told (unplaceSizes (length new) (length lent)) (backRefusal new) (placesIn new) d
-      (λ z. let f = sized placeLimit placeSize recordSize (length new) (length lent) z .fits in omega arith)
+  unplace-few-told = few (unplaceSizes (length new) (length lent)) (backRefusal new) (placesIn new) d (λ z. omega (arith, sized _ _ _ _ _ z .fits)) .1
 
 -- ---- which stores are moved
 
@@ -185,22 +178,6 @@ place-done {old} {lent} d z = placeable old (length lent) (sym (answer-number d)
 
 pub unplace-done : {new lent after : List ℕ} {r : Moved} → UnplacedStore new lent r after → r .answer ≡ done → Unplaceable new (length lent)
 unplace-done {new} {lent} d z = unplaceable new (length lent) (sym (answer-number d) ∙ z)
-
--- no count is above 2,000
-few : (refusal faulty count : ℕ) → (refusal ≡ done → count ≤ 2000) → movedAt refusal faulty count .records ≤ 2000
-few zero faulty count f = f refl
-few (suc refusal) faulty count f = omega arith
-
-ap-few : (r : Moved) {s : Moved} → r ≡ s → s .records ≤ 2000 → r .records ≤ 2000
-ap-few r e l = rw e l
-
-pub place-few : (old : List ℕ) {lent after : List ℕ} {r : Moved} → PlacedStore old lent r after → r .records ≤ 2000
-place-few old {lent} {after} {r} d =
-    ap-few r (d .answers) (few (placingRefusal old (length lent)) _ (recordsIn old) (λ z. let f = placeable old (length lent) z .fits in omega arith))
-
-pub unplace-few : (new : List ℕ) {lent after : List ℕ} {r : Moved} → UnplacedStore new lent r after → r .records ≤ 2000
-unplace-few new {lent} {after} {r} d =
-    ap-few r (d .answers) (few (unplacingRefusal new (length lent)) _ (placesIn new) (λ z. let f = unplaceable new (length lent) z .fits in omega arith))
 
 -- the store that a move leaves in the lent bytes
 place-front : (old : List ℕ) {lent after : List ℕ} {r : Moved} → PlacedStore old lent r after → r .answer ≡ done

@@ -1,14 +1,13 @@
 -- Which check refuses a record on the way back, and a store. Assumes nothing.
 use mathlib.Core.Path.{_≡_, sym, _∙_}
 use mathlib.Core.List.{List}
-use Prim.Native.Nat.{ℕ, zero, suc, _*_, _/_, _%_, _≤_, _<_}
+use Prim.Native.Nat.{ℕ, suc, _-_, _*_, _/_, _%_, _≤_, _<_}
+use native.Mathlib.Omega.{arith}
 use borrow.Author.Tests.{lt-ltb, le-ltb, eq-eqb, ne-eqb, ltb-false, eqb-true, not-false}
-use Rattle.laws.specs.Pick.{pick}
 use Rattle.laws.proofs.Checks.{none-met}
-use Rattle.laws.specs.Checks.{orNext}
 use Rattle.bcn_spec.specs.Answers.{done, shortOutput, longStore, unevenStore, placedRecord}
 use Rattle.probe_places.specs.declared.Place.{Place}
-use Rattle.probe_places.specs.Places.{faceCount, faceIn, placeIn, placed, placeRecordRefusal}
+use Rattle.probe_places.specs.Places.{faceCount, faceIn, placeIn, placeRecordRefusal}
 use Rattle.probe_moves.specs.Moves.{sizeChecks, sizeRefusal, backRefusal}
 
 -- ---- a record on the way back
@@ -16,11 +15,7 @@ use Rattle.probe_moves.specs.Moves.{sizeChecks, sizeRefusal, backRefusal
 module _ (store : List ℕ) (n : ℕ) where
   pub refused-before : {r : ℕ} → r ≡ placeRecordRefusal store n → (r ≡ done → ⊥) → r ≡ backRefusal store n
   unfolding backRefusal
-  refused-before {r} e z = go (placeRecordRefusal store n) e
-    where
-      go : (m : ℕ) → r ≡ m → r ≡ orNext m (pick (placed (placeIn store n)) placedRecord done)
-      go zero q = absurd (z q)
-      go (suc m) q = q
+  refused-before {r} e z = let s : placeRecordRefusal store n ≡ suc (r - 1) = omega arith in rw s (omega arith)
 
   pub is-placed : {r : ℕ} {p : Place} → r ≡ placeRecordRefusal store n → r ≡ done → p ≡ placeIn store n → p .face < faceCount → placedRecord ≡ backRefusal store n
   unfolding backRefusal

@@ -1,7 +1,7 @@
 -- The bytes of a moved store, and each call's statement at its returns. Assumes nothing.
-use mathlib.Core.Path.{_≡_, refl, sym, _∙_}
+use mathlib.Core.Path.{_≡_, sym, _∙_}
 use mathlib.Core.List.{List, _++_}
-use Prim.Native.Nat.{ℕ, zero, suc, _+_, _-_, _*_, _≤_, _<_}
+use Prim.Native.Nat.{ℕ, suc, _+_, _-_, _*_, _≤_, _<_}
 use native.Mathlib.Omega.{arith}
 use lib.ListN.{length, drop}
 use borrow.Author.Tests.{lt-ltb, le-ltb, ne-eqb}
@@ -72,11 +72,9 @@ unplace-room new room e z = sized placeLimit placeSize recordSize (length new) r
 module _ (count : ℕ) (moved lent : List ℕ) {fault a : Fault} (e : a ≡ fault) where
   pub moved-refused : {r : Moved} → (a .answer ≡ done → ⊥) → r ≡ record { answer = a .answer; records = 0; faulty = a .faulty }
       → MovedTo fault count moved lent r lent
-  moved-refused {r} z q = rw (sym e) (go (a .answer) refl)
-    where
-      go : (k : ℕ) → a .answer ≡ k → MovedTo a count moved lent r lent
-      go zero w = absurd (z w)
-      go (suc k) w = record { answers = q ∙ rw w; holds = rw w }
+  moved-refused {r} z q =
+      let s : a .answer ≡ suc (a .answer - 1) = omega (arith, z) in
+      rw (sym e) (record { answers = q ∙ rw s; holds = rw s })
 
   pub moved-done : (size : ℕ) {r : Moved} {after : List ℕ} → a .answer ≡ done → r ≡ movedAt 0 0 count → length moved ≡ size
       → after ≡ moved ++ drop size lent → MovedTo fault count moved lent r after

@@ -5,12 +5,14 @@ use mathlib.Core.List.{List}
 use Prim.Native.Nat.{ℕ, zero, suc, _+_, _-_, _*_, _/_, _%_, _≤_, _<_}
 use native.Mathlib.Omega.{arith}
 use lib.Dec.{eqb, ltb, lit<, lit≤}
-use lib.ListN.{length, getD, take, drop, length-take, length-drop}
-use lib.Seq.{ext-getD, getD-take, getD-drop}
+use lib.ListN.{length, getD, drop, length-drop}
+use lib.Seq.{getD-drop}
 use borrow.Author.Tests.{ltb-true, ltb-false, eqb-true, eqb-false}
 use Rattle.laws.specs.Pick.{pick}
 use Rattle.laws.proofs.Tests.{cases, both-true}
-use Rattle.laws.proofs.Rows.{getD-made}
+use Rattle.laws.proofs.Rows.{getD-made, made-same, made-each}
+use Rattle.laws.proofs.Taken.{made-taken}
+use Rattle.laws.proofs.Below.{below-four}
 use Rattle.bcn_spec.specs.Answers.{done, placedRecord}
 use Rattle.raw_bytes.proofs.Bytes.{bytes-same}
 use Rattle.store_records.specs.Store.{recordSize, recordsIn, byteOf, formatOf, tileOf, blockOf, Unrefused}
@@ -62,18 +64,13 @@ module _ (old : List ℕ) (fine : (n : ℕ) → n < recordsIn old → Unrefused 
       sym (back-block (placedStore old) n k s) ∙ placed-at old n h (k + 8) (omega arith) ∙ sym (byte-block old n (k + 8) (omega arith)) ∙ ap (byteOf old n) e))
 
   pub there-and-back : length old % 24 ≡ 0 → oldStore (placedStore old) ≡ old
+  unfolding oldStore
   there-and-back even =
-      let size : length (oldStore (placedStore old)) ≡ length old =
-      old-length (placedStore old) ∙ (let c : placesIn (placedStore old) ≡ recordsIn old = placed-count old in omega arith) in
-      ext-getD 0 (oldStore (placedStore old)) old size (λ j l.
-      let m : j < length old = omega arith in
-      let n : ℕ = j / 24 in
+      let c : placesIn (placedStore old) ≡ recordsIn old = placed-count old in
+      sym
+      (made-each (oldAt (placedStore old)) old (placesIn (placedStore old) * 24) (omega arith) (λ j l.
       let at : j / 24 * 24 + j % 24 ≡ j = omega arith in
-      let h : j / 24 < recordsIn old = omega arith in
-      ap (λ (i : ℕ). getD (oldStore (placedStore old)) i 0) (sym at)
-      ∙ old-at (placedStore old) (j / 24) (let c : placesIn (placedStore old) ≡ recordsIn old = placed-count old in omega arith) (j % 24) (omega arith)
-      ∙ back-byte (j / 24) (j % 24) h (omega arith)
-      ∙ ap (λ (i : ℕ). getD old i 0) at)
+      ap (λ (i : ℕ). getD old i 0) (sym at) ∙ sym (back-byte (j / 24) (j % 24) (omega arith) (omega arith))))
 
 -- ---- new, old, new
 
@@ -103,24 +100,13 @@ movable new n z = go (placeRecordRefusal new n) refl
 -- its bytes before the block
 pub movable-byte : (new : List ℕ) (n k : ℕ) → Movable new n → 6 ≤ k → k < 16 → byteAt new n k ≡ 0
 movable-byte new n k m l h =
+    let column : byteAt new n 6 + byteAt new n 7 * 0x100 ≡ 0 = m .off .no-column in
+    let row : byteAt new n 8 + byteAt new n 9 * 0x100 ≡ 0 = m .off .no-row in
+    let four = below-four (λ i. byteAt new n (6 + i) ≡ 0) (omega arith) (omega arith) (omega arith) (omega arith) in
     cases (ltb k 10)
-    (λ t. let s : k < 10 = ltb-true _ _ t in low s)
-    (λ f. let s : 10 ≤ k = ltb-false _ _ f in
-    let e : 10 + (k - 10) ≡ k = omega arith in
+    (λ t. let s : k < 10 = ltb-true _ _ t in let e : 6 + (k - 6) ≡ k = omega arith in ap (byteAt new n) (sym e) ∙ four (k - 6) (omega arith))
+    (λ f. let s : 10 ≤ k = ltb-false _ _ f in let e : 10 + (k - 10) ≡ k = omega arith in
     ap (byteAt new n) (sym e) ∙ m .fine .zeros (k - 10) (omega arith))
-  where
-    col : byteAt new n 6 + byteAt new n 7 * 0x100 ≡ 0
-    col = m .off .no-column
-
-    row : byteAt new n 8 + byteAt new n 9 * 0x100 ≡ 0
-    row = m .off .no-row
-
-    low : k < 10 → byteAt new n k ≡ 0
-    low s =
-        cases (eqb k 6) (λ t. let e : k ≡ 6 = eqb-true _ _ t in rw e (omega (arith, col)))
-        (λ a. cases (eqb k 7) (λ t. let e : k ≡ 7 = eqb-true _ _ t in rw e (omega (arith, col)))
-        (λ b. cases (eqb k 8) (λ t. let e : k ≡ 8 = eqb-true _ _ t in rw e (omega (arith, row)))
-        (λ d. let e : k ≡ 9 = omega (arith, eqb-false k 6 a, eqb-false k 7 b, eqb-false k 8 d) in rw e (omega (arith, row)))))
 
 module _ (new : List ℕ) (fine : (n : ℕ) → n < placesIn new → Movable new n) where
   forth-byte : (n k : ℕ) → n < placesIn new → k < 32 → placedByte (oldStore new) n k ≡ byteAt new n k
@@ -138,17 +124,13 @@ module _ (new : List ℕ) (fine : (n : ℕ) → n < placesIn new → Movable new
       sym (byte-block (oldStore new) n k s) ∙ old-at new n h (k - 8) (omega arith) ∙ sym (back-block new n (k - 8) (omega arith)) ∙ ap (byteAt new n) e)))
 
   pub back-and-there : length new % 32 ≡ 0 → placedStore (oldStore new) ≡ new
+  unfolding placedStore
   back-and-there even =
-      let size : length (placedStore (oldStore new)) ≡ length new =
-      placed-length (oldStore new) ∙ (let c : recordsIn (oldStore new) ≡ placesIn new = old-count new in omega arith) in
-      ext-getD 0 (placedStore (oldStore new)) new size (λ j l.
-      let m : j < length new = omega arith in
+      let c : recordsIn (oldStore new) ≡ placesIn new = old-count new in
+      sym
+      (made-each (placedAt (oldStore new)) new (recordsIn (oldStore new) * 32) (omega arith) (λ j l.
       let at : j / 32 * 32 + j % 32 ≡ j = omega arith in
-      let h : j / 32 < placesIn new = omega arith in
-      ap (λ (i : ℕ). getD (placedStore (oldStore new)) i 0) (sym at)
-      ∙ placed-at (oldStore new) (j / 32) (let c : recordsIn (oldStore new) ≡ placesIn new = old-count new in omega arith) (j % 32) (omega arith)
-      ∙ forth-byte (j / 32) (j % 32) h (omega arith)
-      ∙ ap (λ (i : ℕ). getD new i 0) at)
+      ap (λ (i : ℕ). getD new i 0) (sym at) ∙ sym (forth-byte (j / 32) (j % 32) (omega arith) (omega arith))))
 
 -- ---- a moved record is not refused on the way back
 
@@ -192,16 +174,14 @@ module _ (old : List ℕ) (n : ℕ) (u : Unrefused old n) where
   moved-block =
       let c : length (placedStore old) ≡ recordsIn old * 32 = placed-length old in
       let b : n < recordsIn old = inside in
-      let s : length (take 16 (drop (n * 32 + 16) (placedStore old))) ≡ 16 = simp (length-take, length-drop) (omega arith) in
-      let t : length (take 16 (drop (n * 24 + 8) old)) ≡ 16 = simp (length-take, length-drop) (omega arith) in
-      ext-getD 0 _ _ (s ∙ sym t) (λ k l.
-      let m : k < 16 = omega arith in
+      sym (made-taken (drop (n * 32 + 16) (placedStore old)) 16 (simp length-drop (omega arith)))
+      ∙ made-same _ _ 16 (λ k l.
       let e : n * 32 + 16 + k ≡ n * 32 + (16 + k) = omega arith in
       let f : n * 24 + (16 + k - 8) ≡ n * 24 + 8 + k = omega arith in
-      getD-take 16 (drop (n * 32 + 16) (placedStore old)) k 0 m ∙ getD-drop (n * 32 + 16) (placedStore old) k 0
-      ∙ ap (λ (i : ℕ). getD (placedStore old) i 0) e ∙ placed-at old n inside (16 + k) (omega arith) ∙ sym (byte-block old n (16 + k) (omega arith))
-      ∙ ap (λ (i : ℕ). getD old i 0) f
-      ∙ sym (getD-take 16 (drop (n * 24 + 8) old) k 0 m ∙ getD-drop (n * 24 + 8) old k 0))
+      getD-drop (n * 32 + 16) (placedStore old) k 0 ∙ ap (λ (i : ℕ). getD (placedStore old) i 0) e
+      ∙ placed-at old n inside (16 + k) (omega arith) ∙ sym (byte-block old n (16 + k) (omega arith))
+      ∙ ap (λ (i : ℕ). getD old i 0) f ∙ sym (getD-drop (n * 24 + 8) old k 0))
+      ∙ made-taken (drop (n * 24 + 8) old) 16 (simp length-drop (omega arith))
 
 -- ---- a record moved back is not refused on the way there
 

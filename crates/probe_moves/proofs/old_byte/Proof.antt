@@ -3,15 +3,6 @@ use borrow.Author.Needs.{needs}
 use Rattle.probe_moves.proofs.old_byte.Statement.{statement}
 use Rattle.probe_moves.proofs.old_byte.Tie as tie
 
-returns : tie.Need-returns
-returns c = back-kept _ _ _ (search needs)
-
-returns-2 : tie.Need-returns-2
-returns-2 c = back-zero _ _ _ (search needs) (search needs)
-
-returns-3 : tie.Need-returns-3
-returns-3 c = back-block _ _ _ (search needs)
-
 pub old-byte-spec : {M : Type 1} → statement M
 old-byte-spec =
     tie.close
@@ -19,9 +10,9 @@ old-byte-spec =
     (λ c. search needs)
     (λ c. search needs)
     (λ c. search needs)
-    returns
-    returns-2
+    (λ c. back-kept _ _ _ (search needs))
+    (λ c. back-zero _ _ _ (search needs) (search needs))
     (λ c. search needs)
     (λ c. search needs)
     (λ c. search needs)
-    returns-3)
+    (λ c. back-block _ _ _ (search needs)))

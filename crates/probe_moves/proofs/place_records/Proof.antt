@@ -15,9 +15,6 @@ Inv-loop old out₀ size j₀ out j = (j ≤ size) × (out ≡ made (placedAt ol
 abbrev μ-loop : tie.MeasureT-loop
 μ-loop old out₀ size j₀ out j = size - j
 
-loop-holds : tie.Need-loop-holds Inv-loop μ-loop
-loop-holds c = (search needs, made-none _ _, refl)
-
 loop-again : tie.Need-loop-again Inv-loop μ-loop
 loop-again c = let i = c .before .before .loop .inv in (search needs, made-store _ _ _ _ _ _ (i .1) refl (c .placed-byte .ensures) (search needs), simp length-set (i .2))
 
@@ -33,7 +30,7 @@ place-records-spec =
     μ-loop
     (λ c κs. search needs)
     (λ c. search needs)
-    loop-holds
+    (λ c. (search needs, made-none _ _, refl))
     (λ c κs. search needs)
     (λ c. search needs)
     (λ c. search needs)

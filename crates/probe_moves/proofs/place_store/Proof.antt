@@ -8,9 +8,6 @@ use Rattle.probe_moves.proofs.place_store.Tie as tie
 returns : tie.Need-returns
 returns c = moved-refused _ _ _ (c .before .before .before .placing-fault .ensures) (c .before .if1 .taken) (c .refused .ensures)
 
-place-records-requires : tie.Need-place-records-requires
-place-records-requires c κs = place-room _ _ (c .before .before .before .placing-fault .ensures) (c .before .if1 .left)
-
 returns-2 : tie.Need-returns-2
 returns-2 c = let w = c .before .before .before .before in moved-done _ _ _ (w .before .before .before .before .placing-fault .ensures) _ (w .before .before .if1 .left) (c .done .ensures ∙ ap (movedAt 0 0) (c .before .record-count .ensures)) (placed-length _) (w .place-records .ensures)
 
@@ -21,7 +18,7 @@ place-store-spec =
     (λ c κs. search needs)
     (λ c κs. search needs)
     returns
-    place-records-requires
+    (λ c κs. place-room _ _ (c .before .before .before .placing-fault .ensures) (c .before .if1 .left))
     (λ c κs. search needs)
     (λ c κs. search needs)
     (λ c. search needs)

@@ -3,18 +3,6 @@ use borrow.Author.Needs.{needs}
 use Rattle.probe_moves.proofs.placed_byte.Statement.{statement}
 use Rattle.probe_moves.proofs.placed_byte.Tie as tie
 
-returns : tie.Need-returns
-returns c = byte-kept _ _ _ (search needs)
-
-returns-2 : tie.Need-returns-2
-returns-2 c = byte-face _ _ _ (search needs)
-
-returns-3 : tie.Need-returns-3
-returns-3 c = byte-zero _ _ _ (search needs) (search needs) (search needs)
-
-returns-4 : tie.Need-returns-4
-returns-4 c = byte-block _ _ _ (search needs)
-
 pub placed-byte-spec : {M : Type 1} → statement M
 placed-byte-spec =
     tie.close
@@ -22,10 +10,10 @@ placed-byte-spec =
     (λ c. search needs)
     (λ c. search needs)
     (λ c. search needs)
-    returns
-    returns-2
-    returns-3
+    (λ c. byte-kept _ _ _ (search needs))
+    (λ c. byte-face _ _ _ (search needs))
+    (λ c. byte-zero _ _ _ (search needs) (search needs) (search needs))
     (λ c. search needs)
     (λ c. search needs)
     (λ c. search needs)
-    returns-4)
+    (λ c. byte-block _ _ _ (search needs)))

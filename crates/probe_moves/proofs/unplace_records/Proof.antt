@@ -15,9 +15,6 @@ Inv-loop store out₀ size j₀ out j = (j ≤ size) × (out ≡ made (oldAt sto
 abbrev μ-loop : tie.MeasureT-loop
 μ-loop store out₀ size j₀ out j = size - j
 
-loop-holds : tie.Need-loop-holds Inv-loop μ-loop
-loop-holds c = (search needs, made-none _ _, refl)
-
 loop-again : tie.Need-loop-again Inv-loop μ-loop
 loop-again c = let i = c .before .before .loop .inv in (search needs, made-store _ _ _ _ _ _ (i .1) refl (c .old-byte .ensures) (search needs), simp length-set (i .2))
 
@@ -32,7 +29,7 @@ unplace-records-spec =
     Inv-loop
     μ-loop
     (λ c. search needs)
-    loop-holds
+    (λ c. (search needs, made-none _ _, refl))
     (λ c κs. search needs)
     (λ c. search needs)
     (λ c. search needs)

@@ -1,13 +1,12 @@
 -- Which check gives the face call its answer, its statement at each return, and what it says. Assumes nothing.
-use mathlib.Core.Path.{_≡_, _∙_, refl, sym, ap}
+use mathlib.Core.Path.{_≡_, _∙_, sym, ap}
 use mathlib.Core.List.{List, _++_}
-use Prim.Native.Nat.{ℕ, zero, suc, _+_, _*_, _/_, _%_, _≤_, _<_}
+use Prim.Native.Nat.{ℕ, suc, _+_, _-_, _*_, _/_, _%_, _≤_, _<_}
 use native.Mathlib.Nat.{mul-le-mul}
 use native.Mathlib.Omega.{arith}
 use lib.ListN.{length, getD, drop}
 use borrow.Author.Tests.{lt-ltb, le-ltb, ltb-true, ltb-false, not-false}
 use Rattle.laws.specs.Made.{made, join}
-use Rattle.laws.specs.Checks.{leftBy}
 use Rattle.laws.proofs.Checks.{none-met}
 use Rattle.laws.proofs.Rows.{getD-made}
 use Rattle.bcn_spec.specs.Answers.{done, shortOutput, noPixel}
@@ -68,11 +67,9 @@ module _ (edge face room : ℕ) where
 
 module _ {store : List ℕ} {edge : ℕ} (face : ℕ) (lent : List ℕ) {fault : Fault} {holders : List ℕ} (d : Checked store edge fault holders) where
   by-number : {r : Fault} → r ≡ faceFault store edge face (length lent) → (r .answer ≡ done → ⊥) → FacePainted store edge face lent r lent
-  by-number {r} e n = record { answers = e; holds = go (faceFault store edge face (length lent) .answer) refl }
-    where
-      go : (k : ℕ) → faceFault store edge face (length lent) .answer ≡ k → lent ≡ leftBy k (faceOf store edge face) lent
-      go zero q = absurd (n (ap (λ (x : Fault). x .answer) e ∙ q))
-      go (suc k) q = refl
+  by-number {r} e n =
+      let s : faceFault store edge face (length lent) .answer ≡ suc (r .answer - 1) = omega (arith, ap (λ (x : Fault). x .answer) e) in
+      record { answers = e; holds = rw s }
 
   pub painted-fault : (fault .answer ≡ done → ⊥) → FacePainted store edge face lent fault lent
   unfolding faceFault
@@ -102,11 +99,7 @@ module _ {store : List ℕ} {edge face : ℕ} {lent after : List ℕ} {r : Fault
   answer-is = sym (ap (λ (x : Fault). x .answer) (d .answers))
 
   pub silent : (r .answer ≡ done → ⊥) → after ≡ lent
-  silent n = d .holds ∙ go (faceFault store edge face (length lent) .answer) refl
-    where
-      go : (k : ℕ) → faceFault store edge face (length lent) .answer ≡ k → leftBy k (faceOf store edge face) lent ≡ lent
-      go zero q = absurd (n (sym answer-is ∙ q))
-      go (suc k) q = refl
+  silent n = let s : faceFault store edge face (length lent) .answer ≡ suc (r .answer - 1) = omega (arith, answer-is) in rw s at (d .holds)
 
   module _ (z : r .answer ≡ done) where
     whole : after ≡ faceOf store edge face ++ drop (length (faceOf store edge face)) lent

@@ -18,9 +18,6 @@ Inv-loop store edge holders face row strip₀ column₀ strip column = (column �
 abbrev μ-loop : tie.MeasureT-loop
 μ-loop store edge holders face row strip₀ column₀ strip column = edge - column
 
-loop-holds : tie.Need-loop-holds Inv-loop μ-loop
-loop-holds c = (search needs, run-start (stripBlock _ _ _) 48 (block-length _ _ _) _, refl)
-
 held-record-requires : tie.Need-held-record-requires Inv-loop μ-loop
 held-record-requires c κs = let s = c .before .before .before .before .before .pre in (s .0, (s .1 .0, (s .1 .1 .0, search needs, s .1 .1 .1)))
 
@@ -39,7 +36,7 @@ hold-strip-spec =
     (tie.spec
     Inv-loop
     μ-loop
-    loop-holds
+    (λ c. (search needs, run-start (stripBlock _ _ _) 48 (block-length _ _ _) _, refl))
     held-record-requires
     (λ c. search needs)
     (λ c. search needs)

@@ -28,21 +28,6 @@ room c = run-room (fourRows (c .before .before .before .before .before .args .st
 hold-strip-requires : tie.Need-hold-strip-requires Inv-loop μ-loop
 hold-strip-requires c κs = let s = c .before .before .before .before .before .before .pre in let l = c .before .before .loop .inv in let e = s .0 .edge-last in (s .0, (s .1 .0, (s .1 .1 .0, search needs, omega arith)))
 
-mul-at-2 : tie.Need-mul-at-2 Inv-loop μ-loop
-mul-at-2 c = let m = room (c .before .before .before) in search needs
-
-mul-write-strip : tie.Need-mul-write-strip Inv-loop μ-loop
-mul-write-strip c = let m = room (c .before .before .before .before) in search needs
-
-sub-write-strip : tie.Need-sub-write-strip Inv-loop μ-loop
-sub-write-strip c = let m = room (c .before .before .before .before) in search needs
-
-part-write-strip-start : tie.Need-part-write-strip-start Inv-loop μ-loop
-part-write-strip-start c = let m = room (c .before .before .before .before) in search needs
-
-part-write-strip-end : tie.Need-part-write-strip-end Inv-loop μ-loop
-part-write-strip-end c = let m = room (c .before .before .before .before) in search needs
-
 write-strip-requires : tie.Need-write-strip-requires Inv-loop μ-loop
 write-strip-requires c κs = let m = room (c .before .before .before .before .before) in ((c .before .before .before .before .before .before .before .before .before .before .pre .0 .edge-last), c .before .before .before .hold-strip .kept .1 .1 .1 .1 .1 .0 ∙ c .before .before .before .before .before .before .loop .inv .3, simp (length-take, length-drop) (omega arith))
 
@@ -62,12 +47,12 @@ paint-rows-spec =
     (λ c. search needs)
     hold-strip-requires
     (λ c. search needs)
-    mul-at-2
+    (λ c. let m = room (c .before .before .before) in search needs)
     (λ c. search needs)
-    mul-write-strip
-    sub-write-strip
-    part-write-strip-start
-    part-write-strip-end
+    (λ c. let m = room (c .before .before .before .before) in search needs)
+    (λ c. let m = room (c .before .before .before .before) in search needs)
+    (λ c. let m = room (c .before .before .before .before) in search needs)
+    (λ c. let m = room (c .before .before .before .before) in search needs)
     write-strip-requires
     (λ c. search needs)
     (λ c. search needs)

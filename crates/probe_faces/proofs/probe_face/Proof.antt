@@ -6,15 +6,6 @@ use borrow.Author.Needs.{needs}
 use Rattle.probe_faces.proofs.probe_face.Statement.{statement}
 use Rattle.probe_faces.proofs.probe_face.Tie as tie
 
-check-places-requires : tie.Need-check-places-requires
-check-places-requires c κs = held-none _ _ refl
-
-returns : tie.Need-returns
-returns c = painted-fault _ _ (c .before .before .before .check-places .ensures) (c .if1 .taken)
-
-face-refusal-requires : tie.Need-face-refusal-requires
-face-refusal-requires c κs = is-probe (c .before .before .before .check-places .ensures) (c .if1 .left) .edge-last
-
 returns-2 : tie.Need-returns-2
 returns-2 c = painted-refused _ _ (c .before .before .before .before .before .before .check-places .ensures) (c .before .before .before .if1 .left) (c .before .before .face-refusal .ensures) (c .before .if2 .taken) (c .alone .ensures)
 
@@ -29,9 +20,9 @@ probe-face-spec =
     tie.close
     (tie.spec
     (λ c. search needs)
-    check-places-requires
-    returns
-    face-refusal-requires
+    (λ c κs. held-none _ _ refl)
+    (λ c. painted-fault _ _ (c .before .before .before .check-places .ensures) (c .if1 .taken))
+    (λ c κs. is-probe (c .before .before .before .check-places .ensures) (c .if1 .left) .edge-last)
     (λ c κs. search needs)
     returns-2
     (λ c. search needs)

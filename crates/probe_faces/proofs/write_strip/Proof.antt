@@ -18,29 +18,8 @@ Inv-loop strip edge out₀ k₀ out k = (k ≤ 4) × (out ≡ join (made (stripR
 abbrev μ-loop : tie.MeasureT-loop
 μ-loop strip edge out₀ k₀ out k = 4 - k
 
-loop-holds : tie.Need-loop-holds Inv-loop μ-loop
-loop-holds c = (search needs, run-start (stripRow _ _) (12 * c .before .before .args .edge) (strip-row-length _ _) _, refl)
-
 room : (c : tie.In-loop Inv-loop μ-loop) → 12 * c .before .before .before .before .args .edge * c .before .loop .k + 12 * c .before .before .before .before .args .edge ≤ length (c .before .loop .out)
 room c = run-room (stripRow (c .before .before .before .before .args .strip .now) (c .before .before .before .before .args .edge)) (12 * c .before .before .before .before .args .edge) (strip-row-length _ _) 4 (c .before .loop .k) (length (c .before .loop .out)) (search needs) (omega arith)
-
-mul-at : tie.Need-mul-at Inv-loop μ-loop
-mul-at c = let m = room c in search needs
-
-mul-at-2 : tie.Need-mul-at-2 Inv-loop μ-loop
-mul-at-2 c = let m = room c in search needs
-
-mul-write-row : tie.Need-mul-write-row Inv-loop μ-loop
-mul-write-row c = let m = room c in search needs
-
-sub-write-row : tie.Need-sub-write-row Inv-loop μ-loop
-sub-write-row c = let m = room c in search needs
-
-part-write-row-start : tie.Need-part-write-row-start Inv-loop μ-loop
-part-write-row-start c = let m = room c in search needs
-
-part-write-row-end : tie.Need-part-write-row-end Inv-loop μ-loop
-part-write-row-end c = let m = room c in search needs
 
 write-row-requires : tie.Need-write-row-requires Inv-loop μ-loop
 write-row-requires c κs = let m = room (c .before) in let s = c .before .before .before .before .before .pre in (s .0, search needs, s .1, simp (length-take, length-drop) (omega arith))
@@ -57,13 +36,13 @@ write-strip-spec =
     (tie.spec
     Inv-loop
     μ-loop
-    loop-holds
-    mul-at
-    mul-at-2
-    mul-write-row
-    sub-write-row
-    part-write-row-start
-    part-write-row-end
+    (λ c. (search needs, run-start (stripRow _ _) (12 * c .before .before .args .edge) (strip-row-length _ _) _, refl))
+    (λ c. let m = room c in search needs)
+    (λ c. let m = room c in search needs)
+    (λ c. let m = room c in search needs)
+    (λ c. let m = room c in search needs)
+    (λ c. let m = room c in search needs)
+    (λ c. let m = room c in search needs)
     write-row-requires
     (λ c. search needs)
     (λ c. search needs)

@@ -13,16 +13,10 @@ Inv-loop text₀ at word k₀ k-end text k = (k ≤ length word) × (length text
 abbrev μ-loop : tie.MeasureT-loop
 μ-loop text₀ at word k₀ k-end text k = length word - k
 
-loop-holds : tie.Need-loop-holds Inv-loop μ-loop
-loop-holds c = (search needs, search needs, refl)
-
 loop-again : tie.Need-loop-again Inv-loop μ-loop
 loop-again c =
     let l = c .before .before .loop in
     (search needs, simp length-set (l .inv .1), one-more _ (l .text) _ _ (l .k) (l .inv .2) (search needs))
-
-returns : tie.Need-returns Inv-loop μ-loop
-returns c = (search needs, all-put _ _ _ _ (c .before .loop .k) (c .before .loop .inv .2) (search needs))
 
 pub put-spec : {M : Type 1} → statement M
 put-spec =
@@ -30,7 +24,7 @@ put-spec =
     (tie.spec
     Inv-loop
     μ-loop
-    loop-holds
+    (λ c. (search needs, search needs, refl))
     (λ c. search needs)
     (λ c. search needs)
     (λ c. search needs)
@@ -39,4 +33,4 @@ put-spec =
     loop-again
     (λ c. search needs)
     (λ c. search needs)
-    returns)
+    (λ c. (search needs, all-put _ _ _ _ (c .before .loop .k) (c .before .loop .inv .2) (search needs))))

@@ -37,24 +37,12 @@ left c =
     ))
     (c .loop-test .came)
 
-loop-holds : tie.Need-loop-holds Inv-loop μ-loop
-loop-holds c = (search needs, search needs, digit-none (c .before .args .n))
-
 loop-again : tie.Need-loop-again Inv-loop μ-loop
 loop-again c = (
   search needs,
   simp length-set (c .before .before .loop .inv .1),
   let l = c .before .before .loop in digit-more _ (l .digits) (l .first) (l .rest) _ (search needs) (search needs) (l .inv .2) refl (search needs),
 )
-
-sub-put : tie.Need-sub-put Inv-loop μ-loop
-sub-put c = let l = left (c .before .before) in omega arith
-
-part-put-start : tie.Need-part-put-start Inv-loop μ-loop
-part-put-start c = let l = left (c .before .before .before) in omega arith
-
-part-put-end : tie.Need-part-put-end Inv-loop μ-loop
-part-put-end c = let l = left (c .before .before .before) in omega arith
 
 returns : tie.Need-returns Inv-loop μ-loop
 returns c = (
@@ -71,16 +59,16 @@ put-decimal-spec =
     (tie.spec
     Inv-loop
     μ-loop
-    loop-holds
+    (λ c. (search needs, search needs, digit-none (c .before .args .n)))
     (λ c. search needs)
     (λ c. search needs)
     (λ c. search needs)
     (λ c. search needs)
     (λ c. search needs)
     loop-again
-    sub-put
-    part-put-start
-    part-put-end
+    (λ c. let l = left (c .before .before) in omega arith)
+    (λ c. let l = left (c .before .before .before) in omega arith)
+    (λ c. let l = left (c .before .before .before) in omega arith)
     (λ c κs. search needs)
     (λ c. search needs)
     returns)

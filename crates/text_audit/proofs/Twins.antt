@@ -10,6 +10,7 @@ use lib.ListN.{length}
 use borrow.Author.Tests.{eq-eqb, ne-eqb, lt-ltb, le-ltb}
 use Rattle.laws.specs.Pick.{pick}
 use Rattle.laws.specs.Made.{made}
+use Rattle.laws.proofs.Tests.{picks}
 use Rattle.laws.proofs.Joined.{run-more}
 use Rattle.bcn_spec.specs.Answers.{done}
 use Rattle.store_records.specs.Store.{recordsIn, tileAt, mostRecords}
@@ -49,8 +50,7 @@ module _ (store : List ℕ) (n : ℕ) where
 -- ---- the loop over the records
 
 pub one-most : (test : Bool) → pick test 1 0 ≤ 1
-one-most true = omega arith
-one-most false = omega arith
+one-most test = picks test 1 0 (λ n. n ≤ 1) (λ e. omega arith) (λ e. omega arith)
 
 module _ (store : List ℕ) (n mark : ℕ) (here : mark ≡ markAt store n) where
   -- record n is no twin

@@ -1,7 +1,7 @@
 -- The lines of a clean-up, as a loop over the records makes them, the whole text, and the cleaned store behind it. Assumes nothing.
 use mathlib.Core.Path.{_≡_, refl, sym, ap, _∙_}
 use mathlib.Core.List.{List, _++_, append-nil}
-use Prim.Native.Nat.{ℕ, zero, suc, _+_, _*_, _≤_, _<_}
+use Prim.Native.Nat.{ℕ, zero, suc, _+_, _-_, _*_, _≤_, _<_}
 use native.Mathlib.Omega.{arith}
 use lib.Dec.{eqb}
 use lib.ListN.{length, take, length-take}
@@ -53,29 +53,22 @@ module _ (store : List ℕ) where
   -- ---- the whole
 
   module _ (cleaned : Cleaned) (c : cleaned ≡ answerAt (listRefusal (length store) mostRecords) store) where
-    number : (k : ℕ) → listRefusal (length store) mostRecords ≡ k → cleaned .answer ≡ k
-    number zero q = ap (λ (x : Cleaned). x .answer) (rw q at c)
-    number (suc k) q = ap (λ (x : Cleaned). x .answer) (rw q at c)
+    number : cleaned .answer ≡ listRefusal (length store) mostRecords
+    number = ap (λ (x : Cleaned). x .answer) c ∙ cleaning.answer-is (listRefusal (length store) mostRecords) store
 
     pub refused-text : (cleaned .answer ≡ done → ⊥) → refusalLine (cleaned .answer) ≡ cleaningText store
     unfolding cleaningText
-    refused-text z = go (listRefusal (length store) mostRecords) refl
-      where
-        go : (k : ℕ) → listRefusal (length store) mostRecords ≡ k → refusalLine (cleaned .answer) ≡ cleaningText store
-        go zero q = absurd (z (number zero q))
-        go (suc k) q = rw (number (suc k) q, q)
+    refused-text z = let s : listRefusal (length store) mostRecords ≡ suc (cleaned .answer - 1) = omega (arith, number) in rw (number, s)
+
+    pub few : cleaned .answer ≡ done → listRefusal (length store) mostRecords ≡ done
+    few z = sym number ∙ z
 
     pub done-text : {l m₁ m₂ : List ℕ} {r s : ℕ} → cleaned .answer ≡ done → Written l 0 (removedLines store (recordsIn store)) r m₁
         → Written m₁ r (countsLine (cleaned .kept) (cleaned .removed)) s m₂ → Written l 0 (cleaningText store) s m₂
     unfolding cleaningText
     done-text z x y =
-        let q : listRefusal (length store) mostRecords ≡ done = sym (number (listRefusal (length store) mostRecords) refl) ∙ z in
-        let e : cleaned ≡ answerAt done store = rw q at c in
-        said (then x y)
-        (rw (q, ap (λ (v : Cleaned). v .kept) e, ap (λ (v : Cleaned). v .removed) e))
-
-    pub few : cleaned .answer ≡ done → listRefusal (length store) mostRecords ≡ done
-    few z = sym (number (listRefusal (length store) mostRecords) refl) ∙ z
+        let e : cleaned ≡ answerAt done store = rw (few z) at c in
+        said (then x y) (rw (few z, ap (λ (v : Cleaned). v .kept) e, ap (λ (v : Cleaned). v .removed) e))
 
 -- ---- the cleaned store behind the text
 

@@ -2,7 +2,7 @@
 use mathlib.Core.Path.{_≡_, _∙_, refl, sym, ap, ap₂}
 use mathlib.Core.Bool.{Bool, true, false}
 use mathlib.Core.List.{List, _++_}
-use Prim.Native.Nat.{ℕ, zero, suc, _+_, _-_, _*_, _/_, _%_, _^_, _<_, _≤_}
+use Prim.Native.Nat.{ℕ, _+_, _-_, _*_, _/_, _%_, _^_, _<_, _≤_}
 use native.Mathlib.Nat.{mul-le-mul, add-zero, zero-div}
 use native.Mathlib.Omega.{arith}
 use lib.Dec.{eqb}
@@ -11,6 +11,7 @@ use lib.Pow.{shr-shr}
 use Rattle.laws.specs.Pick.{pick}
 use Rattle.laws.specs.Bit.{bit}
 use Rattle.laws.specs.Made.{made}
+use Rattle.laws.proofs.Below.{below-four}
 use Rattle.bc7_spec.specs.Bytes.{turned}
 use Rattle.bc7_paint.specs.Shades.{regionBy, shadeAt, channelShade, shadeByte, turnedTo, soloAt}
 
@@ -41,41 +42,22 @@ module _ (ends : List ℕ) (c : ℕ) where
 
 -- ---- the rotation
 
-too-far : (n : ℕ) → suc (suc (suc (suc n))) < 4 → ⊥
-too-far n h = omega arith
-
 module _ (f : ℕ → ℕ) where
   pub red-turned : (rotation : ℕ) → rotation < 4 → pick (eqb rotation 1) (f 3) (f 0) ≡ f (turned rotation 0)
   unfolding turned
-  red-turned zero h = refl
-  red-turned (suc zero) h = refl
-  red-turned (suc (suc zero)) h = refl
-  red-turned (suc (suc (suc zero))) h = refl
-  red-turned (suc (suc (suc (suc n)))) h = absurd (too-far n h)
+  red-turned = below-four (λ r. pick (eqb r 1) (f 3) (f 0) ≡ f (turned r 0)) refl refl refl refl
 
   pub green-turned : (rotation : ℕ) → rotation < 4 → pick (eqb rotation 2) (f 3) (f 1) ≡ f (turned rotation 1)
   unfolding turned
-  green-turned zero h = refl
-  green-turned (suc zero) h = refl
-  green-turned (suc (suc zero)) h = refl
-  green-turned (suc (suc (suc zero))) h = refl
-  green-turned (suc (suc (suc (suc n)))) h = absurd (too-far n h)
+  green-turned = below-four (λ r. pick (eqb r 2) (f 3) (f 1) ≡ f (turned r 1)) refl refl refl refl
 
   pub blue-turned : (rotation : ℕ) → rotation < 4 → pick (eqb rotation 3) (f 3) (f 2) ≡ f (turned rotation 2)
   unfolding turned
-  blue-turned zero h = refl
-  blue-turned (suc zero) h = refl
-  blue-turned (suc (suc zero)) h = refl
-  blue-turned (suc (suc (suc zero))) h = refl
-  blue-turned (suc (suc (suc (suc n)))) h = absurd (too-far n h)
+  blue-turned = below-four (λ r. pick (eqb r 3) (f 3) (f 2) ≡ f (turned r 2)) refl refl refl refl
 
   pub alpha-turned : (rotation : ℕ) → rotation < 4 → turnedTo rotation (f 0) (f 1) (f 2) (f 3) ≡ f (turned rotation 3)
   unfolding turned
-  alpha-turned zero h = refl
-  alpha-turned (suc zero) h = refl
-  alpha-turned (suc (suc zero)) h = refl
-  alpha-turned (suc (suc (suc zero))) h = refl
-  alpha-turned (suc (suc (suc (suc n)))) h = absurd (too-far n h)
+  alpha-turned = below-four (λ r. turnedTo r (f 0) (f 1) (f 2) (f 3) ≡ f (turned r 3)) refl refl refl refl
 
 -- ---- the maps
 

@@ -64,11 +64,8 @@ module _ (first most : ℕ) (file : List ℕ) where
         single = eqb-true _ _ (last .1);
       }
 
-  pub ours-long : headerTaken first most file ≡ true → headerSize ≤ length file
-  ours-long t = ours-means t .long
-
-  pub ours-dxgi : headerTaken first most file ≡ true → (first ≤ dxgiOf file) × (dxgiOf file ≤ first + 1)
-  ours-dxgi t = ⊎-elim (λ e. (omega arith, omega arith)) (λ e. (omega arith, omega arith)) (ours-means t .dxgi)
+  pub ours-dxgi : HeaderTaken first most file → (first ≤ dxgiOf file) × (dxgiOf file ≤ first + 1)
+  ours-dxgi h = ⊎-elim (λ e. (omega arith, omega arith)) (λ e. (omega arith, omega arith)) (h .dxgi)
 
   -- what the code's two returns show
   pub ours-short : length file < headerSize → false ≡ headerTaken first most file

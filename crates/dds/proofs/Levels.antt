@@ -1,54 +1,35 @@
 -- Mip levels: each has sides in range, the blocks of up to 13 of them have at most 22,369,648 bytes, and a file of one level has the blocks of its
 -- picture. Assumes nothing.
 use mathlib.Core.Path.{_≡_, refl, sym, ap, ap₂, _∙_}
-use Prim.Native.Nat.{ℕ, zero, suc, _+_, _/_, _^_, _≤_}
-use native.Mathlib.Nat.{le-refl, le-trans, le-of-eq, le-add-right, add-le-add, mul-le-mul, mul-le-mul-right, zero-add, div-one, div-le-self, div-mul-le-self, le-div-iff-mul-le}
+use mathlib.Core.Logic.{⊎-elim}
+use Prim.Native.Nat.{ℕ, zero, suc, _+_, _-_, _/_, _^_, _≤_}
+use native.Mathlib.Nat.{le-refl, le-trans, le-of-eq, add-le-add, mul-le-mul, mul-le-mul-right, zero-add, div-one, div-le-self, div-mul-le-self, le-div-iff-mul-le, le-of-suc-le-suc, eq-or-lt-of-le}
 use native.Mathlib.Numerals.{add-one}
 use native.Mathlib.Omega.{arith}
-use lib.Dec.{leb, lit≤}
 use lib.Pow.{pow-pos}
-use borrow.Author.Tests.{leb-true, leb-false}
-use Rattle.laws.proofs.Tests.{cases}
 use Rattle.bcn_spec.specs.Bits.{sizeLimit}
 use Rattle.dds.specs.Dds.{SizeOurs, blocksAlong, blockBytes, levelLimit, atLeastOne, levelSide, levelBytes, chainBytes}
 
 -- ---- sides
 
-one-least : (n : ℕ) → 1 ≤ atLeastOne n
-one-least zero = lit≤ tt
-one-least (suc n) = omega arith
-
-pub one-kept : (n : ℕ) → (n ≡ 0 → ⊥) → n ≡ atLeastOne n
-one-kept zero h = absurd (h refl)
-one-kept (suc n) h = refl
-
-one-rises : (m n : ℕ) → m ≤ n → atLeastOne m ≤ atLeastOne n
-one-rises zero n h = one-least n
-one-rises (suc m) zero h = absurd (omega arith)
-one-rises (suc m) (suc n) h = h
-
-pub one-most : (n most : ℕ) → n ≤ most → 1 ≤ most → atLeastOne n ≤ most
-one-most zero most h l = l
-one-most (suc n) most h l = h
-
--- a side of one pixel at least is its own
-side-kept : (side : ℕ) → 1 ≤ side → atLeastOne side ≡ side
-side-kept side h = sym (one-kept side (λ e. omega arith))
+pub one-is : (n : ℕ) → atLeastOne n ≡ n + (1 - n)
+one-is zero = refl
+one-is (suc n) = omega arith
 
 halved-rises : (k a b : ℕ) → a ≤ b → a / 2 ^ k ≤ b / 2 ^ k
 halved-rises k a b h = le-div-iff-mul-le {k = 2 ^ k} {x = a / 2 ^ k} {y = b} (pow-pos k) .1 (le-trans (div-mul-le-self a (2 ^ k)) h)
 
 side-rises : (k a b : ℕ) → a ≤ b → levelSide k a ≤ levelSide k b
-side-rises k a b h = one-rises (a / 2 ^ k) (b / 2 ^ k) (halved-rises k a b h)
+side-rises k a b h = omega (arith, one-is (a / 2 ^ k), one-is (b / 2 ^ k), halved-rises k a b h)
 
 side-most : (k side : ℕ) → 1 ≤ side → levelSide k side ≤ side
-side-most k side h = le-trans (one-rises (side / 2 ^ k) side (div-le-self side (2 ^ k))) (le-of-eq (side-kept side h))
+side-most k side h = omega (arith, one-is (side / 2 ^ k), div-le-self side (2 ^ k))
 
 pub level-ours : (k width height : ℕ) → SizeOurs width height → SizeOurs (levelSide k width) (levelSide k height)
 level-ours k width height s =
     record {
-      wide = (one-least (width / 2 ^ k), le-trans (side-most k width (s .wide .0)) (s .wide .1));
-      high = (one-least (height / 2 ^ k), le-trans (side-most k height (s .high .0)) (s .high .1));
+      wide = (omega (arith, one-is (width / 2 ^ k)), le-trans (side-most k width (s .wide .0)) (s .wide .1));
+      high = (omega (arith, one-is (height / 2 ^ k)), le-trans (side-most k height (s .high .0)) (s .high .1));
     }
 
 -- ---- bytes
@@ -68,15 +49,9 @@ chain-rises (suc n) a b c d h g = add-le-add (chain-rises n a b c d h g) (level-
 
 chain-longer : (m n width height : ℕ) → m ≤ n → chainBytes m width height ≤ chainBytes n width height
 unfolding chainBytes
-chain-longer zero n width height h = omega arith
-chain-longer (suc m) zero width height h = absurd (omega arith)
-chain-longer (suc m) (suc n) width height h =
-    cases (leb (suc m) n)
-    (λ t. le-trans (chain-longer (suc m) n width height (leb-true (suc m) n t)) (le-add-right (chainBytes n width height) (levelBytes n width height)))
-    (λ t.
-    let l = leb-false (suc m) n t in
-    let e : suc m ≡ suc n = omega arith in
-    le-of-eq (ap (λ (k : ℕ). chainBytes k width height) e))
+chain-longer m zero width height h = let e : m ≡ 0 = omega arith in rw e (le-refl 0)
+chain-longer m (suc n) width height h =
+    ⊎-elim (λ e. rw e (le-refl _)) (λ l. omega (arith, chain-longer m n width height (le-of-suc-le-suc l))) (eq-or-lt-of-le h)
 
 whole-chain : chainBytes levelLimit sizeLimit sizeLimit ≡ 22369648
 unfolding chainBytes levelBytes blockBytes
@@ -93,7 +68,7 @@ one-level : (width height : ℕ) → SizeOurs width height → chainBytes 1 widt
 unfolding chainBytes levelBytes
 one-level width height s =
     zero-add _
-    ∙ ap₂ blockBytes (ap atLeastOne (div-one width) ∙ side-kept width (s .wide .0)) (ap atLeastOne (div-one height) ∙ side-kept height (s .high .0))
+    ∙ ap₂ blockBytes (ap atLeastOne (div-one width) ∙ omega (arith, one-is width)) (ap atLeastOne (div-one height) ∙ omega (arith, one-is height))
 
 -- S-95: a level count of 0 or 1 is one level
 pub all-one : (width height count : ℕ) → count ≤ 1 → SizeOurs width height → chainBytes (atLeastOne count) width height ≡ blockBytes width height
@@ -104,7 +79,7 @@ all-one width height (suc (suc n)) h s = absurd (omega arith)
 -- the blocks of level 0 are among those of all levels
 pub first-among : (width height count : ℕ) → SizeOurs width height → blockBytes width height ≤ chainBytes (atLeastOne count) width height
 first-among width height count s =
-    le-trans (le-of-eq (sym (one-level width height s))) (chain-longer 1 (atLeastOne count) width height (one-least count))
+    le-trans (le-of-eq (sym (one-level width height s))) (chain-longer 1 (atLeastOne count) width height (omega (arith, one-is count)))
 
 -- what a turn of the loop adds
 pub chain-next : (k width height : ℕ) {bytes level : ℕ} → bytes ≡ chainBytes k width height → level ≡ levelBytes k width height

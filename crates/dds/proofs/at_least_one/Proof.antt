@@ -1,15 +1,12 @@
 -- `dds::at_least_one` meets its contract. Assumes nothing.
-use mathlib.Core.Path.{sym, ap}
-use Rattle.dds.specs.Dds.{atLeastOne}
-use Rattle.dds.proofs.Levels.{one-kept}
+use native.Mathlib.Omega.{arith}
+use borrow.Author.Needs.{needs}
+use Rattle.dds.proofs.Levels.{one-is}
 use Rattle.dds.proofs.at_least_one.Statement.{statement}
 use Rattle.dds.proofs.at_least_one.Tie as tie
 
-returns : tie.Need-returns
-returns c = sym (ap atLeastOne (c .if1 .taken))
-
 returns-2 : tie.Need-returns-2
-returns-2 c = one-kept _ (c .if1 .left)
+returns-2 c = omega (arith, one-is (c .before .args .number))
 
 pub at-least-one-spec : {M : Type 1} → statement M
-at-least-one-spec = tie.close (tie.spec returns returns-2)
+at-least-one-spec = tie.close (tie.spec (λ c. search needs) returns-2)

@@ -5,7 +5,7 @@ use native.Mathlib.Omega.{arith}
 use borrow.Author.Tests.{not-true, not-false}
 use borrow.Author.Needs.{needs}
 use Rattle.dds.specs.Dds.{headerTaken}
-use Rattle.dds.proofs.Headers.{ours-long, ours-dxgi}
+use Rattle.dds.proofs.Headers.{ours-means, ours-dxgi}
 use Rattle.dds.proofs.Reading.{told-foreign, told-size, told-done}
 use Rattle.dds.proofs.head_of.Statement.{statement}
 use Rattle.dds.proofs.head_of.Tie as tie
@@ -19,10 +19,10 @@ returns : tie.Need-returns
 returns c = told-foreign _ _ _ (sym (c .before .before .header-ours .ensures) ∙ not-true _ (c .before .if1 .taken)) (c .refused .ensures)
 
 u32-at-requires : tie.Need-u32-at-requires
-u32-at-requires c κs = let l = ours-long _ _ _ (ours c) in omega arith
+u32-at-requires c κs = let h = ours-means _ _ _ (ours c) in omega arith
 
 u32-at-requires-2 : tie.Need-u32-at-requires-2
-u32-at-requires-2 c κs = let l = ours-long _ _ _ (ours (c .before)) in omega arith
+u32-at-requires-2 c κs = let h = ours-means _ _ _ (ours (c .before)) in omega arith
 
 returns-2 : tie.Need-returns-2
 returns-2 c =
@@ -30,13 +30,13 @@ returns-2 c =
     (sym (c .before .before .size-ours .ensures) ∙ not-true _ (c .before .if2 .taken)) (c .refused2 .ensures)
 
 u32-at-requires-3 : tie.Need-u32-at-requires-3
-u32-at-requires-3 c κs = let l = ours-long _ _ _ (ours (c .before .before .before .before)) in omega arith
+u32-at-requires-3 c κs = let h = ours-means _ _ _ (ours (c .before .before .before .before)) in omega arith
 
 sub-t9 : tie.Need-sub-t9
-sub-t9 c = let d = ours-dxgi _ _ _ (ours (c .before .before .before .before .before)) in omega (arith, c .u32-at3 .ensures)
+sub-t9 c = let d = ours-dxgi _ _ _ (ours-means _ _ _ (ours (c .before .before .before .before .before))) in omega (arith, c .u32-at3 .ensures)
 
 cast-t10 : tie.Need-cast-t10
-cast-t10 c = let d = ours-dxgi _ _ _ (ours (c .before .before .before .before .before)) in record { fits = omega (arith, c .u32-at3 .ensures) }
+cast-t10 c = let d = ours-dxgi _ _ _ (ours-means _ _ _ (ours (c .before .before .before .before .before))) in record { fits = omega (arith, c .u32-at3 .ensures) }
 
 returns-3 : tie.Need-returns-3
 returns-3 c =

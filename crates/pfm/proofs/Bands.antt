@@ -152,24 +152,18 @@ module _ (blocks : List ℕ) (format first across : ℕ) (out : List ℕ) where
       (ap₂ (λ (s t : List ℕ). s ++ t) (line 1 _) (ap₂ (λ (s t : List ℕ). s ++ t) (line 0 _) behind)))
 
   module _ (room : 192 * across ≤ length out) where
+    -- the four rows of pixels have one length
     one : length (take (48 * across) out) ≡ 48 * across
     one = length-take-le (48 * across) out (omega arith)
 
     two : length (take (48 * across) (drop (48 * across) out)) ≡ 48 * across
-    two = length-take-le (48 * across) (drop (48 * across) out) (let a = length-drop (48 * across) out in omega arith)
+    two = length-take-le (48 * across) (drop (48 * across) out) (simp length-drop (omega arith))
 
     three : length (take (48 * across) (drop (48 * across) (drop (48 * across) out))) ≡ 48 * across
-    three =
-        length-take-le (48 * across) (drop (48 * across) (drop (48 * across) out))
-        (let a = length-drop (48 * across) out in let b = length-drop (48 * across) (drop (48 * across) out) in omega arith)
+    three = length-take-le (48 * across) (drop (48 * across) (drop (48 * across) out)) (simp length-drop (omega arith))
 
     four : length (take (48 * across) (drop (48 * across) (drop (48 * across) (drop (48 * across) out)))) ≡ 48 * across
-    four =
-        length-take-le (48 * across) (drop (48 * across) (drop (48 * across) (drop (48 * across) out)))
-        (let a = length-drop (48 * across) out in
-        let b = length-drop (48 * across) (drop (48 * across) out) in
-        let c = length-drop (48 * across) (drop (48 * across) (drop (48 * across) out)) in
-        omega arith)
+    four = length-take-le (48 * across) (drop (48 * across) (drop (48 * across) (drop (48 * across) out))) (simp length-drop (omega arith))
 
     -- the next block
     pub band-step : {values : List ℕ} {colours : List Rgb} {lent after : List ℕ} (n : ℕ) → n < across → lent ≡ bandUpto blocks format first across out n
@@ -180,30 +174,22 @@ module _ (blocks : List ℕ) (format first across : ℕ) (out : List ℕ) where
         let l = 48 * across in
         let f : ℕ → ℕ → List ℕ = cellAt blocks format first in
         let each : (row k : ℕ) → length (f row k) ≡ 48 = length-cell blocks format first in
-        let c3 = each 3 n in
-        let c2 = each 2 n in
-        let c1 = each 1 n in
-        let c0 = each 0 n in
         let w : 48 * n + 48 ≤ 48 * across = omega arith in
         let o1 = take l out in
         let o2 = take l (drop l out) in
         let o3 = take l (drop l (drop l out)) in
         let o4 = take l (drop l (drop l (drop l out))) in
-        let e1 = one in
-        let e2 = two in
-        let e3 = three in
-        let e4 = four in
         s ∙ ap₂ (λ (x : List Rgb) (y : List ℕ). blockSets x l y (48 * n)) (p ∙ ap coloursOf v) e
         ∙ four-sets (upto (f 3) 48 n o1) (upto (f 2) 48 n o2) (upto (f 1) 48 n o3) (upto (f 0) 48 n o4) (drop (192 * across) out) (f 3 n) (f 2 n) (f 1 n) (f 0 n) l (48 * n)
-        (upto-length (f 3) 48 (each 3) o1 n (omega arith) ∙ e1)
-        (upto-length (f 2) 48 (each 2) o2 n (omega arith) ∙ e2)
-        (upto-length (f 1) 48 (each 1) o3 n (omega arith) ∙ e3)
-        (upto-length (f 0) 48 (each 0) o4 n (omega arith) ∙ e4)
-        (omega arith) (omega arith) (omega arith) (omega arith)
-        ∙ ap₂ (λ (x y : List ℕ). x ++ y) (upto-step (f 3) 48 (each 3) o1 n (omega arith))
-        (ap₂ (λ (x y : List ℕ). x ++ y) (upto-step (f 2) 48 (each 2) o2 n (omega arith))
-        (ap₂ (λ (x y : List ℕ). x ++ y) (upto-step (f 1) 48 (each 1) o3 n (omega arith))
-        (ap (λ (x : List ℕ). x ++ drop (192 * across) out) (upto-step (f 0) 48 (each 0) o4 n (omega arith)))))
+        (upto-length (f 3) 48 (each 3) o1 n (omega (arith, one)) ∙ one)
+        (upto-length (f 2) 48 (each 2) o2 n (omega (arith, two)) ∙ two)
+        (upto-length (f 1) 48 (each 1) o3 n (omega (arith, three)) ∙ three)
+        (upto-length (f 0) 48 (each 0) o4 n (omega (arith, four)) ∙ four)
+        (omega (arith, each 3 n)) (omega (arith, each 2 n)) (omega (arith, each 1 n)) (omega (arith, each 0 n))
+        ∙ ap₂ (λ (x y : List ℕ). x ++ y) (upto-step (f 3) 48 (each 3) o1 n (omega (arith, one)))
+        (ap₂ (λ (x y : List ℕ). x ++ y) (upto-step (f 2) 48 (each 2) o2 n (omega (arith, two)))
+        (ap₂ (λ (x y : List ℕ). x ++ y) (upto-step (f 1) 48 (each 1) o3 n (omega (arith, three)))
+        (ap (λ (x : List ℕ). x ++ drop (192 * across) out) (upto-step (f 0) 48 (each 0) o4 n (omega (arith, four))))))
 
     -- all are stored
     pub band-end : (after : List ℕ) (n : ℕ) → n ≤ across → across ≤ n → after ≡ bandUpto blocks format first across out n
@@ -213,18 +199,14 @@ module _ (blocks : List ℕ) (format first across : ℕ) (out : List ℕ) where
         let same : n ≡ across = omega arith in
         let f : ℕ → ℕ → List ℕ = cellAt blocks format first in
         let each : (row k : ℕ) → length (f row k) ≡ 48 = length-cell blocks format first in
-        let e1 = one in
-        let e2 = two in
-        let e3 = three in
-        let e4 = four in
         let j : ℕ → List ℕ = λ row. join (made (f row) across) in
         let rest = drop (192 * across) out in
         let flat : j 3 ++ (j 2 ++ (j 1 ++ (j 0 ++ rest))) ≡ (j 3 ++ (j 2 ++ (j 1 ++ j 0))) ++ rest = simp append-assoc in
         e ∙ ap (bandUpto blocks format first across out) same
-        ∙ ap₂ (λ (x y : List ℕ). x ++ y) (upto-end (f 3) 48 (each 3) _ across (omega arith))
-        (ap₂ (λ (x y : List ℕ). x ++ y) (upto-end (f 2) 48 (each 2) _ across (omega arith))
-        (ap₂ (λ (x y : List ℕ). x ++ y) (upto-end (f 1) 48 (each 1) _ across (omega arith))
-        (ap (λ (x : List ℕ). x ++ rest) (upto-end (f 0) 48 (each 0) _ across (omega arith)))))
+        ∙ ap₂ (λ (x y : List ℕ). x ++ y) (upto-end (f 3) 48 (each 3) _ across (omega (arith, one)))
+        (ap₂ (λ (x y : List ℕ). x ++ y) (upto-end (f 2) 48 (each 2) _ across (omega (arith, two)))
+        (ap₂ (λ (x y : List ℕ). x ++ y) (upto-end (f 1) 48 (each 1) _ across (omega (arith, three)))
+        (ap (λ (x : List ℕ). x ++ rest) (upto-end (f 0) 48 (each 0) _ across (omega (arith, four))))))
         ∙ flat
 
 -- ---- where row of blocks n from the bottom stands, among the blocks and in the file

@@ -21,9 +21,6 @@ use Rattle.pfm.proofs.Whole.{length-at, length-row}
 use Rattle.pfm.proofs.Calls.{written-file}
 
 module _ (blocks : List ℕ) (format across width height x y : ℕ) (hx : x < width) (hy : y < height) where
-  place : ℕ
-  place = 12 * ((height - 1 - y) * width + x)
-
   row-place : 12 * width * (height - 1 - y) + 12 * x ≡ 12 * ((height - 1 - y) * width + x)
   row-place =
       let e : 12 * width * (height - 1 - y) ≡ 12 * ((height - 1 - y) * width) = mul-assoc 12 width (height - 1 - y) ∙ ap (λ (n : ℕ). 12 * n) (mul-comm width (height - 1 - y)) in

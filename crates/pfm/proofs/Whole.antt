@@ -71,12 +71,7 @@ module _ (blocks : List ℕ) (format across down : ℕ) where
   pub body-bands : bodyOf blocks format across (4 * across) (4 * down) ≡ bandsOf blocks format across down
   unfolding bodyOf bandsOf fourRows
   body-bands =
-      run-fours (rowUp blocks format across (4 * across) (4 * down)) fourRows (λ k. four-is k) down ∙ ap join (made-same fourRows (bandUp blocks format across down) down up-band)
-    where
-      four-is : (k : ℕ) → fourRows k
-          ≡ rowUp blocks format across (4 * across) (4 * down) (4 * k)
-          ++ (rowUp blocks format across (4 * across) (4 * down) (4 * k + 1) ++ (rowUp blocks format across (4 * across) (4 * down) (4 * k + 2) ++ rowUp blocks format across (4 * across) (4 * down) (4 * k + 3)))
-      four-is k = refl
+      run-fours (rowUp blocks format across (4 * across) (4 * down)) fourRows (λ k. refl) down ∙ ap join (made-same fourRows (bandUp blocks format across down) down up-band)
 
 -- ---- lengths
 

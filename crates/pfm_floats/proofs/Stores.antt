@@ -1,7 +1,8 @@
 -- Runs of stores, one after the other, and the bytes of words. Assumes nothing.
 use mathlib.Core.Path.{_≡_, refl, ap, _∙_}
-use mathlib.Core.List.{List, [], _∷_, _++_}
-use Prim.Native.Nat.{ℕ, suc, _+_, _/_, _%_}
+use mathlib.Core.List.{List, _++_}
+use Prim.Native.Nat.{ℕ, _+_, _/_, _%_}
+use native.Mathlib.Numerals.{towards-suc}
 use native.Mathlib.Omega.{arith}
 use lib.Ieee.{binary32, toBits}
 use lib.ListN.{length, set}
@@ -11,16 +12,9 @@ use Rattle.pfm_floats.specs.declared.Rgb.{Rgb}
 use Rattle.pfm_floats.specs.Bytes.{wordBytes, rgbBytes}
 
 -- four stores at n, n + 1, .., as code has them
-four : (l : List ℕ) (n a b c d : ℕ) → set (set (set (set l n a) (n + 1) b) (n + 2) c) (n + 3) d ≡ sets l n (a ∷ b ∷ c ∷ d ∷ [])
-four l n a b c d =
-    let e1 : n + 1 ≡ suc n = omega arith in
-    let e2 : n + 2 ≡ suc (suc n) = omega arith in
-    let e3 : n + 3 ≡ suc (suc (suc n)) = omega arith in
-    rw (e1, e2, e3)
-
 pub word-stores : (l : List ℕ) (n w : ℕ)
     → set (set (set (set l n (w % 256)) (n + 1) (w / 256 % 256)) (n + 2) (w / 65536 % 256)) (n + 3) (w / 16777216 % 256) ≡ sets l n (wordBytes w)
-word-stores l n w = four l n (w % 256) (w / 256 % 256) (w / 65536 % 256) (w / 16777216 % 256)
+word-stores l n w = simp towards-suc
 
 -- three words, one after the other
 pub three-words : (l l1 l2 l3 : List ℕ) (n : ℕ) (p : Rgb) → l1 ≡ sets l n (wordBytes (toBits binary32 (p .r)))

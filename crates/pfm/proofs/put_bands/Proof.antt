@@ -27,18 +27,6 @@ here c = placed _ _ _ _ _ (search needs) (search needs) (search needs) (search n
 loop-holds : tie.Need-loop-holds Inv-loop μ-loop
 loop-holds c = (search needs, run-start _ _ (length-up _ _ _ _) _, refl)
 
-mul-first : tie.Need-mul-first Inv-loop μ-loop
-mul-first c = let p = here c in record { fits = omega arith }
-
-mul-at-2 : tie.Need-mul-at-2 Inv-loop μ-loop
-mul-at-2 c = let p = here c in record { fits = omega arith }
-
-sub-put-band : tie.Need-sub-put-band Inv-loop μ-loop
-sub-put-band c = let p = here c in omega arith
-
-part-put-band-start : tie.Need-part-put-band-start Inv-loop μ-loop
-part-put-band-start c = let p = here c in omega arith
-
 put-band-requires : tie.Need-put-band-requires Inv-loop μ-loop
 put-band-requires c κs =
     let p = here (c .before) in
@@ -72,11 +60,11 @@ put-bands-spec =
     loop-holds
     (λ c. search needs)
     (λ c. search needs)
-    mul-first
+    (λ c. let p = here c in record { fits = omega arith })
     (λ c. search needs)
-    mul-at-2
-    sub-put-band
-    part-put-band-start
+    (λ c. let p = here c in record { fits = omega arith })
+    (λ c. let p = here c in omega arith)
+    (λ c. let p = here c in omega arith)
     (λ c. search needs)
     put-band-requires
     (λ c. search needs)

@@ -18,12 +18,6 @@ returns c = sym (write-format _ _ _ _ _ _ (search needs))
 returns-2 : tie.Need-returns-2
 returns-2 c = sym (write-size _ _ _ _ _ _ (search needs) (sym (c .before .size-even .ensures) ∙ not-true _ (c .if2 .taken)))
 
-mul-if3 : tie.Need-mul-if3
-mul-if3 c = let k = small _ _ (even c) in record { fits = omega arith }
-
-mul-if3-2 : tie.Need-mul-if3-2
-mul-if3-2 c = let k = small _ _ (even c) in record { fits = omega arith }
-
 returns-3 : tie.Need-returns-3
 returns-3 c = sym (write-blocks _ _ _ _ _ _ (search needs) (even (c .before)) (λ e. c .if3 .taken (e ∙ sym (bytes-are _ _))))
 
@@ -46,8 +40,8 @@ refusal-for-spec =
     returns-2
     (λ c. search needs)
     (λ c. search needs)
-    mul-if3
-    mul-if3-2
+    (λ c. let k = small _ _ (even c) in record { fits = omega arith })
+    (λ c. let k = small _ _ (even c) in record { fits = omega arith })
     returns-3
     returns-4
     returns-5)

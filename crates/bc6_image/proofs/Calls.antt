@@ -21,10 +21,10 @@ use Rattle.bc6.specs.declared.Pixels.{Pixels}
 use Rattle.bc6.specs.Call.{refusalOf, Painted}
 use Rattle.bc6.proofs.Calls.{written}
 use Rattle.bc6_blocks.specs.declared.BlocksPixels.{BlocksPixels}
-use Rattle.bc6_blocks.specs.Run.{runRefusal, runAnswer, RunPainted}
+use Rattle.bc6_blocks.specs.Run.{runRefusal, RunPainted}
 use Rattle.bc6_blocks.proofs.Calls.{block-by-block}
 use Rattle.bc6_image.specs.declared.FacePixels.{FacePixels}
-use Rattle.bc6_image.specs.Face.{lanes, opaque, laneOf, laneAt, rowSize, FaceShown, imageIn, roomy, imageRefusal, imageAnswer, ImagePainted}
+use Rattle.bc6_image.specs.Face.{lanes, opaque, laneOf, laneAt, rowSize, FaceShown, imageIn, roomy, imageRefusal, ImagePainted}
 use Rattle.bc6_image.specs.Stores.{FaceWritten, Fitting}
 use Rattle.bc6_image.proofs.Places.{lanes-low, put-shown, shown-is, is-shown}
 
@@ -229,10 +229,8 @@ module _ {alpha : Bool} {blocks : List ℕ} {width height format : ℕ} {out : L
     -- it counts what the call over a run counts
     pub counted-as-run : {lent : List ℕ} {s : BlocksPixels} {run : List ℕ} → RunPainted blocks format lent s run → runRefusal format (length blocks) (length lent) ≡ done
         → r .infinite ≡ s .infinite
-    counted-as-run {s = s} q d =
-        let face : r ≡ imageAnswer done blocks format = rw z at (p .answers) in
-        let run : s ≡ runAnswer done blocks format = rw d at (q .answers) in
-        ap (λ (x : FacePixels). x .infinite) face ∙ sym (ap (λ (x : BlocksPixels). x .infinite) run)
+    counted-as-run q d =
+        ap (λ (x : FacePixels). x .infinite) (p .answers) ∙ (rw (z, d)) ∙ sym (ap (λ (x : BlocksPixels). x .infinite) (q .answers))
 
 -- ---- the two layouts show the same: red, green and blue are the same values, alpha is 1.0 in every pixel, and so is the answer the same
 
@@ -241,10 +239,7 @@ module _ {blocks : List ℕ} {width height format : ℕ} {out lent : List ℕ} {
     (z : imageRefusal false (length blocks) format width height pitch (length out) ≡ done)
     (d : imageRefusal true (length blocks) format width height step (length lent) ≡ done) where
   pub same-answer : r ≡ s
-  same-answer =
-      let face : r ≡ imageAnswer done blocks format = rw z at (p .answers) in
-      let other : s ≡ imageAnswer done blocks format = rw d at (q .answers) in
-      face ∙ sym other
+  same-answer = p .answers ∙ (rw (z, d)) ∙ sym (q .answers)
 
   pub same-colours : (x y c : ℕ) → x < 4 * width → y < 4 * height → c < 3 → getD left (step * y + (4 * x + c)) 0 ≡ getD after (pitch * y + (3 * x + c)) 0
   same-colours x y c hx hy hc = colour q d x y c hx hy hc ∙ sym (colour p z x y c hx hy hc)
@@ -258,11 +253,10 @@ module _ {blocks : List ℕ} {width height format : ℕ} {out lent : List ℕ} {
 module _ (alpha : Bool) (blocks : List ℕ) (width height format : ℕ) (out : List ℕ) (pitch : ℕ) {number : ℕ}
     (e : number ≡ imageRefusal alpha (length blocks) format width height pitch (length out)) where
   pub painted-refused : {r : FacePixels} → (number ≡ done → ⊥) → r ≡ record { answer = number; infinite = 0 } → ImagePainted alpha blocks width height format out pitch r out
-  painted-refused {r} n a = go (imageRefusal alpha (length blocks) format width height pitch (length out)) refl
-    where
-      go : (k : ℕ) → imageRefusal alpha (length blocks) format width height pitch (length out) ≡ k → ImagePainted alpha blocks width height format out pitch r out
-      go zero z = absurd (n (e ∙ z))
-      go (suc k) z = record { answers = a ∙ ap (λ (m : ℕ). record { answer = m; infinite = 0 }) (e ∙ z) ∙ rw z refl; holds = rw z refl }
+  painted-refused n a =
+      let k = imageRefusal alpha (length blocks) format width height pitch (length out) in
+      let some : k ≡ suc (k - 1) = omega arith in
+      record { answers = a ∙ rw (e, some); holds = rw some }
 
   module _ (n : number ≡ done) where
     pub known-done : Known alpha (length blocks) format width height pitch (length out)

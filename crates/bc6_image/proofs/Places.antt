@@ -3,15 +3,16 @@ use mathlib.Core.Path.{_≡_, _∙_, refl, sym, ap, ap₂}
 use mathlib.Core.Bool.{Bool, true, false}
 use mathlib.Core.List.{List, [], _++_, append-nil}
 use Prim.Native.Nat.{ℕ, zero, suc, _+_, _-_, _*_, _/_, _%_, _≤_, _<_}
-use native.Mathlib.Nat.{add-zero, mul-add, mul-comm, mul-assoc, mul-left-comm, mul-le-mul-left, mul-pos, mul-add-div, mul-add-mod-self-left, div-eq-of-lt, mod-eq-of-lt, mod-lt, mod-le, div-le-self, div-add-mod, div-lt-iff-lt-mul}
+use native.Mathlib.Nat.{add-zero, mul-add, mul-comm, mul-assoc, mul-left-comm, mul-le-mul-left, mul-le-mul-right, mul-pos, mul-add-div, mul-add-mod-self-left, div-eq-of-lt, mod-eq-of-lt, mod-lt, mod-le, div-le-self, div-add-mod, div-lt-iff-lt-mul}
+use native.Mathlib.Numerals.{add-one, add-two, add-three}
 use native.Mathlib.Omega.{arith}
 use lib.ListN.{length, getD, set}
 use lib.Seq.{sets}
 use lib.Dec.{ltb}
 use borrow.Author.Tests.{ltb-true, lt-ltb}
 use Rattle.laws.proofs.Tests.{cases, both-true}
-use Rattle.laws.proofs.Sameness.{true-false, not-so}
-use Rattle.laws.proofs.Rows.{made-each, getD-made, length-made}
+use Rattle.laws.proofs.Sameness.{true-false}
+use Rattle.laws.proofs.Rows.{made-each}
 use Rattle.laws.proofs.Joined.{run-length, run-value}
 use Rattle.laws.specs.Made.{made, countOf, join}
 use Rattle.bc6h_spec.specs.Half.{minusInfinity}
@@ -38,11 +39,8 @@ pub lanes-high : (alpha : Bool) → lanes alpha ≤ 4
 lanes-high true = omega arith
 lanes-high false = omega arith
 
-pub lanes-four : (alpha : Bool) → alpha ≡ true → lanes alpha ≡ 4
-lanes-four alpha e = rw e
-
-pub lanes-three : (alpha : Bool) → alpha ≡ false → lanes alpha ≡ 3
-lanes-three alpha e = rw e
+pub lanes-are : (alpha : Bool) {b : Bool} → alpha ≡ b → lanes alpha ≡ lanes b
+lanes-are alpha e = rw e
 
 pub length-pixel : (alpha : Bool) (values : List ℕ) (k : ℕ) → length (pixelOf alpha values k) ≡ lanes alpha
 unfolding pixelOf
@@ -63,11 +61,7 @@ pub pixel-opaque : (values l : List ℕ) (k at : ℕ)
     → set (set (set (set l at (getD values (3 * k) 0)) (at + 1) (getD values (3 * k + 1) 0)) (at + 2) (getD values (3 * k + 2) 0)) (at + 3) opaque
     ≡ sets l at (pixelOf true values k)
 unfolding pixelOf
-pixel-opaque values l k at =
-    let one : at + 1 ≡ suc at = omega arith in
-    let two : at + 2 ≡ suc (suc at) = omega arith in
-    let three : at + 3 ≡ suc (suc (suc at)) = omega arith in
-    rw (one, two, three) refl
+pixel-opaque values l k at = rw (add-one at, add-two at, add-three at)
 
 -- ---- the values of a row of a block
 
@@ -115,9 +109,6 @@ module _ (values : List ℕ) (row : ℕ) (out : List ℕ) (at : ℕ) where
   unfolding pixelIn
   opaque-step x e s = s ∙ ap (λ (l : List ℕ). sets l (at + 4 * x) (pixelIn true values row x)) e ∙ sets-run (pixelIn true values row) 4 (length-in true values row) out at x
 
-  pub opaque-end : {after : List ℕ} (x : ℕ) → after ≡ sets out at (join (made (pixelIn true values row) x)) → x ≤ 4 → 4 ≤ x → after ≡ sets out at (blockRow true values row)
-  opaque-end x e h l = let same : x ≡ 4 = omega arith in rw same at e
-
 length-cell : (signed alpha : Bool) (blocks : List ℕ) (q : ℕ) → length (cellAt signed alpha blocks q) ≡ lanes alpha
 unfolding cellAt
 length-cell signed alpha blocks q = length-pixel alpha (shownAt signed blocks (q / 16)) (q % 16)
@@ -133,9 +124,10 @@ yAt width q = 4 * (q / 16 / width) + q % 16 / 4
 abbrev numberAt : ℕ → ℕ → ℕ → ℕ
 numberAt width x y = 16 * (width * (y / 4) + x / 4) + (4 * (y % 4) + x % 4)
 
-place-is : (alpha : Bool) (width pitch q : ℕ) → placeAt alpha width pitch q ≡ pitch * yAt width q + lanes alpha * xAt width q
+-- where its value c stands
+value-at : (alpha : Bool) (width pitch q c : ℕ) → placeAt alpha width pitch q + c ≡ pitch * yAt width q + (lanes alpha * xAt width q + c)
 unfolding placeAt pixelPlace
-place-is alpha width pitch q =
+value-at alpha width pitch q c =
     let a : pitch * (4 * (q / 16 / width) + q % 16 / 4) ≡ pitch * (4 * (q / 16 / width)) + pitch * (q % 16 / 4) = mul-add pitch (4 * (q / 16 / width)) (q % 16 / 4) in
     let b : lanes alpha * (4 * (q / 16 % width) + q % 16 % 4) ≡ lanes alpha * (4 * (q / 16 % width)) + lanes alpha * (q % 16 % 4) =
     mul-add (lanes alpha) (4 * (q / 16 % width)) (q % 16 % 4) in
@@ -186,9 +178,6 @@ module _ (alpha : Bool) (width : ℕ) where
 
     pub x-told : (pitch * y + (lanes alpha * x + c)) % pitch / lanes alpha ≡ x
     x-told = ap (λ (j : ℕ). j / lanes alpha) j-told ∙ row-div (lanes alpha) x c hc
-
-    pub c-told : (pitch * y + (lanes alpha * x + c)) % pitch % lanes alpha ≡ c
-    c-told = ap (λ (j : ℕ). j % lanes alpha) j-told ∙ row-mod (lanes alpha) x c hc
 
 -- ---- which values are a pixel's
 
@@ -247,10 +236,6 @@ module _ (alpha : Bool) (width height pitch : ℕ) where
   some-block : (x y : ℕ) → x < 4 * width → y < 4 * height → 0 < width * height
   some-block x y hx hy = mul-pos {m = width} {n = height} (omega arith) (omega arith)
 
-  -- where its value c stands
-  value-at : (q c : ℕ) → placeAt alpha width pitch q + c ≡ pitch * yAt width q + (lanes alpha * xAt width q + c)
-  value-at q c = let e = place-is alpha width pitch q in omega arith
-
   -- the last value of a pixel stands in the room of the face
   in-room : (room : ℕ) → pitch * (4 * height - 1) + rowSize alpha width ≤ room → (x y c : ℕ) → x < 4 * width → y < 4 * height → c < lanes alpha
       → pitch * y + (lanes alpha * x + c) < room
@@ -260,17 +245,18 @@ module _ (alpha : Bool) (width height pitch : ℕ) where
       omega arith
 
   -- no two values in one place
-  module _ (wide : rowSize alpha width ≤ pitch) where
-    once : (q c r d : ℕ) → 0 < width → c < lanes alpha → d < lanes alpha → placeAt alpha width pitch q + c ≡ placeAt alpha width pitch r + d → r ≡ q
-    once q c r d w hc hd e =
-        let same : pitch * yAt width q + (lanes alpha * xAt width q + c) ≡ pitch * yAt width r + (lanes alpha * xAt width r + d) = sym (value-at q c) ∙ e ∙ value-at r d in
-        let ys : yAt width q ≡ yAt width r =
-        sym (y-told alpha width pitch wide (xAt width q) (yAt width q) c (x-low w q) hc) ∙ ap (λ (i : ℕ). i / pitch) same
-        ∙ y-told alpha width pitch wide (xAt width r) (yAt width r) d (x-low w r) hd in
-        let xs : xAt width q ≡ xAt width r =
-        sym (x-told alpha width pitch wide (xAt width q) (yAt width q) c (x-low w q) hc) ∙ ap (λ (i : ℕ). i % pitch / lanes alpha) same
-        ∙ x-told alpha width pitch wide (xAt width r) (yAt width r) d (x-low w r) hd in
-        sym (number-back width r) ∙ sym (ap₂ (λ (x y : ℕ). numberAt width x y) xs ys) ∙ number-back width q
+  module _ (wide : rowSize alpha width ≤ pitch) (w : 0 < width) where
+    -- where a value stands tells the number of its pixel
+    number-told : (q c : ℕ) → c < lanes alpha → (let i = placeAt alpha width pitch q + c in numberAt width (i % pitch / lanes alpha) (i / pitch) ≡ q)
+    number-told q c hc =
+        rw (
+          value-at alpha width pitch q c,
+          x-told alpha width pitch wide (xAt width q) (yAt width q) c (x-low w q) hc,
+          y-told alpha width pitch wide (xAt width q) (yAt width q) c (x-low w q) hc,
+        ) (number-back width q)
+
+    once : (q c r d : ℕ) → c < lanes alpha → d < lanes alpha → placeAt alpha width pitch q + c ≡ placeAt alpha width pitch r + d → r ≡ q
+    once q c r d hc hd e = sym (number-told r d hd) ∙ ap (λ (i : ℕ). numberAt width (i % pitch / lanes alpha) (i / pitch)) (sym e) ∙ number-told q c hc
 
 -- ---- what is stored block by block is the face
 
@@ -283,20 +269,20 @@ module _ (signed alpha : Bool) (blocks : List ℕ) (width height pitch : ℕ) (o
         let some = some-block alpha width height pitch x y hx hy in
         let q = numberAt width x y in
         let here : pitch * y + (lanes alpha * x + c) ≡ placeAt alpha width pitch q + c =
-        sym (value-at alpha width height pitch q c ∙ ap₂ (λ (a b : ℕ). pitch * b + (lanes alpha * a + c)) (x-of width x y hx) (y-of width x y hx)) in
+        sym (value-at alpha width pitch q c ∙ ap₂ (λ (a b : ℕ). pitch * b + (lanes alpha * a + c)) (x-of width x y hx) (y-of width x y hx)) in
         let room : placeAt alpha width pitch q + c < length out =
         (let r = in-room alpha width height pitch (length out) (fits .enough some) x y c hx hy hc in omega arith) in
         ap (λ (i : ℕ). getD (facePut signed alpha blocks width pitch (width * height) out) i 0) here
         ∙ scattered-hit (placeAt alpha width pitch) (cellAt signed alpha blocks) (lanes alpha) (length-cell signed alpha blocks) out (16 * (width * height)) q c
         (number-low alpha width height pitch x y hx hy) hc room
-        (λ r d hr hd e. once alpha width height pitch (fits .pitched some) q c r d (omega arith) hc hd e)
+        (λ r d hr hd e. once alpha width height pitch (fits .pitched some) (omega arith) q c r d hc hd e)
         ∙ pixel-lane alpha (shownAt signed blocks (q / 16)) (q % 16) c hc
         ∙ ap₂ (λ (n k : ℕ). laneOf (shownAt signed blocks n) k c) (block-of width x y hx) (pixel-of width x y hx);
     rest = λ i h off.
         scattered-miss (placeAt alpha width pitch) (cellAt signed alpha blocks) (lanes alpha) (length-cell signed alpha blocks) out (16 * (width * height)) i
         (λ q c hq hc e.
         let w = some-width alpha width height pitch hq in
-        off (xAt width q) (yAt width q) c (x-low alpha width height pitch w q) (y-low alpha width height pitch w q hq) hc (e ∙ value-at alpha width height pitch q c));
+        off (xAt width q) (yAt width q) c (x-low alpha width height pitch w q) (y-low alpha width height pitch w q hq) hc (e ∙ value-at alpha width pitch q c));
   }
 
   -- the face in words, and nothing else, is the face as it is computed
@@ -315,23 +301,9 @@ module _ (signed alpha : Bool) (blocks : List ℕ) (width height pitch : ℕ) (o
           true-false (sym (in-face alpha width height pitch (fits .pitched (some-block alpha width height pitch x y hx hy)) x y c hx hy hc) ∙ ap (inFace alpha width height pitch) (sym e) ∙ f))
           ∙ rw f
 
-  -- and the other way round
+  -- and the other way round: what is stored block by block shows it
   pub is-shown : FaceShown signed alpha blocks width height pitch out (imageIn signed alpha blocks width height pitch out)
-  unfolding imageIn imageValue
-  is-shown = record {
-    long = length-made (imageValue signed alpha blocks width height pitch out) (length out);
-    pixel = λ x y c hx hy hc.
-        let some = some-block alpha width height pitch x y hx hy in
-        let wide = fits .pitched some in
-        getD-made (imageValue signed alpha blocks width height pitch out) (length out) (pitch * y + (lanes alpha * x + c)) 0
-        (in-room alpha width height pitch (length out) (fits .enough some) x y c hx hy hc)
-        ∙ rw (in-face alpha width height pitch wide x y c hx hy hc, x-told alpha width pitch wide x y c hx hc, y-told alpha width pitch wide x y c hx hc, c-told alpha width pitch wide x y c hx hc);
-    rest = λ i h off.
-        getD-made (imageValue signed alpha blocks width height pitch out) (length out) i 0 h
-        ∙ rw (not-so (inFace alpha width height pitch i) (λ t.
-        let p = face-told alpha width height pitch i t in
-        off (i % pitch / lanes alpha) (i / pitch) (i % pitch % lanes alpha) (p .across) (p .down) (p .lane) (p .whole)));
-  }
+  is-shown = rw (sym (shown-is put-shown)) put-shown
 
 -- ---- the loop over a block's rows
 
@@ -356,10 +328,6 @@ module _ (alpha : Bool) (pitch : ℕ) (values : List ℕ) (at : ℕ) (out : List
     where
       place-in : (j : ℕ) → j < 4 → at + pitch * row + lanes alpha * j ≡ pixelPlace alpha pitch at (4 * row + j)
       place-in j h = rw (row-div 4 row j h, row-mod 4 row j h) (omega arith)
-
-  pub block-end : {after : List ℕ} (row : ℕ) → after ≡ storedCells (pixelPlace alpha pitch at) (pixelOf alpha values) (4 * row) out → row ≤ 4 → 4 ≤ row
-      → after ≡ blockPut alpha pitch values at out
-  block-end row e h l = let same : row ≡ 4 = omega arith in rw same at e
 
 -- ---- the loop over the blocks
 
@@ -399,19 +367,14 @@ row-large false width = omega arith
 face-room : (alpha : Bool) (width height pitch room : ℕ) → 0 < height → rowSize alpha width ≤ pitch → pitch * (4 * height - 1) + rowSize alpha width ≤ room
     → 48 * (width * height) ≤ room
 face-room alpha width height pitch room h wide enough =
-    let row = rowSize alpha width in
-    let a : (4 * height - 1) * row ≤ (4 * height - 1) * pitch = mul-le-mul-left (4 * height - 1) wide in
-    let b : (4 * height - 1) * pitch ≡ pitch * (4 * height - 1) = mul-comm (4 * height - 1) pitch in
-    let c : (4 * height - 1) * row ≡ row * (4 * height - 1) = mul-comm (4 * height - 1) row in
-    let d : row * (4 * height - 1 + 1) ≡ row * (4 * height - 1) + row * 1 = mul-add row (4 * height - 1) 1 in
-    let whole : 4 * height - 1 + 1 ≡ 4 * height = omega arith in
-    let e : row * (4 * height - 1 + 1) ≡ 4 * height * row = ap (λ (k : ℕ). row * k) whole ∙ mul-comm row (4 * height) in
-    let f : 4 * height * (12 * width) ≤ 4 * height * row = mul-le-mul-left (4 * height) (row-large alpha width) in
-    let g : 4 * height * (12 * width) ≡ 4 * 12 * (height * width) = regroup height width in
-    let k : height * width ≡ width * height = mul-comm height width in
-    omega arith
+    let large = row-large alpha width in
+    let rows : 12 * width * (4 * height - 1) ≤ pitch * (4 * height - 1) = mul-le-mul-right (4 * height - 1) (omega arith) in
+    let last : 4 * height - 1 + 1 ≡ 4 * height = omega arith in
+    let all : 12 * width * (4 * height - 1 + 1) ≡ 12 * width * (4 * height - 1) + 12 * width * 1 = mul-add (12 * width) (4 * height - 1) 1 in
+    let blocks : 12 * width * (4 * height) ≡ 12 * 4 * (width * height) = regroup width height in
+    omega (arith, rw last at all)
   where
-    regroup : (a b : ℕ) → 4 * a * (12 * b) ≡ 4 * 12 * (a * b)
+    regroup : (a b : ℕ) → 12 * a * (4 * b) ≡ 12 * 4 * (a * b)
     regroup a b = simp (mul-assoc, mul-left-comm)
 
 pub record Cornered (width pitch step n room : ℕ) : Type 0 where

@@ -35,27 +35,6 @@ corner c =
     cornered (s .args .alpha) (s .args .width) (s .args .height) (s .args .pitch) (c .before .before .lanes-of .result) _ (length (s .args .out .now)) (c .before .loop .n)
     (s .pre .1) (c .before .before .lanes-of .ensures) (search needs)
 
-div-at : tie.Need-div-at Inv-loop μ-loop
-div-at c = corner (c .before .before .before .before) .wide
-
-mul-at : tie.Need-mul-at Inv-loop μ-loop
-mul-at c = let d = corner (c .before .before .before .before) in record { fits = omega arith }
-
-mul-at-2 : tie.Need-mul-at-2 Inv-loop μ-loop
-mul-at-2 c = let d = corner (c .before .before .before .before) in record { fits = omega arith }
-
-rem-at : tie.Need-rem-at Inv-loop μ-loop
-rem-at c = corner (c .before .before .before .before) .wide
-
-mul-at-3 : tie.Need-mul-at-3 Inv-loop μ-loop
-mul-at-3 c = let d = corner (c .before .before .before .before) in record { fits = omega arith }
-
-mul-at-4 : tie.Need-mul-at-4 Inv-loop μ-loop
-mul-at-4 c = let d = corner (c .before .before .before .before) in record { fits = omega arith }
-
-add-at : tie.Need-add-at Inv-loop μ-loop
-add-at c = let d = corner (c .before .before .before .before) in record { fits = omega arith }
-
 put-block-requires : tie.Need-put-block-requires Inv-loop μ-loop
 put-block-requires c κs = let d = corner (c .before .before .before .before .before .before) in omega arith
 
@@ -99,13 +78,13 @@ paint-face-spec =
     (λ c. search needs)
     (λ c. search needs)
     (λ c κs. search needs)
-    div-at
-    mul-at
-    mul-at-2
-    rem-at
-    mul-at-3
-    mul-at-4
-    add-at
+    (λ c. corner (c .before .before .before .before) .wide)
+    (λ c. let d = corner (c .before .before .before .before) in record { fits = omega arith })
+    (λ c. let d = corner (c .before .before .before .before) in record { fits = omega arith })
+    (λ c. corner (c .before .before .before .before) .wide)
+    (λ c. let d = corner (c .before .before .before .before) in record { fits = omega arith })
+    (λ c. let d = corner (c .before .before .before .before) in record { fits = omega arith })
+    (λ c. let d = corner (c .before .before .before .before) in record { fits = omega arith })
     put-block-requires
     (λ c. search needs)
     add-infinite

@@ -5,7 +5,7 @@ use Prim.Native.Nat.{_*_, _-_, _≤_}
 use native.Mathlib.Omega.{arith}
 use lib.ListN.{length}
 use Rattle.bc6_image.specs.Stores.{storedCells, pixelOf, pixelPlace}
-use Rattle.bc6_image.proofs.Places.{row-room, block-start, block-step, block-end}
+use Rattle.bc6_image.proofs.Places.{row-room, block-start, block-step}
 use Rattle.bc6_image.proofs.put_block.Statement.{statement}
 use Rattle.bc6_image.proofs.put_block.Tie as tie
 
@@ -40,4 +40,4 @@ put-block-spec =
     (λ c. search needs)
     loop-again
     (λ c. search needs)
-    (λ c. let l = c .before .loop in block-end _ _ _ _ _ (l .row) (l .inv .1) (search needs) (search needs)))
+    (λ c. let l = c .before .loop in let same : l .row ≡ 4 = omega arith in rw same at (l .inv .1)))

@@ -3,11 +3,12 @@ use borrow.Author.Needs.{needs}
 use mathlib.Core.Path.{_≡_, refl}
 use mathlib.Core.Bool.{true}
 use Prim.Native.Nat.{_-_, _≤_}
+use native.Mathlib.Omega.{arith}
 use lib.ListN.{length}
 use lib.Seq.{sets}
 use Rattle.laws.specs.Made.{made, join}
 use Rattle.bc6_image.specs.Stores.{pixelIn}
-use Rattle.bc6_image.proofs.Places.{opaque-start, opaque-step, opaque-end}
+use Rattle.bc6_image.proofs.Places.{opaque-start, opaque-step}
 use Rattle.bc6_image.proofs.put_opaque_row.Statement.{statement}
 use Rattle.bc6_image.proofs.put_opaque_row.Tie as tie
 
@@ -39,4 +40,4 @@ put-opaque-row-spec =
     (λ c. search needs)
     loop-again
     (λ c. search needs)
-    (λ c. let l = c .before .loop in opaque-end _ _ _ _ (l .x) (l .inv .1) (search needs) (search needs)))
+    (λ c. let l = c .before .loop in let same : l .x ≡ 4 = omega arith in rw same at (l .inv .1)))

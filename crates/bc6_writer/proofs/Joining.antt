@@ -2,10 +2,10 @@
 use mathlib.Core.Path.{_≡_, _∙_, refl, sym, ap, ap₂, subst}
 use mathlib.Core.List.{List, _∷_}
 use Prim.Native.Nat.{ℕ, zero, suc, _+_, _-_, _*_, _/_, _%_, _^_, _≤_, _<_}
-use native.Mathlib.Nat.{mul-assoc, mul-comm, add-comm, add-mul-div-left, add-mul-mod-self-left}
+use native.Mathlib.Nat.{mul-assoc, mul-comm, add-mul-div-left, add-mul-mod-self-left}
 use native.Mathlib.Omega.{arith}
 use lib.Arith.{digits-lt}
-use lib.Pow.{pow-add, pow-pos, shr-shr, high, shl-exact, shr-lt}
+use lib.Pow.{pow-add, pow-pos, shr-shr, shl-exact, shr-lt}
 use Rattle.laws.specs.Made.{made}
 use Rattle.laws.specs.Packed.{before, packed}
 use Rattle.laws.proofs.Rows.{made-front, made-cong}
@@ -23,6 +23,9 @@ use Rattle.bc6_writer.proofs.Scattering.{bits-range, of-record}
 use Rattle.bc6_writer.proofs.Packing.{whole-lt}
 
 -- ---- the words
+
+upper : (lo hi : ℕ) → lo < 2 ^ 64 → (lo + 2 ^ 64 * hi) / 2 ^ 64 ≡ hi
+upper lo hi h = omega arith
 
 module _ (f : Fields) (v : Valid f) {places : List ℕ} (ep : places ≡ made (atPlace f) 14) (lo hi bits t : ℕ)
     (en : lo + 2 ^ 64 * hi ≡ scattered (row (f .mode)) (entry places)) (eb : bits ≡ packed (storedSize f) (indexOf f) 16)
@@ -46,10 +49,7 @@ module _ (f : Fields) (v : Valid f) {places : List ℕ} (ep : places ≡ made (a
   above-lt = let b = bits-range (f .mode) .1 in omega arith
 
   hi-lt : lo < 2 ^ 64 → hi < 2 ^ above
-  hi-lt h =
-      subst (λ (x : ℕ). x < 2 ^ above)
-      (ap (λ (x : ℕ). x / 2 ^ 64) (add-comm lo (2 ^ 64 * hi) ∙ ap (λ (x : ℕ). x + lo) (mul-comm (2 ^ 64) hi)) ∙ high hi 64 h)
-      (shr-lt above 64 low-lt)
+  hi-lt h = subst (λ (x : ℕ). x < 2 ^ above) (upper lo hi h) (shr-lt above 64 low-lt)
 
   bits-lt : bits < 2 ^ before (storedSize f) 16
   bits-lt = subst (λ (x : ℕ). x < 2 ^ before (storedSize f) 16) (sym eb) (whole-lt f v)
@@ -94,12 +94,10 @@ module _ (lo hi k : ℕ) where
   unfolding numberByte
   byte-high h l =
       let e : 64 + 8 * (k - 8) ≡ 8 * k = omega arith in
-      let q : (lo + 2 ^ 64 * hi) / 2 ^ 64 ≡ hi =
-      ap (λ (x : ℕ). x / 2 ^ 64) (add-comm lo (2 ^ 64 * hi) ∙ ap (λ (x : ℕ). x + lo) (mul-comm (2 ^ 64) hi)) ∙ high hi 64 h in
       sym
       (ap (λ (x : ℕ). (lo + 2 ^ 64 * hi) / 2 ^ x % 256) (sym e)
       ∙ ap (λ (x : ℕ). x % 256) (sym (shr-shr (lo + 2 ^ 64 * hi) 64 (8 * (k - 8))))
-      ∙ ap (λ (x : ℕ). x / 2 ^ (8 * (k - 8)) % 256) q)
+      ∙ ap (λ (x : ℕ). x / 2 ^ (8 * (k - 8)) % 256) (upper lo hi h))
 
 next-byte : (n k : ℕ) → numberByte n (suc k) ≡ numberByte (n / 256) k
 unfolding numberByte

@@ -117,14 +117,15 @@ module _ (m : ℕ) (low : 1 ≤ m) (high : m ≤ 14) where
       let r : rowStart m + (tableBits m - 1) < 1080 = in-range m (tableBits m - 1) low high (omega arith) in
       omega arith
 
-  -- a part of the table that lies in a row
+  -- a part of a row, and the part of the table that it is
+  part-long : (a n : ℕ) → a + n ≤ tableBits m → length (take n (drop a (row m))) ≡ n
+  part-long a n h = length-take-le n (drop a (row m)) (omega (arith, length-drop a (row m), size))
+
   part-is : (a n : ℕ) → a + n ≤ tableBits m → take n (drop (rowStart m + a) table) ≡ take n (drop a (row m))
   part-is a n h =
-      let dl : length (drop (rowStart m + a) table) ≡ 1080 - (rowStart m + a) = length-drop (rowStart m + a) table ∙ ap (λ (x : ℕ). x - (rowStart m + a)) table-length in
-      let dr : length (drop a (row m)) ≡ tableBits m - a = length-drop a (row m) ∙ ap (λ (x : ℕ). x - a) size in
-      let tl : length (take n (drop (rowStart m + a) table)) ≡ n = length-take-le n _ (omega (arith, dl, row-ends)) in
-      let tr : length (take n (drop a (row m))) ≡ n = length-take-le n _ (omega (arith, dr)) in
-      ext-getD 0 _ _ (tl ∙ sym tr)
+      let tl : length (take n (drop (rowStart m + a) table)) ≡ n =
+      length-take-le n (drop (rowStart m + a) table) (omega (arith, length-drop (rowStart m + a) table, table-length, row-ends)) in
+      ext-getD 0 _ _ (tl ∙ sym (part-long a n h))
       (λ k l.
       let i : k < n = subst (λ (x : ℕ). k < x) tl l in
       let e : rowStart m + a + k ≡ rowStart m + (a + k) = omega arith in
@@ -140,48 +141,43 @@ module _ (m : ℕ) (low : 1 ≤ m) (high : m ≤ 14) where
     parts-fit et = let r = bits-range m .0 in (omega arith, omega (arith, row-ends))
 
   module _ {codes : List ℕ} {start : ℕ} (ec : codes ≡ table) (es : start ≡ rowStart m) where
-    pub low-part : take (start + 64 - start) (drop start codes) ≡ take 64 (row m)
-    low-part =
-        let a : start + 64 - start ≡ 64 = omega arith in
-        let b : start ≡ rowStart m + 0 = omega arith in
-        let r = bits-range m .0 in
-        rw (a, ec) (ap (λ (x : ℕ). take 64 (drop x table)) b ∙ part-is 0 64 (omega arith))
+    -- the n codes from code a of the row on, as they are read
+    part-read : (a n i k : ℕ) → a + n ≤ tableBits m → i ≡ rowStart m + a → k ≡ n → take k (drop i codes) ≡ take n (drop a (row m))
+    part-read a n i k h ei ek = rw (ec, ei, ek) (part-is a n h)
 
-    pub high-part : {count : ℕ} → count ≡ tableBits m → take (start + count - (start + 64)) (drop (start + 64) codes) ≡ drop 64 (row m)
+    pub low-part : take (start + 64 - start) (drop start codes) ≡ take 64 (row m)
+    low-part = let r = bits-range m .0 in part-read 0 64 start (start + 64 - start) (omega arith) (omega arith) (omega arith)
+
+    pub high-part : {count : ℕ} → count ≡ tableBits m → take (start + count - (start + 64)) (drop (start + 64) codes) ≡ take (tableBits m - 64) (drop 64 (row m))
     high-part {count} et =
-        let a : start + count - (start + 64) ≡ tableBits m - 64 = omega arith in
         let r = bits-range m .0 in
-        rw (a, ec)
-        (ap (λ (x : ℕ). take (tableBits m - 64) (drop (x + 64) table)) es ∙ part-is 64 (tableBits m - 64) (omega arith)
-        ∙ take-all (tableBits m - 64) (drop 64 (row m)) (omega (arith, length-drop 64 (row m), size)))
+        part-read 64 (tableBits m - 64) (start + 64) (start + count - (start + 64)) (omega arith) (omega arith) (omega arith)
 
   in-row : InPlaces (row m)
   in-row k h = row-once m low high .place k (subst (λ (x : ℕ). k < x) size h)
 
+  part-places : (a n : ℕ) → a + n ≤ tableBits m → n ≤ 64 → {l : List ℕ} → l ≡ take n (drop a (row m)) → (length l ≤ 64) × InPlaces l
+  part-places a n f s {l} e =
+      let long : length l ≡ n = ap length e ∙ part-long a n f in (
+        omega arith,
+        λ k h.
+            let i : k < n = omega arith in
+            rw (e, getD-take n (drop a (row m)) k 0 i, getD-drop a (row m) k 0) (in-row (a + k) (omega (arith, size))),
+      )
+
   pub low-places : {l : List ℕ} → l ≡ take 64 (row m) → (length l ≤ 64) × InPlaces l
-  low-places {l} e =
-      let r = bits-range m .0 in
-      let n : length (take 64 (row m)) ≡ 64 = length-take-le 64 (row m) (omega (arith, size)) in (
-        omega (arith, ap length e, n),
-        λ k h.
-            let i : k < 64 = omega (arith, ap length e, n) in
-            rw (e, getD-take 64 (row m) k 0 i) (in-row k (omega (arith, size))),
-      )
+  low-places e = let r = bits-range m .0 in part-places 0 64 (omega arith) (omega arith) e
 
-  pub high-places : {l : List ℕ} → l ≡ drop 64 (row m) → (length l ≤ 64) × InPlaces l
-  high-places {l} e =
-      let r = bits-range m .1 in
-      let n : length (drop 64 (row m)) ≡ tableBits m - 64 = length-drop 64 (row m) ∙ ap (λ (x : ℕ). x - 64) size in (
-        omega (arith, ap length e, n),
-        λ k h.
-            rw (e, getD-drop 64 (row m) k 0) (in-row (64 + k) (omega (arith, ap length e, n, size))),
-      )
+  pub high-places : {l : List ℕ} → l ≡ take (tableBits m - 64) (drop 64 (row m)) → (length l ≤ 64) × InPlaces l
+  high-places e = let r = bits-range m in part-places 64 (tableBits m - 64) (omega arith) (omega arith) e
 
-  pub words-joined : (f : ℕ → ℕ) {lo hi : ℕ} {l h : List ℕ} → lo ≡ scattered l f → l ≡ take 64 (row m) → hi ≡ scattered h f → h ≡ drop 64 (row m)
+  pub words-joined : (f : ℕ → ℕ) {lo hi : ℕ} {l h : List ℕ} → lo ≡ scattered l f → l ≡ take 64 (row m) → hi ≡ scattered h f
+      → h ≡ take (tableBits m - 64) (drop 64 (row m))
       → lo + 2 ^ 64 * hi ≡ scattered (row m) f
   words-joined f el l eh h =
       let r = bits-range m .0 in
-      ap₂ (λ (x y : ℕ). x + 2 ^ 64 * y) (el ∙ ap (λ (x : List ℕ). scattered x f) l) (eh ∙ ap (λ (x : List ℕ). scattered x f) h)
+      let all = take-all (tableBits m - 64) (drop 64 (row m)) (omega (arith, length-drop 64 (row m), size)) in
+      ap₂ (λ (x y : ℕ). x + 2 ^ 64 * y) (el ∙ ap (λ (x : List ℕ). scattered x f) l) (eh ∙ ap (λ (x : List ℕ). scattered x f) (h ∙ all))
       ∙ sym (scattered-split 64 (row m) f (omega (arith, size)))
 
   -- the numbers at the places are the record's

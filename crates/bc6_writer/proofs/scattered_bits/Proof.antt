@@ -25,12 +25,6 @@ bit-of-requires c κs = c .before .before .before .before .pre .1 (c .before .be
 small : (c : tie.In-loop Inv-loop μ-loop) → c .before .loop .bits < 2 ^ 63
 small c = scattered-small _ _ (c .before .before .before .pre .0) (c .before .loop .left) (search needs) (c .before .loop .inv .1)
 
-mul-bits : tie.Need-mul-bits Inv-loop μ-loop
-mul-bits c = let h = small (c .before .before) in search needs
-
-add-bits : tie.Need-add-bits Inv-loop μ-loop
-add-bits c = let h = small (c .before .before) in search needs
-
 loop-again : tie.Need-loop-again Inv-loop μ-loop
 loop-again c = (search needs, scattered-next _ _ (c .before .before .before .loop .left) (c .before .before .before .loop .inv .1) (c .bit-of .ensures) (search needs) (search needs))
 
@@ -47,8 +41,8 @@ scattered-bits-spec =
     (λ c. search needs)
     (λ c. search needs)
     bit-of-requires
-    mul-bits
-    add-bits
+    (λ c. let h = small (c .before .before) in search needs)
+    (λ c. let h = small (c .before .before) in search needs)
     (λ c. search needs)
     loop-again
     returns)

@@ -13,25 +13,10 @@ add-middle c = let p = c .before .before .pre in let h = laws.start-fits _ (p .0
 fit : (c : tie.After-table-bits) → (c .before .row-start .result + 64 ≤ c .before .row-start .result + c .table-bits .result) × (c .before .row-start .result + c .table-bits .result ≤ 1080)
 fit c = let p = c .before .before .before .pre in laws.parts-fit _ (p .0) (p .1) (c .before .row-start .ensures) (c .table-bits .ensures)
 
-add-end : tie.Need-add-end
-add-end c = let h = fit c .1 in search needs
-
-part-low-end : tie.Need-part-scattered-bits-end
-part-low-end c = let h = fit (c .before) in search needs
-
 requires-low : tie.Need-scattered-bits-requires
 requires-low c κs =
     let p = c .before .before .before .before .before .pre in
     laws.low-places _ (p .0) (p .1) (laws.low-part _ (p .0) (p .1) (c .before .before .before .before .codes .ensures) (c .before .before .before .row-start .ensures))
-
-sub-high : tie.Need-sub-scattered-bits-2
-sub-high c = let h = fit (c .before .before .before) in search needs
-
-part-high-start : tie.Need-part-scattered-bits-start-2
-part-high-start c = let h = fit (c .before .before .before .before) in search needs
-
-part-high-end : tie.Need-part-scattered-bits-end-2
-part-high-end c = let h = fit (c .before .before .before .before) in search needs
 
 requires-high : tie.Need-scattered-bits-requires-2
 requires-high c κs =
@@ -57,14 +42,14 @@ table-words-spec =
     (λ c κs. search needs)
     add-middle
     (λ c κs. search needs)
-    add-end
+    (λ c. let h = fit c in search needs)
     (λ c. search needs)
     (λ c. search needs)
-    part-low-end
+    (λ c. let h = fit (c .before) in search needs)
     requires-low
-    sub-high
-    part-high-start
-    part-high-end
+    (λ c. let h = fit (c .before .before .before) in search needs)
+    (λ c. let h = fit (c .before .before .before .before) in search needs)
+    (λ c. let h = fit (c .before .before .before .before) in search needs)
     requires-high
     (λ c κs. search needs)
     returns)

@@ -2,7 +2,7 @@
 use mathlib.Core.Path.{_≡_, refl, ap, ap₂, _∙_}
 use mathlib.Core.Bool.{Bool, true, false}
 use mathlib.Core.List.{List, [], _∷_}
-use Prim.Native.Nat.{ℕ, zero, suc, _+_, _*_, _%_}
+use Prim.Native.Nat.{ℕ, zero, suc, _+_, _-_, _*_, _%_}
 use lib.ListN.{length, getD, replicate}
 use Rattle.laws.specs.Made.{made}
 use Rattle.laws.specs.Checks.{leftBy}
@@ -175,7 +175,7 @@ demand1 = record {
       (faces.faceFault s e f (length o) .answer) (ap (λ (r : Fault). r .answer) (p .answers)) (p .holds);
   probe-open = λ p. record { zeros = λ no k. refl; unchanged = λ no. ap (λ (l : List ℕ). l ∷ []) (p .silent no) };
   probe-pixel-in = λ {s} {t} {e} {f} {x} {y} p.
-      silent-none (λ n. table.tableShown n (probe.tripleAt s (table.predecessor (table.holderAt t f x y)) (4 * (y % 4) + x % 4))) (λ r. r .answer) probe.tripleIn
+      silent-none (λ n. table.tableShown n (probe.tripleAt s (table.holderAt t f x y - 1) (4 * (y % 4) + x % 4))) (λ r. r .answer) probe.tripleIn
       refl (λ n. zeros 3) (table.tableRefusal s t e f x y) (p .answers);
   probe-build = λ {b} {o} {a} {f} {e} {t} p.
       silent-one (λ n. building.builtAt n (building.recordCount e)) (λ r. r .answer) (λ r. r .records ∷ []) refl (λ n. zeros 1)

@@ -75,11 +75,11 @@ module _ (signed : Bool) (blocks : List ℕ) where
   run-start = joined.run-start (shownAt signed blocks) 48 length-shown
 
   -- block n is written into the part of the values that begins behind the blocks before it
-  pub run-step : (out₀ out part : List ℕ) (n : ℕ) → out ≡ runOf signed blocks n ++ drop (48 * n) out₀ → length out ≡ length out₀ → 48 * (n + 1) ≤ length out₀
+  pub run-step : (out₀ out part : List ℕ) (n : ℕ) → out ≡ runOf signed blocks n ++ drop (48 * n) out₀
       → part ≡ shownAt signed blocks n ++ drop 48 (midOf (48 * n) (length out - 48 * n) out)
       → putMid (48 * n) (length out - 48 * n) out part ≡ runOf signed blocks (n + 1) ++ drop (48 * (n + 1)) out₀
   unfolding runOf
-  run-step out₀ out part n e len room = joined.run-step (shownAt signed blocks) 48 length-shown out₀ out part n e len (omega arith)
+  run-step = joined.run-step (shownAt signed blocks) 48 length-shown
 
   -- every block is written and counted
   pub run-end : (out₀ out : List ℕ) (infinite count n : ℕ) → out ≡ runOf signed blocks n ++ drop (48 * n) out₀

@@ -14,9 +14,10 @@ use Rattle.laws.proofs.Search.{holds, both-hold}
 use Rattle.bc6h_spec.specs.declared.Fields.{Fields}
 use Rattle.bc6h_spec.specs.Layout.{width, twoRegions}
 use Rattle.bc6h_spec.specs.Regions.{region1Of}
-use Rattle.bcn_spec.specs.Indices.{has, storedBits}
+use Rattle.bcn_spec.specs.Indices.{storedBits}
 use Rattle.bc6h_spec.specs.Fields.{indexBits, fixups, stored, indexOf, Valid}
 use Rattle.bc6h_spec.proofs.Modes.{partition-width}
+use Rattle.bc6h_spec.proofs.Undo.{index-small}
 use Rattle.bc6h_spec.proofs.Reading.{width-last, width-partition, stored-le}
 use Rattle.bc6_valid.specs.Validity.{endpointFits, indexFits, valid}
 use Rattle.laws.proofs.Below.{below-all}
@@ -92,13 +93,9 @@ module _ (f : Fields) where
         (subst (λ (x : ℕ). f .partition < 2 ^ x) (sym (width-partition m))
         (picks (twoRegions m) 5 0 (λ (x : ℕ). f .partition < 2 ^ x) (λ _. v .partition-fits) (λ o. rw (v .partition-zero o) (lit< tt))))
 
-    pub stored-fits : (k : ℕ) → k < 16 → indexOf f k < 2 ^ storedBits (indexBits m) (fixups m (f .partition)) k
-    stored-fits k h =
-        picks (has (fixups m (f .partition)) k) (indexBits m - 1) (indexBits m) (λ (x : ℕ). indexOf f k < 2 ^ x) (v .fixup-fits k h) (λ _. v .index-fits k h)
-
     pub each-index : (k : ℕ) → k < 16 → T (indexFits f k)
     unfolding indexFits
-    each-index k h = lt→ltb _ _ (stored-fits k h)
+    each-index k h = lt→ltb _ _ (index-small f v k)
 
     -- S-37: a valid record passes the test.
     pub complete : T (valid f)

@@ -3,23 +3,20 @@ use mathlib.Core.Path.{_≡_, _∙_, refl, sym, ap, subst}
 use Prim.Native.Nat.{ℕ, suc, _+_, _-_, _*_, _%_, _^_, _≤_, _<_}
 use native.Mathlib.Nat.{lt-of-lt-of-le}
 use native.Mathlib.Numerals.{add-one}
-use native.Mathlib.Decide.{decLt}
 use native.Mathlib.Omega.{arith}
 use lib.Dec.{lit≤}
-use lib.ListN.{List·getD-eq-default}
-use lib.Pow.{pow-pos, pow-mono, shl-exact}
+use lib.Pow.{pow-mono, shl-exact}
 use Rattle.laws.specs.Packed.{before, packed}
 use Rattle.laws.proofs.Packing.{packed-lt}
 use Rattle.laws.proofs.Opening.{before-mono}
 use Rattle.bc6h_spec.specs.declared.Fields.{Fields}
 use Rattle.bc6h_spec.specs.Layout.{tableBits}
 use Rattle.bc6h_spec.specs.Fields.{indexOf, Valid}
-use Rattle.bc6h_spec.proofs.Undo.{bits-128}
+use Rattle.bc6h_spec.proofs.Undo.{bits-128, index-small}
 use Rattle.bc6_valid.specs.Sizes.{secondFixup, indexSize}
 use Rattle.bc6_writer.specs.Parts.{storedSize}
 use Rattle.bc6_valid.proofs.Sizes.{stored-size}
 use Rattle.bc6_writer.proofs.Scattering.{bits-range}
-use Rattle.bc6_valid.proofs.Validity.{stored-fits}
 
 -- k pixels are packed
 pub record So (f : Fields) (bits at k : ℕ) : Type 0 where
@@ -29,13 +26,6 @@ pub record So (f : Fields) (bits at k : ℕ) : Type 0 where
 module _ (f : Fields) (v : Valid f) where
   abbrev size : ℕ → ℕ
   size = storedSize f
-
-  pub index-small : (k : ℕ) → indexOf f k < 2 ^ size k
-  index-small k = go (decLt k 16)
-    where
-      go : Dec (k < 16) → indexOf f k < 2 ^ size k
-      go (yes h) = stored-fits f v k h
-      go (no h) = rw (List·getD-eq-default (f .indices) 0 {n = k} (omega (arith, v .sixteen-indices))) (pow-pos (size k))
 
   -- all of them take at most 63 bits
   room : (k : ℕ) → k ≤ 16 → before size k ≤ 63
@@ -50,7 +40,7 @@ module _ (f : Fields) (v : Valid f) where
   next-place k = refl
 
   pub whole-lt : packed size (indexOf f) 16 < 2 ^ before size 16
-  whole-lt = packed-lt size (indexOf f) index-small 16
+  whole-lt = packed-lt size (indexOf f) (index-small f v) 16
 
   pub so-first : So f 0 0 0
   unfolding packed before
@@ -66,7 +56,7 @@ module _ (f : Fields) (v : Valid f) where
     moved : indexOf f k * 2 ^ at % 2 ^ 64 ≡ indexOf f k * 2 ^ before size k
     moved =
         ap (λ (x : ℕ). indexOf f k * 2 ^ x % 2 ^ 64) (s .place)
-        ∙ shl-exact (size k) (before size k) 64 (index-small k) (omega (arith, next-place k, end))
+        ∙ shl-exact (size k) (before size k) 64 (index-small f v k) (omega (arith, next-place k, end))
 
     pub so-sum : indexOf f k * 2 ^ at % 2 ^ 64 + bits ≡ packed size (indexOf f) (k + 1)
     unfolding packed
@@ -74,7 +64,7 @@ module _ (f : Fields) (v : Valid f) where
 
     pub so-fits : indexOf f k * 2 ^ at % 2 ^ 64 + bits < 2 ^ 64
     so-fits =
-        lt-of-lt-of-le (subst (λ (x : ℕ). x < 2 ^ before size (suc k)) (sym (so-sum ∙ ap (packed size (indexOf f)) (add-one k))) (packed-lt size (indexOf f) index-small (suc k)))
+        lt-of-lt-of-le (subst (λ (x : ℕ). x < 2 ^ before size (suc k)) (sym (so-sum ∙ ap (packed size (indexOf f)) (add-one k))) (packed-lt size (indexOf f) (index-small f v) (suc k)))
         (pow-mono (let q : before size (suc k) ≤ 64 = omega (arith, end) in q))
 
     module _ {fixup w : ℕ} (ef : fixup ≡ secondFixup (f .mode) (f .partition)) (ew : w ≡ indexSize (f .mode) fixup k) where

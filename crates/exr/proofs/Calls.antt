@@ -1,14 +1,18 @@
 -- The refusals in their order, and what each return of the writing call shows. Assumes nothing.
 use mathlib.Core.Path.{_≡_, refl, sym, ap, ap₂, _∙_}
 use mathlib.Core.Bool.{true, false}
-use mathlib.Core.List.{List, [], _++_, append-nil, append-assoc}
+use mathlib.Core.List.{List, _++_}
 use Prim.Native.Nat.{ℕ, zero, suc, _+_, _-_, _*_, _/_, _≤_}
 use native.Mathlib.Nat.{mul-le-mul, mul-assoc}
 use native.Mathlib.Omega.{arith}
-use lib.ListN.{length, take, drop, length-append, length-drop, drop-of-length-le}
-use lib.Seq.{take-at, drop-at, take-all, drop-drop}
+use lib.Dec.{eqb}
+use lib.ListN.{length, take, drop, length-append}
+use lib.Seq.{take-at}
 use borrow.Rule.Slice.PartMut.{midOf, putMid}
+use borrow.Author.Tests.{eqb-true, eqb-false}
 use Rattle.laws.specs.Pick.{pick}
+use Rattle.laws.proofs.Tests.{cases}
+use Rattle.laws.proofs.Pasting.{behind-front}
 use Rattle.bcn_spec.specs.Answers.{done}
 use Rattle.pfm.specs.File.{sizeWritable}
 use Rattle.pfm.proofs.Calls.{small, size-means, bytes-are, WriteKnown, write-known}
@@ -110,11 +114,10 @@ module _ {blocks : List ℕ} {format width height : ℕ} {out after : List ℕ} 
 
   -- where it is not done, no byte is counted and none is changed
   pub silent : (r .answer ≡ done → ⊥) → (r .bytes ≡ 0) × (after ≡ out)
-  silent n = go (writeRefusal (length blocks) format width height (length out)) refl
-    where
-      go : (k : ℕ) → writeRefusal (length blocks) format width height (length out) ≡ k → (r .bytes ≡ 0) × (after ≡ out)
-      go zero q = absurd (n (write-number ∙ q))
-      go (suc k) q = (ap (λ (x : ExrWritten). x .bytes) (w .answers) ∙ rw q, rw q at (w .holds))
+  silent n =
+      let k = writeRefusal (length blocks) format width height (length out) in
+      let some : k ≡ suc (k - 1) = omega (arith, write-number) in
+      (ap (λ (x : ExrWritten). x .bytes) (w .answers) ∙ rw some, w .holds ∙ rw some)
 
   module _ (z : r .answer ≡ done) where
     fine : writeRefusal (length blocks) format width height (length out) ≡ done
@@ -133,14 +136,13 @@ module _ {blocks : List ℕ} {format width height : ℕ} {out after : List ℕ} 
 pub bytes-most : {blocks : List ℕ} {format width height : ℕ} {out after : List ℕ} {r : ExrWritten} → PictureWritten blocks format width height out r after
     → r .bytes ≤ 100729145
 unfolding fileLength lineLength
-bytes-most {blocks} {format} {width} {height} {out} {after} {r} w = go (writeRefusal (length blocks) format width height (length out)) refl
-  where
-    go : (k : ℕ) → writeRefusal (length blocks) format width height (length out) ≡ k → r .bytes ≤ 100729145
-    go zero q =
-        let z : r .answer ≡ done = write-number w ∙ q in
-        let m = lines-small width height (done-known w z .even) in
-        omega (arith, done-bytes w z, m .all, m .front)
-    go (suc k) q = let e : r .bytes ≡ 0 = ap (λ (x : ExrWritten). x .bytes) (w .answers) ∙ rw q in omega arith
+bytes-most {width = width} {height} {r = r} w =
+    cases (eqb (r .answer) done)
+    (λ t.
+    let z = eqb-true _ _ t in
+    let m = lines-small width height (done-known w z .even) in
+    omega (arith, done-bytes w z, m .all, m .front))
+    (λ f. let s = silent w (eqb-false _ _ f) in omega (arith, s .0))
 
 pub length-file : (blocks : List ℕ) (format width height : ℕ) → length (fileOf blocks format width height) ≡ fileLength width height
 unfolding fileIn fileLength
@@ -160,11 +162,10 @@ written-file {blocks} {format} {width} {height} {out} w z =
 module _ (blocks : List ℕ) (format width height : ℕ) (out : List ℕ) where
   module _ {answer : ℕ} (e : answer ≡ writeRefusal (length blocks) format width height (length out)) where
     pub told-refused : {r : ExrWritten} → (answer ≡ done → ⊥) → r ≡ record { answer = answer; bytes = 0 } → PictureWritten blocks format width height out r out
-    told-refused {r} n q = go (writeRefusal (length blocks) format width height (length out)) refl
-      where
-        go : (k : ℕ) → writeRefusal (length blocks) format width height (length out) ≡ k → PictureWritten blocks format width height out r out
-        go zero z = absurd (n (e ∙ z))
-        go (suc k) z = record { answers = q ∙ rw (e, z); holds = rw z }
+    told-refused n q =
+        let k = writeRefusal (length blocks) format width height (length out) in
+        let some : k ≡ suc (k - 1) = omega arith in
+        record { answers = q ∙ rw (e, some); holds = rw some }
 
     -- the front, and then the rows of blocks in what is behind it
     pub told-done : answer ≡ done → (with-front part : List ℕ) {at size : ℕ} → Written out 0 (frontOf width height) at with-front
@@ -179,26 +180,14 @@ module _ (blocks : List ℕ) (format width height : ℕ) (out : List ℕ) where
         let l = length-is width height (known .even) i in
         let k = small width height (known .even) in
         let h = frontOf width height in
-        let n = frontLength height in
-        let body = linesOf blocks format (width / 4) width height in
-        let eh : length h ≡ n = front-length-is width height in
-        let ea : at ≡ n = w .next-is ∙ (let z : 0 + length h ≡ n = omega arith in z) in
-        let room : length h ≤ length out = omega (arith, known .fits) in
-        let em : m ≡ h ++ drop n out = w .exit-is ∙ sets-front h out room ∙ ap (λ (x : ℕ). h ++ drop x out) eh in
-        let before : take at m ≡ h = ap₂ take ea em ∙ take-at h (drop n out) n eh in
-        let rest : drop at m ≡ drop n out = ap₂ drop ea em ∙ drop-at h (drop n out) n eh in
-        let mid : midOf at (length m - at) m ≡ drop n out =
-        take-all (length m - at) (drop at m) (let d = length-drop at m in omega arith) ∙ rest in
-        let none : drop (length m - at) (drop at m) ≡ [] =
-        drop-of-length-le (drop at m) {i = length m - at} (let d = length-drop at m in omega arith) in
-        let same : bandsOf blocks format (width / 4) (height / 4) ≡ body =
+        let end : length h ≡ at = omega (arith, w .next-is) in
+        let front : m ≡ h ++ drop at out = w .exit-is ∙ sets-front h out (omega (arith, known .fits, front-length-is width height)) ∙ ap (λ (x : ℕ). h ++ drop x out) end in
+        let lines : bandsOf blocks format (width / 4) (height / 4) ≡ linesOf blocks format (width / 4) width height =
         sym (lines-bands blocks format (width / 4) (height / 4)) ∙ ap₂ (linesOf blocks format (width / 4)) (k .whole-width) (k .whole-height) in
-        let behind : drop ((32 + 96 * (width / 4)) * (height / 4)) (drop n out) ≡ drop (n + lineLength width * height) out =
-        ap (λ (x : ℕ). drop x (drop n out)) (bytes-lines width height (known .even)) ∙ drop-drop (lineLength width * height) n out in
-        let whole : part ≡ body ++ drop (n + lineLength width * height) out =
-        p ∙ ap₂ (λ (a b : List ℕ). a ++ b) same (ap (drop ((32 + 96 * (width / 4)) * (height / 4))) mid ∙ behind) in
+        let all : at + (32 + 96 * (width / 4)) * (height / 4) ≡ frontLength height + lineLength width * height =
+        omega (arith, end, front-length-is width height, bytes-lines width height (known .even)) in
         record {
           answers = rw (e, z, l);
-          holds = ap₂ (λ (a b : List ℕ). a ++ b) before (ap (λ (t : List ℕ). part ++ t) none ∙ append-nil part ∙ whole)
-              ∙ sym (append-assoc h body (drop (n + lineLength width * height) out)) ∙ rw z;
+          holds = behind-front h (bandsOf blocks format (width / 4) (height / 4)) out m part at ((32 + 96 * (width / 4)) * (height / 4)) end front p
+              ∙ (λ i. (h ++ lines i) ++ drop (all i) out) ∙ rw z;
         }

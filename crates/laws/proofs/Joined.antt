@@ -1,16 +1,17 @@
 -- Lists of one length, one after the other, and a loop that writes them into parts of a lent list. Assumes nothing.
 use mathlib.Core.Path.{_≡_, _∙_, refl, sym, ap, ap₂}
-use mathlib.Core.List.{List, [], _++_, append-nil, append-assoc}
+use mathlib.Core.List.{List, _++_, append-assoc}
 use mathlib.Core.Logic.{⊎-elim}
 use Prim.Native.Nat.{ℕ, zero, suc, _+_, _-_, _*_, _≤_, _<_}
 use native.Mathlib.Nat.{le-of-suc-le-suc, not-suc-le-zero, eq-or-lt-of-le, mul-add, mul-le-mul-left}
 use native.Mathlib.Numerals.{add-one}
 use native.Mathlib.Omega.{arith}
-use lib.ListN.{length, getD, take, drop, length-append, length-drop, drop-of-length-le, List·getD-append}
-use lib.Seq.{take-all, take-at, drop-at, drop-drop, getD-append-add}
+use lib.ListN.{length, getD, take, drop, length-append, List·getD-append}
+use lib.Seq.{take-at, drop-at, getD-append-add}
 use borrow.Rule.Slice.PartMut.{midOf, putMid}
 use Rattle.laws.specs.Made.{made, join}
 use Rattle.laws.proofs.Rows.{join-last}
+use Rattle.laws.proofs.Pasting.{behind-front}
 
 pub run-more : (f : ℕ → List ℕ) (n : ℕ) → join (made f (n + 1)) ≡ join (made f n) ++ f n
 unfolding made
@@ -54,22 +55,11 @@ module _ (f : ℕ → List ℕ) (size : ℕ) (each : (n : ℕ) → length (f n) 
   run-start out = let z : size * 0 ≡ 0 = omega arith in rw z
 
   -- list n is written into the part that begins behind the lists before it
-  pub run-step : (out₀ out part : List ℕ) (n : ℕ) → out ≡ join (made f n) ++ drop (size * n) out₀ → length out ≡ length out₀ → size * n + size ≤ length out₀
-      → part ≡ f n ++ drop size (midOf (size * n) (length out - size * n) out)
+  pub run-step : (out₀ out part : List ℕ) (n : ℕ) → out ≡ join (made f n) ++ drop (size * n) out₀ → part ≡ f n ++ drop size (midOf (size * n) (length out - size * n) out)
       → putMid (size * n) (length out - size * n) out part ≡ join (made f (n + 1)) ++ drop (size * (n + 1)) out₀
-  run-step out₀ out part n e len room shown =
-      let before : take (size * n) out ≡ join (made f n) = ap (take (size * n)) e ∙ take-at (join (made f n)) (drop (size * n) out₀) (size * n) (run-length n) in
-      let rest : drop (size * n) out ≡ drop (size * n) out₀ = ap (drop (size * n)) e ∙ drop-at (join (made f n)) (drop (size * n) out₀) (size * n) (run-length n) in
-      let mid : midOf (size * n) (length out - size * n) out ≡ drop (size * n) out₀ =
-      take-all (length out - size * n) (drop (size * n) out) (let l = length-drop (size * n) out in omega arith) ∙ rest in
-      let behind : drop size (drop (size * n) out₀) ≡ drop (size * (n + 1)) out₀ =
-      drop-drop size (size * n) out₀ ∙ ap (λ (k : ℕ). drop k out₀) (sym (more n)) in
-      let none : drop (length out - size * n) (drop (size * n) out) ≡ [] =
-      drop-of-length-le (drop (size * n) out) {i = length out - size * n} (let l = length-drop (size * n) out in omega arith) in
-      ap₂ (λ (x y : List ℕ). x ++ y) before
-      (ap (λ (t : List ℕ). part ++ t) none ∙ append-nil part ∙ shown ∙ ap (λ (t : List ℕ). f n ++ drop size t) mid ∙ ap (λ (t : List ℕ). f n ++ t) behind)
-      ∙ sym (append-assoc (join (made f n)) (f n) (drop (size * (n + 1)) out₀))
-      ∙ ap (λ (t : List ℕ). t ++ drop (size * (n + 1)) out₀) (sym (run-more f n))
+  run-step out₀ out part n e shown =
+      behind-front (join (made f n)) (f n) out₀ out part (size * n) size (run-length n) e shown
+      ∙ ap₂ (λ (t : List ℕ) (k : ℕ). t ++ drop k out₀) (sym (run-more f n)) (sym (more n))
 
   -- all are written
   pub run-end : (out₀ out : List ℕ) (count n : ℕ) → out ≡ join (made f n) ++ drop (size * n) out₀ → n ≤ count → count ≤ n

@@ -1,11 +1,13 @@
--- Laws of a copy into lent bytes: a turn of the loop that copies, and what stands at the front once more is written. Assumes nothing.
+-- Laws of a copy into lent bytes: a turn of the loop that copies, what stands at the front once more is written, and the rest that is lent on.
+-- Assumes nothing.
 use mathlib.Core.Path.{_≡_, sym, _∙_, ap, ap₂}
-use mathlib.Core.List.{List, _++_}
-use Prim.Native.Nat.{ℕ, _+_, _≤_, _<_}
+use mathlib.Core.List.{List, [], _++_, append-nil, append-assoc}
+use Prim.Native.Nat.{ℕ, _+_, _-_, _≤_, _<_}
 use native.Mathlib.Numerals.{add-one}
 use native.Mathlib.Omega.{arith}
-use lib.ListN.{length, getD, take, drop, set, length-append, length-take, length-drop, List·getD-append}
-use lib.Seq.{take-at, drop-at, drop-drop, getD-take, getD-drop, paste, paste-suc}
+use lib.ListN.{length, getD, take, drop, set, length-append, length-take, length-drop, drop-of-length-le, List·getD-append}
+use lib.Seq.{take-all, take-at, drop-at, drop-drop, getD-take, getD-drop, paste, paste-suc}
+use borrow.Rule.Slice.PartMut.{midOf, putMid}
 
 -- ---- a turn
 
@@ -45,3 +47,24 @@ module _ (front s lent out : List ℕ) (at size : ℕ) (e : length front ≡ at)
       let d : drop (at + size) out ≡ drop (at + size) lent =
       sym (drop-drop size at out) ∙ ap (drop size) (ap (drop at) w ∙ drop-at front (drop at lent) at e) ∙ drop-drop size at lent in
       ap₂ (λ (x y : List ℕ). (x ++ take size s) ++ y) a d
+
+-- ---- the rest of a place, lent from n on
+
+module _ (out : List ℕ) (n : ℕ) where
+  pub rest-lent : midOf n (length out - n) out ≡ drop n out
+  rest-lent = take-all (length out - n) (drop n out) (simp length-drop (omega arith))
+
+  pub rest-put : (part : List ℕ) → putMid n (length out - n) out part ≡ take n out ++ part
+  rest-put part =
+      let none : drop (length out - n) (drop n out) ≡ [] = drop-of-length-le (drop n out) {i = length out - n} (simp length-drop (omega arith)) in
+      ap (λ (t : List ℕ). take n out ++ t) (ap (λ (t : List ℕ). part ++ t) none ∙ append-nil part)
+
+-- a list that was put there stands behind what was in front
+pub behind-front : (front xs lent out part : List ℕ) (n size : ℕ) → length front ≡ n → out ≡ front ++ drop n lent
+    → part ≡ xs ++ drop size (midOf n (length out - n) out) → putMid n (length out - n) out part ≡ (front ++ xs) ++ drop (n + size) lent
+behind-front front xs lent out part n size e w p =
+    rest-put out n part
+    ∙ ap₂ (λ (a b : List ℕ). a ++ b) (ap (take n) w ∙ take-at front (drop n lent) n e)
+    (p ∙ ap (λ (t : List ℕ). xs ++ drop size t) (rest-lent out n ∙ ap (drop n) w ∙ drop-at front (drop n lent) n e)
+    ∙ ap (λ (t : List ℕ). xs ++ t) (drop-drop size n lent))
+    ∙ sym (append-assoc front xs (drop (n + size) lent))

@@ -81,7 +81,7 @@ module _ {other store : List ℕ} (small : Sized other) (sized : Sized store) wh
 -- ---- a cleaned store
 
 module _ (store : List ℕ) (sized : Sized store) where
-  cleaned-size : length (cleanedOf store) ≡ stayCount store * recordSize
+  pub cleaned-size : length (cleanedOf store) ≡ stayCount store * recordSize
   cleaned-size = left-length (goes store) store (recordsIn store) (omega arith)
 
   few : stayCount store ≤ recordsIn store

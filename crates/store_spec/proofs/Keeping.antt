@@ -1,18 +1,19 @@
 -- Laws of the scratch space: a picture that is put at its place, a fingerprint that is put at its own, and what is found of them. Assumes
 -- nothing.
 use mathlib.Core.Path.{_≡_, sym, _∙_, ap, ap₂}
-use mathlib.Core.List.{List, [], _++_, append-nil, append-assoc}
+use mathlib.Core.List.{List, _++_, append-assoc}
 use Prim.Native.Nat.{ℕ, _+_, _-_, _*_, _≤_, _<_}
 use native.Mathlib.Numerals.{add-one}
 use native.Mathlib.Omega.{arith}
-use lib.ListN.{length, getD, take, drop, set, length-take, length-drop, take-append-drop, drop-of-length-le, List·getD-append}
-use lib.Seq.{take-all, drop-at, drop-drop, getD-take, getD-drop, set-getD, length-take-le}
+use lib.ListN.{length, getD, take, drop, set, length-take, length-drop, take-append-drop, List·getD-append}
+use lib.Seq.{drop-at, drop-drop, getD-take, getD-drop, set-getD, length-take-le}
 use borrow.Author.Tests.{eq-eqb, ne-eqb}
 use borrow.Rule.Slice.PartMut.{midOf, putMid}
 use Rattle.laws.specs.Pick.{pick}
 use Rattle.laws.specs.Made.{made, join}
 use Rattle.laws.proofs.Rows.{length-made, getD-made, made-more, made-next, made-each, made-same}
 use Rattle.laws.proofs.Joined.{run-more, run-step, run-end, run-at}
+use Rattle.laws.proofs.Pasting.{rest-lent, rest-put}
 use Rattle.bc6h_spec.specs.Picture.{valueCount}
 use Rattle.store_records.specs.Store.{recordsIn, formatOf, Unrefused}
 use Rattle.store_spec.specs.Shown.{pictureAt, Reserved, isRecord}
@@ -81,12 +82,11 @@ module _ (store lent : List ℕ) where
       ∙ ap (λ (t : List ℕ). t ++ drop (valueCount * (n + 1)) lent) (sym (run-more (slotAt store lent) n))
 
   -- another is put there
-  pub slot-put : (pictures part : List ℕ) (n : ℕ) → Fore n pictures → length pictures ≡ length lent → Unrefused store n
-      → valueCount * n + valueCount ≤ length lent
+  pub slot-put : (pictures part : List ℕ) (n : ℕ) → Fore n pictures → Unrefused store n
       → part ≡ pictureAt store n ++ drop valueCount (midOf (valueCount * n) (length pictures - valueCount * n) pictures)
       → Fore (n + 1) (putMid (valueCount * n) (length pictures - valueCount * n) pictures part)
-  slot-put pictures part n e l u room shown =
-      run-step (slotAt store lent) valueCount slot-length lent pictures part n e l room
+  slot-put pictures part n e u shown =
+      run-step (slotAt store lent) valueCount slot-length lent pictures part n e
       (shown ∙ ap (λ (t : List ℕ). t ++ drop valueCount (midOf (valueCount * n) (length pictures - valueCount * n) pictures)) (sym (slot-picture n u)))
 
   pub slots-done : (pictures : List ℕ) (n : ℕ) → Fore n pictures → n ≤ recordsIn store → recordsIn store ≤ n → pictures ≡ picturesOf store lent
@@ -135,27 +135,18 @@ module _ (store lent : List ℕ) where
       ∙ ap (λ (j : ℕ). drop j lent) (sym split))
 
 -- the pictures were kept in the part behind the fingerprints' places
-behind : (store lent part : List ℕ) → recordsIn store ≤ length lent
-    → part ≡ picturesOf store (midOf (recordsIn store) (length lent - recordsIn store) lent)
-    → putMid (recordsIn store) (length lent - recordsIn store) lent part ≡ take (recordsIn store) lent ++ picturesOf store (drop (recordsIn store) lent)
-behind store lent part room e =
-    let count = recordsIn store in
-    let behind = drop count lent in
-    let size : length behind ≡ length lent - count = length-drop count lent in
-    let mid : midOf count (length lent - count) lent ≡ behind = take-all (length lent - count) behind (omega arith) in
-    let none : drop (length lent - count) behind ≡ [] = drop-of-length-le behind {i = length lent - count} (omega arith) in
-    ap (λ (t : List ℕ). take count lent ++ t)
-    (ap (λ (t : List ℕ). part ++ t) none ∙ append-nil part ∙ e ∙ ap (λ (t : List ℕ). picturesOf store t) mid)
-
-pub put-behind : (store lent part : List ℕ) (count : ℕ) → count ≡ recordsIn store → recordsIn store ≤ length lent
+pub put-behind : (store lent part : List ℕ) (count : ℕ) → count ≡ recordsIn store
     → part ≡ picturesOf store (midOf count (length lent - count) lent)
     → putMid count (length lent - count) lent part ≡ take (recordsIn store) lent ++ picturesOf store (drop (recordsIn store) lent)
-put-behind store lent part count c = rw c (behind store lent part)
+put-behind store lent part count c e =
+    rest-put lent count part
+    ∙ ap (λ (t : List ℕ). take count lent ++ t) (e ∙ ap (picturesOf store) (rest-lent lent count))
+    ∙ ap (λ (n : ℕ). take n lent ++ picturesOf store (drop n lent)) c
 
 pub pictured-behind : (store lent part : List ℕ) (count : ℕ) → count ≡ recordsIn store → recordsIn store ≤ length lent
     → part ≡ picturesOf store (midOf count (length lent - count) lent) → Pictured store (putMid count (length lent - count) lent part)
 pictured-behind store lent part count c room e =
-    pictures-kept store (drop (recordsIn store) lent) (take (recordsIn store) lent) (put-behind store lent part count c room e)
+    pictures-kept store (drop (recordsIn store) lent) (take (recordsIn store) lent) (put-behind store lent part count c e)
     (length-take-le (recordsIn store) lent room)
 
 -- the fingerprints before the pictures: all that is kept

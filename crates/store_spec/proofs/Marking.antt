@@ -236,7 +236,7 @@ module _ (store : List ℕ) (n : ℕ) where
 
 -- ---- the first record that a twin equals is no twin itself
 
-alike-through : {store : List ℕ} {n middle first : ℕ} → Alike store n middle → Alike store middle first → Alike store n first
+pub alike-through : {store : List ℕ} {n middle first : ℕ} → Alike store n middle → Alike store middle first → Alike store n first
 alike-through a b =
     record {
       unrefused = a .unrefused;

@@ -14,9 +14,9 @@ use Rattle.laws.proofs.Sameness.{true-false, not-so}
 use Rattle.store_records.specs.Store.{recordSize, recordsIn}
 use Rattle.store_clean.specs.Clean.{goes, recordOf, left, cleanedOf, stayCount}
 use Rattle.store_clean.proofs.Repeating.{each-has-one, goes-by}
-use Rattle.store_clean.proofs.Leaving.{record-front, left-length}
+use Rattle.store_clean.proofs.Leaving.{record-front}
 use Rattle.store_clean.proofs.Cleaning as cleaning
-use Rattle.store_clean.proofs.Moving.{Sized, Moved, repeats-moved, cleaned-records, cleaned-sized, cleaned-again}
+use Rattle.store_clean.proofs.Moving.{Sized, Moved, repeats-moved, cleaned-size, cleaned-records, cleaned-sized, cleaned-again}
 use Rattle.store_theorems.specs.Growing.{CleanedGrows, Nightly}
 use Rattle.store_theorems.proofs.Carrying.{turned, stays-there, origin}
 use Rattle.store_theorems.proofs.Pictures.{sized-when}
@@ -98,9 +98,6 @@ module _ (store more : List ℕ) (sized : Sized store) (longer : Sized (store ++
   small : Sized (cleanedOf store)
   small = cleaned-sized store sized
 
-  cleaned-size : length (cleanedOf store) ≡ stayCount store * recordSize
-  cleaned-size = left-length (goes store) store (recordsIn store) (omega arith)
-
   stay-count : recordsIn (cleanedOf store) ≡ stayCount store
   stay-count = cleaned-records store sized
 
@@ -115,7 +112,7 @@ module _ (store more : List ℕ) (sized : Sized store) (longer : Sized (store ++
         here = omega (arith, count (cleanedOf store) more small nightly, stay-count);
         there = omega (arith, count store more sized longer);
         same-record =
-            record-behind (cleanedOf store) more (stayCount store) j cleaned-size
+            record-behind (cleanedOf store) more (stayCount store) j (cleaned-size store sized)
             ∙ sym (record-behind store more (recordsIn store) j (size store more sized longer));
       }
 

@@ -12,8 +12,8 @@ use Rattle.bcn_spec.specs.Answers.{done}
 use Rattle.store_records.specs.Store.{recordSize, recordsIn, Unrefused}
 use Rattle.store_spec.specs.declared.TwinList.{TwinList}
 use Rattle.store_spec.specs.Shown.{isRecord}
-use Rattle.store_spec.specs.Twins.{keptMark, Alike, firstTwin, markAt, Listed}
-use Rattle.store_spec.proofs.Marking.{mark-bad, mark-kept, first-alike, first-stays}
+use Rattle.store_spec.specs.Twins.{keptMark, firstTwin, markAt, Listed}
+use Rattle.store_spec.proofs.Marking.{mark-bad, mark-kept, first-alike, alike-through, first-stays}
 use Rattle.store_spec.proofs.Listing as listing
 use Rattle.store_clean.specs.Clean.{recordOf, cleanedOf}
 use Rattle.store_clean.proofs.Cleaning as cleaning
@@ -24,17 +24,6 @@ use Rattle.store_theorems.proofs.Pictures.{sized-when}
 use Rattle.store_theorems.proofs.Growing.{sized-list}
 
 -- ---- looking alike
-
-alike-through : {store : List ℕ} {l m n : ℕ} → Alike store l m → Alike store m n → Alike store l n
-alike-through a b =
-    record {
-      unrefused = a .unrefused;
-      earlier-unrefused = b .earlier-unrefused;
-      same-format = b .same-format ∙ a .same-format;
-      unreserved = a .unreserved;
-      earlier-unreserved = b .earlier-unreserved;
-      same-values = b .same-values ∙ a .same-values;
-    }
 
 pub alike-is-equivalence : AlikeIsEquivalence
 alike-is-equivalence store =

@@ -41,7 +41,7 @@ loop-again c =
     let l = shown .before .before .before .before .before .before .loop in
     let size : 16 * l .n + 16 - 16 * l .n ≡ 16 = omega arith in (
       search needs,
-      run-step _ _ _ _ _ (l .n) (l .inv .1) (l .inv .2) (omega arith) (painted-part _ (l .n) (16 * l .n + 16 - 16 * l .n) _ _ _ _ _ (new .ensures) (k .ensures) size),
+      run-step _ _ _ _ _ (l .n) (l .inv .1) (painted-part _ (l .n) (16 * l .n + 16 - 16 * l .n) _ _ _ _ _ (new .ensures) (k .ensures) size),
       same-len-mid {X = ℕ} (48 * l .n) (length (l .out) - 48 * l .n) (l .out) (k .last .1 .1 .1 .1 .0) (k .kept .1 .1 .1 .1 .0) ∙ l .inv .2,
       run-counted _ _ (l .n) (l .infinite) _ (l .inv .3) (counted-part _ (l .n) (16 * l .n + 16 - 16 * l .n) _ _ _ _ _ (new .ensures) (k .ensures) size),
     )

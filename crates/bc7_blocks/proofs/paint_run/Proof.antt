@@ -25,7 +25,7 @@ loop-again c =
     let l = c .before .before .before .before .before .before .loop in
     let size : 16 * l .n + 16 - 16 * l .n ≡ 16 = omega arith in (
       search needs,
-      run-step (shownAt _) 64 (each _) _ _ _ (l .n) (l .inv .1) (l .inv .2) (omega arith)
+      run-step (shownAt _) 64 (each _) _ _ _ (l .n) (l .inv .1)
           (painted-part _ _ (l .n) (16 * l .n + 16 - 16 * l .n) _ _ (k .ensures) size (simp (length-take, length-drop) (omega arith)) (simp (length-take, length-drop) (omega arith))),
       same-len-mid {X = ℕ} (64 * l .n) (length (l .out) - 64 * l .n) (l .out) (k .last .1 .0) (k .kept .1 .0) ∙ l .inv .2,
     )

@@ -2,7 +2,6 @@
 use borrow.Author.Needs.{needs}
 use mathlib.Core.Path.{_≡_, refl, _∙_}
 use mathlib.Core.List.{_++_}
-use native.Mathlib.Omega.{arith}
 use Prim.Native.Nat.{ℕ, _≤_, _+_, _-_, _*_}
 use borrow.Rule.Slice.PartMut.{midOf, same-len-mid}
 use lib.ListN.{length, drop}
@@ -25,7 +24,7 @@ loop-again c =
     let l = c .before .before .before .before .before .before .before .loop in
     let e = c .before .before .before .before .before .piece-end in (
       search needs,
-      run-step (shownAt _) 66 (each _) _ _ _ (l .i) (l .inv .1) (l .inv .2) (omega arith)
+      run-step (shownAt _) 66 (each _) _ _ _ (l .i) (l .inv .1)
           (piece-shown _ (midOf (66 * l .i) (length (l .out) - 66 * l .i) (l .out)) _ (l .i) _ (e .ensures .is) (k .ensures)),
       same-len-mid {X = ℕ} (66 * l .i) (length (l .out) - 66 * l .i) (l .out) (k .last .1 .0) (k .kept .1 .0) ∙ l .inv .2,
     )

@@ -38,7 +38,7 @@ loop-again c =
     let p = here (c .before .before .before .before) in
     let size = 32 + 96 * s .across in (
       search needs,
-      run-step (bandOf _ _ _) size (length-of _ _ _) _ _ _ (l .n) (l .inv .1) (l .inv .2) (p .behind-it) (w .ensures),
+      run-step (bandOf _ _ _) size (length-of _ _ _) _ _ _ (l .n) (l .inv .1) (w .ensures),
       same-len-mid {X = ℕ} (size * l .n) (length (l .out) - size * l .n) (l .out) (w .last .1 .1 .1 .1 .1 .0) (w .kept .1 .1 .1 .1 .1 .0) ∙ l .inv .2,
     )
 

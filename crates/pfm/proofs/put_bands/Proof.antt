@@ -41,7 +41,7 @@ loop-again c =
     let p = here (c .before .before .before .before) in
     let size = 192 * s .across in (
       search needs,
-      run-step (bandUp _ _ _ _) size (length-up _ _ _ _) _ _ _ (l .n) (l .inv .1) (l .inv .2) (omega arith) (w .ensures),
+      run-step (bandUp _ _ _ _) size (length-up _ _ _ _) _ _ _ (l .n) (l .inv .1) (w .ensures),
       same-len-mid {X = ℕ} (size * l .n) (length (l .out) - size * l .n) (l .out) (w .last .1 .1 .1 .1 .0) (w .kept .1 .1 .1 .1 .0) ∙ l .inv .2,
     )
 

@@ -23,7 +23,7 @@ loop-holds : tie.Need-loop-holds Inv-loop μ-loop
 loop-holds c = (search needs, run-start (builtRecord _ _ _ _) placeSize (each-length _ _ _ _) _, refl)
 
 loop-again : tie.Need-loop-again Inv-loop μ-loop
-loop-again c = let w = c .before .before .write-record in let b = c .before .before .before .before in let l = b .before .before .before .loop in (search needs, run-step (builtRecord _ _ _ _) placeSize (each-length _ _ _ _) _ _ _ (l .n) (l .inv .1) (l .inv .2) (omega arith) (record-shown _ _ _ _ _ (midOf (placeSize * l .n) (length (l .out) - placeSize * l .n) (l .out)) (b .before .tile-of .ensures) (b .place-of .ensures) (w .ensures)), same-len-mid {X = ℕ} (placeSize * l .n) (length (l .out) - placeSize * l .n) (l .out) (w .last .1 .1 .1 .1 .1 .0) (w .kept .1 .1 .1 .1 .1 .0) ∙ l .inv .2)
+loop-again c = let w = c .before .before .write-record in let b = c .before .before .before .before in let l = b .before .before .before .loop in (search needs, run-step (builtRecord _ _ _ _) placeSize (each-length _ _ _ _) _ _ _ (l .n) (l .inv .1) (record-shown _ _ _ _ _ (midOf (placeSize * l .n) (length (l .out) - placeSize * l .n) (l .out)) (b .before .tile-of .ensures) (b .place-of .ensures) (w .ensures)), same-len-mid {X = ℕ} (placeSize * l .n) (length (l .out) - placeSize * l .n) (l .out) (w .last .1 .1 .1 .1 .1 .0) (w .kept .1 .1 .1 .1 .1 .0) ∙ l .inv .2)
 
 returns : tie.Need-returns Inv-loop μ-loop
 returns c = let s = c .before .before .before .before .before in built-whole _ _ _ _ (s .args .out .now) (c .before .before .record-count .ensures .0) (run-end (builtRecord _ _ _ _) placeSize (each-length _ _ _ _) _ _ _ (c .before .loop .n) (c .before .loop .inv .1) (search needs) (search needs))

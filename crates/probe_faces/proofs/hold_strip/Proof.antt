@@ -25,7 +25,7 @@ show-block-requires : tie.Need-show-block-requires Inv-loop μ-loop
 show-block-requires c κs = let o = c .before .held-record .ensures in (o .inside, o .format, simp (length-take, length-drop) (omega arith))
 
 loop-again : tie.Need-loop-again Inv-loop μ-loop
-loop-again c = let k = c .before .before .show-block in let l = c .before .before .before .before .before .before .loop in (search needs, run-step (stripBlock _ _ _) 48 (block-length _ _ _) _ _ _ (l .column) (l .inv .1) (l .inv .2) (omega arith) (strip-shown _ (midOf (48 * l .column) (length (l .strip) - 48 * l .column) (l .strip)) (c .before .before .before .before .held-record .ensures) (k .ensures)), same-len-mid {X = ℕ} (48 * l .column) (length (l .strip) - 48 * l .column) (l .strip) (k .last .1 .1 .0) (k .kept .1 .1 .0) ∙ l .inv .2)
+loop-again c = let k = c .before .before .show-block in let l = c .before .before .before .before .before .before .loop in (search needs, run-step (stripBlock _ _ _) 48 (block-length _ _ _) _ _ _ (l .column) (l .inv .1) (strip-shown _ (midOf (48 * l .column) (length (l .strip) - 48 * l .column) (l .strip)) (c .before .before .before .before .held-record .ensures) (k .ensures)), same-len-mid {X = ℕ} (48 * l .column) (length (l .strip) - 48 * l .column) (l .strip) (k .last .1 .1 .0) (k .kept .1 .1 .0) ∙ l .inv .2)
 
 returns : tie.Need-returns Inv-loop μ-loop
 returns c = run-end (stripBlock _ _ _) 48 (block-length _ _ _) _ _ _ (c .before .loop .column) (c .before .loop .inv .1) (search needs) (search needs)

@@ -32,7 +32,7 @@ write-strip-requires : tie.Need-write-strip-requires Inv-loop μ-loop
 write-strip-requires c κs = let m = room (c .before .before .before .before .before) in ((c .before .before .before .before .before .before .before .before .before .before .pre .0 .edge-last), c .before .before .before .hold-strip .kept .1 .1 .1 .1 .1 .0 ∙ c .before .before .before .before .before .before .loop .inv .3, simp (length-take, length-drop) (omega arith))
 
 loop-again : tie.Need-loop-again Inv-loop μ-loop
-loop-again c = let w = c .before .before .write-strip in let l = c .before .before .before .before .before .before .before .before .before .loop in let e = c .before .before .before .before .before .before .before .before .before .before .before .before .before .args .edge in (search needs, run-step (fourRows _ _ _) (48 * e) (four-length _ _ _) _ _ _ (l .row) (l .inv .1) (l .inv .2) (let m = room (c .before .before .before .before .before .before .before .before) in omega arith) (four-shown _ _ _ (l .row) _ _ (drop (48 * e) (midOf (48 * e * l .row) (length (l .out) - 48 * e * l .row) (l .out))) (c .before .before .before .before .before .before .hold-strip .ensures) (w .ensures)), same-len-mid {X = ℕ} (48 * e * l .row) (length (l .out) - 48 * e * l .row) (l .out) (w .last .1 .1 .0) (w .kept .1 .1 .0) ∙ l .inv .2, c .before .before .before .before .before .before .hold-strip .kept .1 .1 .1 .1 .1 .0 ∙ l .inv .3)
+loop-again c = let w = c .before .before .write-strip in let l = c .before .before .before .before .before .before .before .before .before .loop in let e = c .before .before .before .before .before .before .before .before .before .before .before .before .before .args .edge in (search needs, run-step (fourRows _ _ _) (48 * e) (four-length _ _ _) _ _ _ (l .row) (l .inv .1) (four-shown _ _ _ (l .row) _ _ (drop (48 * e) (midOf (48 * e * l .row) (length (l .out) - 48 * e * l .row) (l .out))) (c .before .before .before .before .before .before .hold-strip .ensures) (w .ensures)), same-len-mid {X = ℕ} (48 * e * l .row) (length (l .out) - 48 * e * l .row) (l .out) (w .last .1 .1 .0) (w .kept .1 .1 .0) ∙ l .inv .2, c .before .before .before .before .before .before .hold-strip .kept .1 .1 .1 .1 .1 .0 ∙ l .inv .3)
 
 returns : tie.Need-returns Inv-loop μ-loop
 returns c = let e = c .before .before .before .before .before .args .edge in face-painted _ _ _ _ (run-end (fourRows _ _ _) (48 * e) (four-length _ _ _) _ _ e (c .before .loop .row) (c .before .loop .inv .1) (search needs) (search needs))

@@ -27,7 +27,7 @@ loop-again c =
     let s = c .before .before .before .before .before .before .before .before .args in
     let n = l .column in (
       search needs,
-      run-step (stripPiece (s .strip .now) (s .k)) 12 (piece-length _ _) (s .out .now) (l .out) _ n (l .inv .1) (l .inv .2) (omega arith)
+      run-step (stripPiece (s .strip .now) (s .k)) 12 (piece-length _ _) (s .out .now) (l .out) _ n (l .inv .1)
           (piece-is (s .strip .now) (midOf (12 * n) (length (l .out) - 12 * n) (l .out)) n (s .k) (w .ensures)),
       same-len-mid {X = ℕ} (12 * n) (length (l .out) - 12 * n) (l .out) (w .last .1 .1 .0) (w .kept .1 .1 .0) ∙ l .inv .2,
     )

@@ -25,7 +25,7 @@ write-row-requires : tie.Need-write-row-requires Inv-loop μ-loop
 write-row-requires c κs = let m = room (c .before) in let s = c .before .before .before .before .before .pre in (s .0, search needs, s .1, simp (length-take, length-drop) (omega arith))
 
 loop-again : tie.Need-loop-again Inv-loop μ-loop
-loop-again c = let w = c .before .before .write-row in let l = c .before .before .before .before .before .loop in let e = c .before .before .before .before .before .before .before .before .args .edge in (search needs, run-step (stripRow _ _) (12 * e) (strip-row-length _ _) _ _ _ (l .k) (l .inv .1) (l .inv .2) (let m = room (c .before .before .before .before) in omega arith) (w .ensures), same-len-mid {X = ℕ} (12 * e * l .k) (length (l .out) - 12 * e * l .k) (l .out) (w .last .1 .1 .1 .0) (w .kept .1 .1 .1 .0) ∙ l .inv .2)
+loop-again c = let w = c .before .before .write-row in let l = c .before .before .before .before .before .loop in let e = c .before .before .before .before .before .before .before .before .args .edge in (search needs, run-step (stripRow _ _) (12 * e) (strip-row-length _ _) _ _ _ (l .k) (l .inv .1) (w .ensures), same-len-mid {X = ℕ} (12 * e * l .k) (length (l .out) - 12 * e * l .k) (l .out) (w .last .1 .1 .1 .0) (w .kept .1 .1 .1 .0) ∙ l .inv .2)
 
 returns : tie.Need-returns Inv-loop μ-loop
 returns c = let e = c .before .before .before .before .args .edge in let q : 12 * e * 4 ≡ 48 * e = omega arith in rw q at (run-end (stripRow _ _) (12 * e) (strip-row-length _ _) _ _ 4 (c .before .loop .k) (c .before .loop .inv .1) (search needs) (search needs))

@@ -31,7 +31,7 @@ loop-again-2 c =
     let l = c .before .before .before .before .before .before .before .before .before .loop in
     let u = unrefused (c .before .before .before .before .before .before .before .record-at .ensures) (c .before .before .before .before .before .found .given .1) in (
       search needs,
-      slot-put _ _ _ _ _ (l .inv .1) (l .inv .2) u (search needs) (k .ensures),
+      slot-put _ _ _ _ _ (l .inv .1) u (k .ensures),
       search needs,
     )
 

@@ -7,7 +7,7 @@ keep-prints-requires : tie.Need-keep-prints-requires
 keep-prints-requires c κs = (search needs, pictured-behind _ _ _ _ (c .before .before .before .before .before .record-count .ensures) (search needs) (c .before .before .before .keep-pictures .ensures))
 
 returns : tie.Need-returns
-returns c = scratch-is _ _ (search needs) (put-behind _ _ _ _ (c .before .before .before .before .before .before .before .before .record-count .ensures) (search needs) (c .before .before .before .before .before .before .keep-pictures .ensures)) (c .before .before .keep-prints .ensures)
+returns c = scratch-is _ _ (search needs) (put-behind _ _ _ _ (c .before .before .before .before .before .before .before .before .record-count .ensures) (c .before .before .before .before .before .before .keep-pictures .ensures)) (c .before .before .keep-prints .ensures)
 
 pub keep-records-spec : {M : Type 1} → statement M
 keep-records-spec =

@@ -6,6 +6,7 @@ use lib.Dec.{ltb}
 use lib.ListN.{length}
 use lib.Seq.{sets}
 use Rattle.laws.specs.Pick.{pick}
+use Rattle.laws.specs.Made.{made, join}
 
 abbrev pub blank : List ℕ
 blank = 32 ∷ []
@@ -41,6 +42,10 @@ storeRefused = 115 ∷ 116 ∷ 111 ∷ 114 ∷ 101 ∷ 32 ∷ 114 ∷ 101 ∷ 10
 -- S-73: of a refused store, these words and the number only.
 unfoldable pub refusalLine : ℕ → List ℕ
 refusalLine number = storeRefused ++ decimal number ++ lineFeed
+
+-- the first so many of a row of lines
+unfoldable pub linesTo : (ℕ → List ℕ) → ℕ → List ℕ
+linesTo line count = join (made line count)
 
 -- S-74: the word is stored from `at` on, `next` is the place behind it, and all else is as it was.
 pub record Written (entry : List ℕ) (at : ℕ) (word : List ℕ) (next : ℕ) (exit : List ℕ) : Type 0 where

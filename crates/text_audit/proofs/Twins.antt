@@ -1,7 +1,7 @@
 -- The audit's lines and counts, as a loop over the records makes them. Assumes nothing.
 use mathlib.Core.Path.{_≡_, refl, sym, _∙_}
 use mathlib.Core.Bool.{Bool, true, false}
-use mathlib.Core.List.{List, _++_, append-nil}
+use mathlib.Core.List.{List, _++_}
 use Prim.Native.Nat.{ℕ, zero, suc, _+_, _≤_, _<_}
 use native.Mathlib.Numerals.{add-one}
 use native.Mathlib.Omega.{arith}
@@ -9,9 +9,7 @@ use lib.Dec.{ltb}
 use lib.ListN.{length}
 use borrow.Author.Tests.{eq-eqb, ne-eqb, lt-ltb, le-ltb}
 use Rattle.laws.specs.Pick.{pick}
-use Rattle.laws.specs.Made.{made}
 use Rattle.laws.proofs.Tests.{picks}
-use Rattle.laws.proofs.Joined.{run-more}
 use Rattle.bcn_spec.specs.Answers.{done}
 use Rattle.store_records.specs.Store.{recordsIn, tileAt, mostRecords}
 use Rattle.store_covered.specs.CleanUp.{covered, byDemand3}
@@ -23,6 +21,7 @@ use Rattle.store_spec.specs.Twins.{twinMark, firstTwin, markAt, listRefusal, Li
 use Rattle.store_spec.proofs.Listing as listed
 use Rattle.text.specs.Text.{field, refusalLine, Written}
 use Rattle.text.proofs.Texts.{then, said}
+use Rattle.text.proofs.Lines as lines
 use Rattle.text_audit.specs.declared.Finding.{Finding}
 use Rattle.text_audit.specs.Audit.{staysFor, findingOf, columnsLine, pairOf, twinLine, isTwin, auditLine, auditLines, twinsWith, isCopy, isAlike, isCovered, isBefore, tallyLine, tallyOf, auditOf, Tallied}
 
@@ -63,8 +62,8 @@ module _ (store : List ℕ) (n mark : ℕ) (here : mark ≡ markAt store n) wher
     uncounted test = rw (add-one n, no-twin) (omega arith)
 
     pub line-skipped : {l m : List ℕ} {at e : ℕ} → Written l at (auditLines store n) e m → Written l at (auditLines store (n + 1)) e m
-    unfolding auditLines auditLine
-    line-skipped w = said w (sym (run-more (auditLine store) n ∙ rw no-twin (append-nil _)))
+    unfolding auditLine
+    line-skipped = lines.line-skipped (auditLine store) n (rw no-twin)
 
     pub tally-skipped : {copies alike covered before : ℕ} → Tallied store n copies alike covered before → Tallied store (n + 1) copies alike covered before
     tally-skipped t = record {
@@ -86,8 +85,8 @@ module _ (store : List ℕ) (n mark : ℕ) (here : mark ≡ markAt store n) wher
 
     pub line-more : {l m₁ m₂ : List ℕ} {at e₁ e₂ : ℕ} → Written l at (auditLines store n) e₁ m₁ → Written m₁ e₁ (twinLine store n finding) e₂ m₂
         → Written l at (auditLines store (n + 1)) e₂ m₂
-    unfolding auditLines auditLine
-    line-more x y = said (then x y) (sym (run-more (auditLine store) n ∙ rw (a-twin, sym found)))
+    unfolding auditLine
+    line-more x y = lines.line-more (auditLine store) n x (said y (rw (a-twin, sym found)))
 
     pub tally-more : {copies alike covered before a b c d : ℕ} → Tallied store n copies alike covered before → a ≡ pick (isCopy finding) 1 0
         → b ≡ pick (isAlike finding) 1 0 → c ≡ pick (isCovered finding) 1 0 → d ≡ pick (isBefore finding) 1 0
@@ -107,10 +106,6 @@ module _ (store : List ℕ) (n mark : ℕ) (here : mark ≡ markAt store n) wher
     }
 
 module _ (store : List ℕ) where
-  pub no-lines : (l : List ℕ) (at : ℕ) → Written l at (auditLines store 0) at l
-  unfolding auditLines made
-  no-lines l at = record { next-is = omega arith; exit-is = refl }
-
   pub no-tally : Tallied store 0 0 0 0 0
   unfolding twinsWith
   no-tally = record { copies-is = refl; alike-is = refl; covered-is = refl; before-is = refl; few = (omega arith, omega arith, omega arith, omega arith) }

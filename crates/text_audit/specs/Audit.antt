@@ -7,14 +7,13 @@ use Prim.Native.Nat.{ℕ, zero, suc, _+_, _≤_}
 use lib.Dec.{eqb}
 use lib.ListN.{length}
 use Rattle.laws.specs.Pick.{pick, both}
-use Rattle.laws.specs.Made.{made, join}
 use Rattle.store_records.specs.Store.{recordsIn, tileAt, mostRecords}
 use Rattle.store_spec.specs.Twins.{twinMark, firstTwin, markAt, listRefusal}
 use Rattle.store_covered.specs.CleanUp.{covered, byDemand3}
 use Rattle.store_clean.specs.Clean.{firstOf, goes}
 use Rattle.store_faulty.specs.declared.FaultCounts.{FaultCounts}
 use Rattle.store_faulty.specs.Faulty.{plainForm, countsOf}
-use Rattle.text.specs.Text.{lineFeed, decimal, field, refusalLine}
+use Rattle.text.specs.Text.{lineFeed, decimal, field, refusalLine, linesTo}
 use Rattle.text_audit.specs.declared.Finding.{Finding}
 
 -- the record that stays beside a twin: where the clean-up removes the twin the one whose copy it is, and else the first that it looks like
@@ -60,8 +59,8 @@ isTwin store n = eqb (markAt store n) twinMark
 unfoldable pub auditLine : List ℕ → ℕ → List ℕ
 auditLine store n = pick (isTwin store n) (twinLine store n (findingOf store n)) []
 
-unfoldable pub auditLines : List ℕ → ℕ → List ℕ
-auditLines store count = join (made (auditLine store) count)
+abbrev pub auditLines : List ℕ → ℕ → List ℕ
+auditLines store = linesTo (auditLine store)
 
 -- ---- the counts
 

@@ -1,16 +1,15 @@
 -- The lines of the faulty records, as a loop over the records makes them, and the whole text. Assumes nothing.
 use mathlib.Core.Path.{_≡_, refl, sym, ap, _∙_}
-use mathlib.Core.List.{List, [], _∷_, append-nil}
-use Prim.Native.Nat.{ℕ, zero, suc, _+_, _-_, _≤_}
+use mathlib.Core.List.{List, [], _∷_}
+use Prim.Native.Nat.{ℕ, zero, suc, _+_, _-_}
 use native.Mathlib.Omega.{arith}
 use lib.ListN.{length, getD, take, drop, length-drop}
 use lib.Seq.{take-all}
 use borrow.Author.Tests.{eq-eqb, ne-eqb}
-use Rattle.laws.specs.Made.{made}
-use Rattle.laws.proofs.Joined.{run-more}
 use Rattle.bcn_spec.specs.Answers.{done}
 use Rattle.text.specs.Text.{field, decimal, lineFeed, refusalLine, Written}
 use Rattle.text.proofs.Texts.{then, said}
+use Rattle.text.proofs.Lines as lines
 use Rattle.store_faulty.specs.declared.FaultCounts.{FaultCounts}
 use Rattle.store_faulty.specs.Faulty.{RecordForm, formOf, countIn, storeRefusal, causeOf, countsOf}
 use Rattle.text_check.specs.Checking.{faultLine, checkLine, checkLines, countsLine, checkingText, checkingOf}
@@ -22,24 +21,15 @@ module _ (form : RecordForm) (store : List ℕ) where
   unfolding faultLine
   line n cause t x y z w = said (then (then (then x y) z) w) (rw t)
 
-  pub no-lines : (l : List ℕ) → Written l 0 (checkLines form store 0) 0 l
-  unfolding checkLines made
-  no-lines l = record { next-is = refl; exit-is = refl }
-
   module _ (n : ℕ) {cause : ℕ} (is : cause ≡ causeOf form store n) where
     pub line-skipped : {l m : List ℕ} {e : ℕ} → cause ≡ done → Written l 0 (checkLines form store n) e m → Written l 0 (checkLines form store (n + 1)) e m
-    unfolding checkLines checkLine
-    line-skipped z w = said w (sym (run-more (checkLine form store) n ∙ rw (eq-eqb _ _ (sym is ∙ z)) (append-nil _)))
+    unfolding checkLine
+    line-skipped z = lines.line-skipped (checkLine form store) n (rw (eq-eqb _ _ (sym is ∙ z)))
 
     pub line-more : {l m₁ m₂ : List ℕ} {e₁ e₂ : ℕ} → (cause ≡ done → ⊥) → Written l 0 (checkLines form store n) e₁ m₁
         → Written m₁ e₁ (faultLine form store n cause) e₂ m₂ → Written l 0 (checkLines form store (n + 1)) e₂ m₂
-    unfolding checkLines checkLine
-    line-more z x y = said (then x y) (sym (run-more (checkLine form store) n ∙ rw (ne-eqb _ _ (λ q. z (is ∙ q)), sym is)))
-
-  -- the loop is done
-  pub all-lines : {l m : List ℕ} {e : ℕ} (n count : ℕ) → n ≤ count → count ≤ n → Written l 0 (checkLines form store n) e m
-      → Written l 0 (checkLines form store count) e m
-  all-lines n count h k w = let is : n ≡ count = omega arith in rw is at w
+    unfolding checkLine
+    line-more z x y = lines.line-more (checkLine form store) n x (said y (rw (ne-eqb _ _ (λ q. z (is ∙ q)), sym is)))
 
 module _ (byte : ℕ) (store : List ℕ) where
   pub refused-text : (answer : ℕ) → answer ≡ storeRefusal (formOf byte) (length store) → (answer ≡ done → ⊥) → refusalLine answer ≡ checkingText byte store

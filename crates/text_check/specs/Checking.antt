@@ -5,9 +5,8 @@ use Prim.Native.Nat.{ℕ, zero, suc}
 use lib.Dec.{eqb}
 use lib.ListN.{length, getD, drop}
 use Rattle.laws.specs.Pick.{pick}
-use Rattle.laws.specs.Made.{made, join}
 use Rattle.bcn_spec.specs.Answers.{done}
-use Rattle.text.specs.Text.{lineFeed, decimal, field, refusalLine}
+use Rattle.text.specs.Text.{lineFeed, decimal, field, refusalLine, linesTo}
 use Rattle.store_faulty.specs.declared.FaultCounts.{FaultCounts}
 use Rattle.store_faulty.specs.Faulty.{RecordForm, formOf, countIn, storeRefusal, causeOf, countsOf}
 
@@ -19,8 +18,8 @@ faultLine form store n cause = field n ++ field (form .tile store n) ++ decimal 
 unfoldable pub checkLine : RecordForm → List ℕ → ℕ → List ℕ
 checkLine form store n = pick (eqb (causeOf form store n) done) [] (faultLine form store n (causeOf form store n))
 
-unfoldable pub checkLines : RecordForm → List ℕ → ℕ → List ℕ
-checkLines form store count = join (made (checkLine form store) count)
+abbrev pub checkLines : RecordForm → List ℕ → ℕ → List ℕ
+checkLines form store = linesTo (checkLine form store)
 
 -- `records `, ` refused `, ` damaged `
 unfoldable pub countsLine : ℕ → FaultCounts → List ℕ

@@ -1,13 +1,11 @@
 -- The lines of a clean-up, as a loop over the records makes them, the whole text, and the cleaned store behind it. Assumes nothing.
 use mathlib.Core.Path.{_≡_, refl, sym, ap, _∙_}
-use mathlib.Core.List.{List, _++_, append-nil}
+use mathlib.Core.List.{List}
 use Prim.Native.Nat.{ℕ, zero, suc, _+_, _-_, _*_, _≤_, _<_}
 use native.Mathlib.Omega.{arith}
 use lib.Dec.{eqb}
 use lib.ListN.{length, take, length-take}
 use borrow.Author.Tests.{lt-ltb, le-ltb, eqb-true, eqb-false}
-use Rattle.laws.specs.Made.{made}
-use Rattle.laws.proofs.Joined.{run-more}
 use Rattle.laws.proofs.Tests.{cases}
 use Rattle.bcn_spec.specs.Answers.{done}
 use Rattle.store_records.specs.Store.{recordSize, storeLimit, recordsIn, tileAt, mostRecords}
@@ -17,6 +15,7 @@ use Rattle.store_clean.specs.Clean.{firstOf, goes, answerAt, CleanedInto}
 use Rattle.store_clean.proofs.Cleaning as cleaning
 use Rattle.text.specs.Text.{lineFeed, decimal, field, refusalLine, Written}
 use Rattle.text.proofs.Texts.{then, said}
+use Rattle.text.proofs.Lines as lines
 use Rattle.text_clean.specs.CleanText.{removedLine, lineOf, removedLines, countsLine, cleaningText, leftAt, cleaningOutput}
 
 -- ---- a line
@@ -31,27 +30,17 @@ line-put store n first t o x y z w v = said (then (then (then (then x y) z) w) v
 
 module _ (store : List ℕ) (n first : ℕ) (e : first ≡ firstOf store n) where
   pub line-skipped : {l m : List ℕ} {at r : ℕ} → n ≤ first → Written l at (removedLines store n) r m → Written l at (removedLines store (n + 1)) r m
-  unfolding removedLines lineOf goes
-  line-skipped h w = said w (sym (run-more (lineOf store) n ∙ rw (le-ltb (firstOf store n) n (omega arith)) (append-nil _)))
+  unfolding lineOf goes
+  line-skipped h = lines.line-skipped (lineOf store) n (rw (le-ltb (firstOf store n) n (omega arith)))
 
   pub line-more : {l m₁ m₂ : List ℕ} {at r s : ℕ} → first < n → Written l at (removedLines store n) r m₁ → Written m₁ r (removedLine store n first) s m₂
       → Written l at (removedLines store (n + 1)) s m₂
-  unfolding removedLines lineOf goes
-  line-more h x y =
-      said (then x y)
-      (sym (run-more (lineOf store) n ∙ rw (lt-ltb (firstOf store n) n (omega arith)) (ap (λ (k : ℕ). removedLines store n ++ removedLine store n k) (sym e))))
+  unfolding lineOf goes
+  line-more h x y = lines.line-more (lineOf store) n x (said y (ap (removedLine store n) e ∙ rw (lt-ltb (firstOf store n) n (omega arith))))
+
+-- ---- the whole
 
 module _ (store : List ℕ) where
-  pub no-lines : (l : List ℕ) → Written l 0 (removedLines store 0) 0 l
-  unfolding removedLines made
-  no-lines l = record { next-is = omega arith; exit-is = refl }
-
-  pub all-lines : {l m : List ℕ} {r : ℕ} (n count : ℕ) → n ≤ count → count ≤ n → Written l 0 (removedLines store n) r m
-      → Written l 0 (removedLines store count) r m
-  all-lines n count h k w = let is : n ≡ count = omega arith in said w (ap (removedLines store) is)
-
-  -- ---- the whole
-
   module _ (cleaned : Cleaned) (c : cleaned ≡ answerAt (listRefusal (length store) mostRecords) store) where
     number : cleaned .answer ≡ listRefusal (length store) mostRecords
     number = ap (λ (x : Cleaned). x .answer) c ∙ cleaning.answer-is (listRefusal (length store) mostRecords) store

@@ -5,11 +5,10 @@ use mathlib.Core.List.{List, [], _∷_, _++_}
 use Prim.Native.Nat.{ℕ, zero, suc, _+_}
 use lib.ListN.{length, take}
 use Rattle.laws.specs.Pick.{pick}
-use Rattle.laws.specs.Made.{made, join}
 use Rattle.store_records.specs.Store.{storeLimit, recordsIn, tileAt, mostRecords}
 use Rattle.store_spec.specs.Twins.{listRefusal}
 use Rattle.store_clean.specs.Clean.{firstOf, goes, cleanedOf, stayCount, goneCount}
-use Rattle.text.specs.Text.{lineFeed, decimal, field, refusalLine}
+use Rattle.text.specs.Text.{lineFeed, decimal, field, refusalLine, linesTo}
 
 -- number and tile of the record, and of the one that stays for it
 unfoldable pub removedLine : List ℕ → ℕ → ℕ → List ℕ
@@ -19,8 +18,8 @@ removedLine store n first = field n ++ field (tileAt store n) ++ field first ++ 
 unfoldable pub lineOf : List ℕ → ℕ → List ℕ
 lineOf store n = pick (goes store n) (removedLine store n (firstOf store n)) []
 
-unfoldable pub removedLines : List ℕ → ℕ → List ℕ
-removedLines store count = join (made (lineOf store) count)
+abbrev pub removedLines : List ℕ → ℕ → List ℕ
+removedLines store = linesTo (lineOf store)
 
 -- `stays `, ` removed `
 unfoldable pub countsLine : ℕ → ℕ → List ℕ

@@ -9,10 +9,10 @@ use Rattle.laws.proofs.Tests.{cases}
 use Rattle.laws.proofs.Rows.{made-same}
 use Rattle.store_records.specs.Store.{recordsIn, tileAt}
 use Rattle.store_clean.specs.Clean.{goes}
-use Rattle.text.specs.Text.{lineFeed, decimal, field}
+use Rattle.text.specs.Text.{lineFeed, decimal, field, linesTo}
 use Rattle.text_audit.specs.Audit.{staysFor, findingOf, pairOf, verdictWord, coverWord, twinLine, isTwin, auditLine}
 use Rattle.text_audit.proofs.Verdicts.{copies-go}
-use Rattle.text_clean.specs.CleanText.{removedLine, lineOf, removedLines}
+use Rattle.text_clean.specs.CleanText.{removedLine, lineOf}
 use Rattle.text_copies.specs.CopyLines.{behind, before, saysCopy, removalOf, RemovalsAreCopies, copiesOf, AllCopies}
 use Rattle.text_copies.proofs.Words.{decimal-word, behind-word, before-word, before-last}
 
@@ -78,5 +78,5 @@ removals-are-copies store w n h =
 -- ---- all of them
 
 pub all-copies : AllCopies
-unfolding removedLines
+unfolding linesTo
 all-copies store w = ap join (made-same (lineOf store) (copiesOf store) (recordsIn store) (removals-are-copies store w))

@@ -1,14 +1,12 @@
 -- The lines and counts of records with minus infinity, as a loop over the records makes them. Assumes nothing.
 use mathlib.Core.Path.{_≡_, refl, sym, ap, ap₂, _∙_}
-use mathlib.Core.List.{List, _++_, append-nil}
+use mathlib.Core.List.{List, _++_}
 use Prim.Native.Nat.{ℕ, zero, suc, _+_, _/_, _%_, _≤_}
 use native.Mathlib.Numerals.{add-one}
 use native.Mathlib.Omega.{arith}
 use lib.ListN.{length}
 use borrow.Author.Tests.{eq-eqb, ne-eqb}
 use Rattle.laws.specs.First.{firstBelow}
-use Rattle.laws.specs.Made.{made}
-use Rattle.laws.proofs.Joined.{run-more}
 use Rattle.bcn_spec.specs.Answers.{done}
 use Rattle.bc6h_spec.specs.Picture.{valueCount, isSigned}
 use Rattle.bc6h_spec.specs.Block.{infinitiesOf}
@@ -23,6 +21,7 @@ use Rattle.store_spec.specs.Twins.{listRefusal}
 use Rattle.store_spec.proofs.Shown.{record-painted, whole-picture}
 use Rattle.text.specs.Text.{field, refusalLine, Written}
 use Rattle.text.proofs.Texts.{then, said}
+use Rattle.text.proofs.Lines as lines
 use Rattle.text_infinities.specs.declared.Finding.{Finding}
 use Rattle.text_infinities.specs.Infinities.{infiniteAt, findingAt, findingOf, channelWord, findingLine, infiniteLine, infiniteLines, recordsWith, valuesWith, countsLine, countsOf, infinitiesText, Counted}
 
@@ -64,8 +63,8 @@ module _ (store : List ℕ) (n : ℕ) {finding : Finding} (is : finding ≡ find
     no-value = ap (λ (f : Finding). f .infinite) (sym is) ∙ none
 
     pub line-skipped : {l m : List ℕ} {e : ℕ} → Written l 0 (infiniteLines store n) e m → Written l 0 (infiniteLines store (n + 1)) e m
-    unfolding infiniteLines infiniteLine
-    line-skipped w = said w (sym (run-more (infiniteLine store) n ∙ rw (eq-eqb _ _ no-value) (append-nil _)))
+    unfolding infiniteLine
+    line-skipped = lines.line-skipped (infiniteLine store) n (rw (eq-eqb _ _ no-value))
 
     pub count-skipped : {records values : ℕ} → Counted store n records values → Counted store (n + 1) records values
     unfolding recordsWith valuesWith
@@ -81,8 +80,8 @@ module _ (store : List ℕ) (n : ℕ) {finding : Finding} (is : finding ≡ find
 
     pub line-more : {l m₁ m₂ : List ℕ} {e₁ e₂ : ℕ} → Written l 0 (infiniteLines store n) e₁ m₁ → Written m₁ e₁ (findingLine store n finding) e₂ m₂
         → Written l 0 (infiniteLines store (n + 1)) e₂ m₂
-    unfolding infiniteLines infiniteLine
-    line-more x y = said (then x y) (sym (run-more (infiniteLine store) n ∙ rw (ne-eqb _ _ a-value, sym is)))
+    unfolding infiniteLine
+    line-more x y = lines.line-more (infiniteLine store) n x (said y (rw (ne-eqb _ _ a-value, sym is)))
 
     pub count-more : {records values : ℕ} → Counted store n records values → finding .infinite ≤ 65535
         → Counted store (n + 1) (records + 1) (values + finding .infinite)
@@ -94,10 +93,6 @@ module _ (store : List ℕ) (n : ℕ) {finding : Finding} (is : finding ≡ find
     }
 
 module _ (store : List ℕ) where
-  pub no-lines : (l : List ℕ) → Written l 0 (infiniteLines store 0) 0 l
-  unfolding infiniteLines made
-  no-lines l = record { next-is = refl; exit-is = refl }
-
   pub no-counts : Counted store 0 0 0
   unfolding recordsWith valuesWith
   no-counts = record { records-is = refl; values-is = refl; few = (omega arith, omega arith) }

@@ -8,14 +8,13 @@ use lib.Dec.{eqb}
 use lib.ListN.{length, getD}
 use Rattle.laws.specs.Pick.{pick}
 use Rattle.laws.specs.First.{firstBelow}
-use Rattle.laws.specs.Made.{made, join}
 use Rattle.bc6h_spec.specs.Half.{minusInfinity}
 use Rattle.bc6h_spec.specs.Picture.{valueCount, isSigned}
 use Rattle.bc6h_spec.specs.Block.{infinitiesOf}
 use Rattle.store_records.specs.Store.{recordsIn, formatOf, tileAt, blockOf, recordRefusal, mostRecords}
 use Rattle.store_spec.specs.Shown.{pictureAt}
 use Rattle.store_spec.specs.Twins.{listRefusal}
-use Rattle.text.specs.Text.{lineFeed, decimal, field, refusalLine}
+use Rattle.text.specs.Text.{lineFeed, decimal, field, refusalLine, linesTo}
 use Rattle.text_infinities.specs.declared.Finding.{Finding}
 
 -- S-26: whether value j is 0xFC00.
@@ -48,8 +47,8 @@ findingLine store n finding =
 unfoldable pub infiniteLine : List ℕ → ℕ → List ℕ
 infiniteLine store n = pick (eqb (findingOf store n .infinite) 0) [] (findingLine store n (findingOf store n))
 
-unfoldable pub infiniteLines : List ℕ → ℕ → List ℕ
-infiniteLines store count = join (made (infiniteLine store) count)
+abbrev pub infiniteLines : List ℕ → ℕ → List ℕ
+infiniteLines store = linesTo (infiniteLine store)
 
 -- how many of the first records have such a value, and how many such values they have
 unfoldable pub recordsWith : List ℕ → ℕ → ℕ

@@ -1,11 +1,8 @@
 -- The listing's lines, as they are put behind each other. Assumes nothing.
-use mathlib.Core.Path.{_≡_, refl, sym}
+use mathlib.Core.Path.{_≡_, refl}
 use mathlib.Core.List.{List, [], _∷_}
-use Prim.Native.Nat.{ℕ, zero, suc, _+_, _≤_}
-use native.Mathlib.Omega.{arith}
+use Prim.Native.Nat.{ℕ, zero, suc}
 use lib.ListN.{getD}
-use Rattle.laws.specs.Made.{made}
-use Rattle.laws.proofs.Joined.{run-more}
 use Rattle.bcn_spec.specs.Answers.{done}
 use Rattle.bc6h_spec.specs.Fields.{modeOf}
 use Rattle.store_records.specs.Store.{tileAt, blockOf, recordRefusal, Unrefused}
@@ -13,7 +10,7 @@ use Rattle.store_spec.specs.Shown.{pictureAt}
 use Rattle.store_spec.specs.Twins.{markAt}
 use Rattle.text.specs.Text.{field, Written}
 use Rattle.text.proofs.Texts.{then, said}
-use Rattle.text_list.specs.Lines.{hexTriple, shownRest, refusedRest, restAt, lineOf, linesOf}
+use Rattle.text_list.specs.Lines.{hexTriple, shownRest, refusedRest, restAt, lineOf}
 
 -- ---- a line
 
@@ -44,18 +41,3 @@ module _ (store : List ℕ) (n : ℕ) where
 
     pub shown-line : Unrefused store n → Written m₃ e₃ (shownRest store n) e₄ m₄ → Written l at (lineOf store n) e₄ m₄
     shown-line u w = line (rw u) w
-
--- ---- all lines
-
-module _ (store : List ℕ) where
-  pub no-lines : (l : List ℕ) → Written l 0 (linesOf store 0) 0 l
-  unfolding linesOf made
-  no-lines l = record { next-is = refl; exit-is = refl }
-
-  pub line-more : {l m₁ m₂ : List ℕ} {e₁ e₂ : ℕ} (n : ℕ) → Written l 0 (linesOf store n) e₁ m₁ → Written m₁ e₁ (lineOf store n) e₂ m₂
-      → Written l 0 (linesOf store (n + 1)) e₂ m₂
-  unfolding linesOf
-  line-more n x y = said (then x y) (sym (run-more (lineOf store) n))
-
-  pub lines-upto : {l m : List ℕ} {e : ℕ} (n count : ℕ) → n ≤ count → count ≤ n → Written l 0 (linesOf store n) e m → Written l 0 (linesOf store count) e m
-  lines-upto n count h k w = let same : n ≡ count = omega arith in rw same at w

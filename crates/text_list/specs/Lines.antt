@@ -2,12 +2,11 @@
 use mathlib.Core.List.{List, [], _∷_, _++_}
 use Prim.Native.Nat.{ℕ, zero, suc}
 use lib.ListN.{getD}
-use Rattle.laws.specs.Made.{made, join}
 use Rattle.bc6h_spec.specs.Fields.{modeOf}
 use Rattle.store_records.specs.Store.{tileAt, blockOf, recordRefusal}
 use Rattle.store_spec.specs.Shown.{pictureAt}
 use Rattle.store_spec.specs.Twins.{markAt}
-use Rattle.text.specs.Text.{blank, lineFeed, decimal, hex, field}
+use Rattle.text.specs.Text.{blank, lineFeed, decimal, hex, field, linesTo}
 
 -- S-73: a triple in hex digits, and the end of the line.
 unfoldable pub hexTriple : ℕ → ℕ → ℕ → List ℕ
@@ -31,8 +30,8 @@ restAt (suc number) store n = refusedRest store n
 unfoldable pub lineOf : List ℕ → ℕ → List ℕ
 lineOf store n = field n ++ field (tileAt store n) ++ field (recordRefusal store n) ++ restAt (recordRefusal store n) store n
 
-unfoldable pub linesOf : List ℕ → ℕ → List ℕ
-linesOf store count = join (made (lineOf store) count)
+abbrev pub linesOf : List ℕ → ℕ → List ℕ
+linesOf store = linesTo (lineOf store)
 
 -- `kept `, ` twins `, ` bad `
 abbrev pub keptWord : List ℕ

@@ -1,12 +1,9 @@
 -- The lines of the listing of records with a place, as they are put behind each other. Assumes nothing.
-use mathlib.Core.Path.{_≡_, refl, sym, ap}
+use mathlib.Core.Path.{_≡_, refl, ap}
 use mathlib.Core.List.{List, [], _∷_}
-use Prim.Native.Nat.{ℕ, zero, suc, _+_, _≤_, _<_}
-use native.Mathlib.Omega.{arith}
+use Prim.Native.Nat.{ℕ, zero, suc, _≤_, _<_}
 use lib.ListN.{getD}
 use borrow.Author.Tests.{lt-ltb, le-ltb}
-use Rattle.laws.specs.Made.{made}
-use Rattle.laws.proofs.Joined.{run-more}
 use Rattle.bcn_spec.specs.Answers.{done}
 use Rattle.bc6h_spec.specs.Fields.{modeOf}
 use Rattle.probe_places.specs.declared.Place.{Place}
@@ -22,7 +19,7 @@ use Rattle.store_faulty.specs.Faulty.{formOf}
 use Rattle.text.specs.Text.{blank, field, decimal, Written}
 use Rattle.text.proofs.Texts.{then, said}
 use Rattle.text_list.specs.Lines.{hexTriple}
-use Rattle.text_places.specs.Lines.{placeWords, recordWords, shownRest, refusedRest, restAt, lineOf, linesOf}
+use Rattle.text_places.specs.Lines.{placeWords, recordWords, shownRest, refusedRest, restAt, lineOf}
 
 -- ---- a place
 
@@ -79,18 +76,3 @@ module _ (store : List ℕ) (n : ℕ) where
 
     pub shown-line : Readable store n → Written m₂ e₂ (shownRest store n) e₃ m₃ → Written l at (lineOf store n) e₃ m₃
     shown-line u w = line (rw u) w
-
--- ---- all lines
-
-module _ (store : List ℕ) where
-  pub no-lines : (l : List ℕ) → Written l 0 (linesOf store 0) 0 l
-  unfolding linesOf made
-  no-lines l = record { next-is = refl; exit-is = refl }
-
-  pub line-more : {l m₁ m₂ : List ℕ} {e₁ e₂ : ℕ} (n : ℕ) → Written l 0 (linesOf store n) e₁ m₁ → Written m₁ e₁ (lineOf store n) e₂ m₂
-      → Written l 0 (linesOf store (n + 1)) e₂ m₂
-  unfolding linesOf
-  line-more n x y = said (then x y) (sym (run-more (lineOf store) n))
-
-  pub lines-upto : {l m : List ℕ} {e : ℕ} (n count : ℕ) → n ≤ count → count ≤ n → Written l 0 (linesOf store n) e m → Written l 0 (linesOf store count) e m
-  lines-upto n count h k w = let same : n ≡ count = omega arith in rw same at w

@@ -5,7 +5,6 @@ use Prim.Native.Nat.{ℕ, zero, suc}
 use lib.Dec.{eqb}
 use lib.ListN.{getD}
 use Rattle.laws.specs.Pick.{pick, both}
-use Rattle.laws.specs.Made.{made, join}
 use Rattle.bcn_spec.specs.Answers.{done}
 use Rattle.bc6h_spec.specs.Fields.{modeOf}
 use Rattle.probe_places.specs.declared.Place.{Place}
@@ -13,7 +12,7 @@ use Rattle.probe_places.specs.Places.{placesIn, tileIn, placeIn, blockIn, place
 use Rattle.probe_places.specs.Readings.{placedRefusal}
 use Rattle.probe.specs.Probe.{tripleAt}
 use Rattle.store_faulty.specs.Faulty.{placedForm, howMany, countsOf}
-use Rattle.text.specs.Text.{blank, lineFeed, decimal, field}
+use Rattle.text.specs.Text.{blank, lineFeed, decimal, field, linesTo}
 use Rattle.text_list.specs.Lines.{hexTriple, badWord}
 use Rattle.text_places.specs.declared.PlaceCounts.{PlaceCounts}
 
@@ -43,8 +42,8 @@ restAt (suc number) store n = refusedRest
 unfoldable pub lineOf : List ℕ → ℕ → List ℕ
 lineOf store n = recordWords store n ++ field (placedRefusal store n) ++ restAt (placedRefusal store n) store n
 
-unfoldable pub linesOf : List ℕ → ℕ → List ℕ
-linesOf store count = join (made (lineOf store) count)
+abbrev pub linesOf : List ℕ → ℕ → List ℕ
+linesOf store = linesTo (lineOf store)
 
 -- ---- the counts
 

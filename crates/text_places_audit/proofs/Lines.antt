@@ -1,12 +1,10 @@
 -- The audit's lines and counts, as a loop over the records makes them, and the whole text. Assumes nothing.
 use mathlib.Core.Path.{_≡_, refl, sym, ap, _∙_}
 use mathlib.Core.Bool.{true, false}
-use mathlib.Core.List.{List, _++_, append-nil}
+use mathlib.Core.List.{List, _++_}
 use Prim.Native.Nat.{ℕ, zero, suc, _+_, _≤_, _<_}
 use native.Mathlib.Omega.{arith}
 use lib.ListN.{length}
-use Rattle.laws.specs.Made.{made}
-use Rattle.laws.proofs.Joined.{run-more}
 use Rattle.bcn_spec.specs.Answers.{done}
 use Rattle.bcn_spec.specs.Bits.{blockSize}
 use Rattle.bc6h_spec.specs.Fields.{modeOf}
@@ -23,6 +21,7 @@ use Rattle.store_faulty.specs.Faulty.{placedForm, formOf, storeRefusal, howMany
 use Rattle.store_faulty.proofs.Forms.{fits, more}
 use Rattle.text.specs.Text.{refusalLine, Written}
 use Rattle.text.proofs.Texts.{then, said}
+use Rattle.text.proofs.Lines as lines
 use Rattle.text_places.specs.Lines.{recordWords, placeWords}
 use Rattle.text_places_audit.specs.Copies.{firstIn, isCopy}
 use Rattle.text_places_audit.specs.Audit.{columnsLine, whereOf, copyLine, lineOf, copyLines, tallyLine, tallyOf, auditOf}
@@ -64,8 +63,8 @@ module _ (store : List ℕ) (n first : ℕ) (e : first ≡ firstIn placedForm st
     no-copy = no-copy-when placedForm store n (omega arith)
 
     pub line-skipped : {l m : List ℕ} {at e : ℕ} → Written l at (copyLines store n) e m → Written l at (copyLines store (n + 1)) e m
-    unfolding copyLines lineOf
-    line-skipped w = said w (sym (run-more (lineOf store) n ∙ rw no-copy (append-nil _)))
+    unfolding lineOf
+    line-skipped = lines.line-skipped (lineOf store) n (rw no-copy)
 
     pub tally-skipped : {copies : ℕ} → Tallied store n copies → Tallied store (n + 1) copies
     tally-skipped t =
@@ -78,8 +77,8 @@ module _ (store : List ℕ) (n first : ℕ) (e : first ≡ firstIn placedForm st
 
     pub line-more : {l m₁ m₂ : List ℕ} {at e₁ e₂ : ℕ} → Written l at (copyLines store n) e₁ m₁ → Written m₁ e₁ (copyLine store n first) e₂ m₂
         → Written l at (copyLines store (n + 1)) e₂ m₂
-    unfolding copyLines lineOf
-    line-more x y = said (then x y) (sym (run-more (lineOf store) n ∙ rw (a-copy, sym e)))
+    unfolding lineOf
+    line-more x y = lines.line-more (lineOf store) n x (said y (rw (a-copy, sym e)))
 
     pub tally-more : {copies : ℕ} → Tallied store n copies → Tallied store (n + 1) (copies + 1)
     tally-more t =
@@ -87,10 +86,6 @@ module _ (store : List ℕ) (n first : ℕ) (e : first ≡ firstIn placedForm st
         record { copies-is = let f = t .copies-is in omega arith; few = let f = t .few in omega arith }
 
 module _ (store : List ℕ) where
-  pub no-lines : (l : List ℕ) (at : ℕ) → Written l at (copyLines store 0) at l
-  unfolding copyLines made
-  no-lines l at = record { next-is = omega arith; exit-is = refl }
-
   pub no-tally : Tallied store 0 0
   unfolding howMany
   no-tally = record { copies-is = refl; few = omega arith }

@@ -4,11 +4,10 @@ use mathlib.Core.List.{List, [], _∷_, _++_}
 use Prim.Native.Nat.{ℕ, zero, suc}
 use lib.ListN.{length}
 use Rattle.laws.specs.Pick.{pick}
-use Rattle.laws.specs.Made.{made, join}
 use Rattle.probe_places.specs.Places.{placesIn, placeIn}
 use Rattle.store_faulty.specs.declared.FaultCounts.{FaultCounts}
 use Rattle.store_faulty.specs.Faulty.{placedForm, storeRefusal, howMany, countsOf}
-use Rattle.text.specs.Text.{blank, lineFeed, decimal, refusalLine}
+use Rattle.text.specs.Text.{blank, lineFeed, decimal, refusalLine, linesTo}
 use Rattle.text_audit.specs.Audit.{faultWords}
 use Rattle.text_places.specs.Lines.{recordWords, placeWords}
 use Rattle.text_places_audit.specs.Copies.{firstIn, isCopy}
@@ -30,8 +29,8 @@ copyLine store n first = whereOf store n ++ blank ++ whereOf store first ++ line
 unfoldable pub lineOf : List ℕ → ℕ → List ℕ
 lineOf store n = pick (isCopy placedForm store n) (copyLine store n (firstIn placedForm store n)) []
 
-unfoldable pub copyLines : List ℕ → ℕ → List ℕ
-copyLines store count = join (made (lineOf store) count)
+abbrev pub copyLines : List ℕ → ℕ → List ℕ
+copyLines store = linesTo (lineOf store)
 
 -- ` copies `
 unfoldable pub tallyLine : FaultCounts → ℕ → List ℕ

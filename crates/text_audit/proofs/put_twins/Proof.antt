@@ -4,6 +4,7 @@ use lib.ListN.{length}
 use Rattle.store_records.specs.Store.{recordsIn}
 use Rattle.text.specs.Text.{Written}
 use Rattle.text_audit.specs.Audit.{auditLines, Tallied}
+use Rattle.text.proofs.Lines.{no-lines}
 use Rattle.text_audit.proofs.Twins as twins
 use borrow.Author.Needs.{needs}
 use Rattle.text_audit.proofs.put_twins.Statement.{statement}
@@ -18,7 +19,7 @@ abbrev μ-loop : tie.MeasureT-loop
     count - n
 
 loop-holds : tie.Need-loop-holds Inv-loop μ-loop
-loop-holds c = (search needs, search needs, search needs, twins.no-tally (c .before .before .before .before .args .store .now), twins.no-lines (c .before .before .before .before .args .store .now) (c .before .before .before .before .args .text .now) (c .before .before .before .before .args .at))
+loop-holds c = (search needs, search needs, search needs, twins.no-tally (c .before .before .before .before .args .store .now), no-lines _ _ _)
 
 loop-again : tie.Need-loop-again Inv-loop μ-loop
 loop-again c =

@@ -4,6 +4,7 @@ use lib.ListN.{length}
 use Rattle.text.specs.Text.{Written}
 use Rattle.store_faulty.specs.Faulty.{formOf}
 use Rattle.text_check.specs.Checking.{checkLines}
+use Rattle.text.proofs.Lines as all
 use Rattle.text_check.proofs.Lines as lines
 use borrow.Author.Needs.{needs}
 use Rattle.text_check.proofs.put_faults.Statement.{statement}
@@ -16,7 +17,7 @@ abbrev μ-loop : tie.MeasureT-loop
 μ-loop text₀ form store count end₀ n₀ text end n = count - n
 
 loop-holds : tie.Need-loop-holds Inv-loop μ-loop
-loop-holds c = (search needs, search needs, search needs, lines.no-lines _ (c .before .before .before .args .store .now) (c .before .before .before .args .text .now))
+loop-holds c = (search needs, search needs, search needs, all.no-lines _ _ _)
 
 loop-again : tie.Need-loop-again Inv-loop μ-loop
 loop-again c = (search needs, search needs, search needs, lines.line-skipped _ (c .before .before .before .before .before .before .before .args .store .now) (c .before .before .before .loop .n) (c .before .cause-of .ensures) (c .if1 .taken) (c .before .before .before .loop .inv .3))
@@ -28,7 +29,7 @@ loop-again-2 : tie.Need-loop-again-2 Inv-loop μ-loop
 loop-again-2 c = (search needs, search needs, search needs, lines.line-more _ (c .before .before .before .before .before .before .before .before .before .before .before .args .store .now) (c .before .before .before .before .before .before .before .loop .n) (c .before .before .before .before .before .cause-of .ensures) (c .before .before .before .before .if1 .left) (c .before .before .before .before .before .before .before .loop .inv .3) (c .before .before .put-fault .ensures .1))
 
 returns : tie.Need-returns Inv-loop μ-loop
-returns c = (search needs, lines.all-lines _ (c .before .before .before .before .before .args .store .now) (c .before .loop .n) _ (search needs) (search needs) (c .before .loop .inv .3))
+returns c = (search needs, all.lines-upto _ (c .before .loop .n) _ (search needs) (search needs) (c .before .loop .inv .3))
 
 pub put-faults-spec : {M : Type 1} → statement M
 put-faults-spec =

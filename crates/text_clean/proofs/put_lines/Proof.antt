@@ -1,9 +1,9 @@
 use mathlib.Core.Path.{_≡_}
 use Prim.Native.Nat.{_*_, _≤_, _-_}
 use lib.ListN.{length}
-use Rattle.store_records.specs.Store.{recordsIn}
 use Rattle.text.specs.Text.{Written}
 use Rattle.text_clean.specs.CleanText.{removedLines}
+use Rattle.text.proofs.Lines as all
 use Rattle.text_clean.proofs.Lines as lines
 use borrow.Author.Needs.{needs}
 use Rattle.text_clean.proofs.put_lines.Statement.{statement}
@@ -17,7 +17,7 @@ abbrev μ-loop : tie.MeasureT-loop
 μ-loop text₀ store count end₀ n₀ text end n = count - n
 
 loop-holds : tie.Need-loop-holds Inv-loop μ-loop
-loop-holds c = (search needs, search needs, search needs, lines.no-lines (c .before .before .before .args .store .now) (c .before .before .before .args .text .now))
+loop-holds c = (search needs, search needs, search needs, all.no-lines _ _ _)
 
 loop-again : tie.Need-loop-again Inv-loop μ-loop
 loop-again c =
@@ -32,8 +32,7 @@ loop-again-2 c =
 returns : tie.Need-returns Inv-loop μ-loop
 returns c =
     let l = c .before .loop in
-    let s = c .before .before .before .before .before .args .store .now in
-    (search needs, lines.all-lines s (l .n) (recordsIn s) (search needs) (search needs) (l .inv .3))
+    (search needs, all.lines-upto _ (l .n) _ (search needs) (search needs) (l .inv .3))
 
 pub put-lines-spec : {M : Type 1} → statement M
 put-lines-spec =

@@ -4,6 +4,7 @@ use lib.ListN.{length}
 use Rattle.store_records.specs.Store.{recordsIn}
 use Rattle.text.specs.Text.{Written}
 use Rattle.text_infinities.specs.Infinities.{infiniteLines, Counted}
+use Rattle.text.proofs.Lines.{no-lines}
 use Rattle.text_infinities.proofs.Findings as findings
 use borrow.Author.Needs.{needs}
 use Rattle.text_infinities.proofs.put_findings.Statement.{statement}
@@ -17,7 +18,7 @@ abbrev μ-loop : tie.MeasureT-loop
 μ-loop text₀ store count records₀ values₀ end₀ n₀ text records values end n = count - n
 
 loop-holds : tie.Need-loop-holds Inv-loop μ-loop
-loop-holds c = (search needs, search needs, search needs, findings.no-counts (c .before .before .before .args .store .now), findings.no-lines (c .before .before .before .args .store .now) (c .before .before .before .args .text .now))
+loop-holds c = (search needs, search needs, search needs, findings.no-counts (c .before .before .before .args .store .now), no-lines _ _ _)
 
 loop-again : tie.Need-loop-again Inv-loop μ-loop
 loop-again c =

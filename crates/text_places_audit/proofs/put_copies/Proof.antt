@@ -5,6 +5,7 @@ use Rattle.probe_places.specs.Places.{placesIn}
 use Rattle.text.specs.Text.{Written}
 use Rattle.text_places_audit.specs.Audit.{copyLines}
 use Rattle.text_places_audit.proofs.Lines.{Tallied}
+use Rattle.text.proofs.Lines.{no-lines}
 use Rattle.text_places_audit.proofs.Lines as lines
 use borrow.Author.Needs.{needs}
 use Rattle.text_places_audit.proofs.put_copies.Statement.{statement}
@@ -20,7 +21,7 @@ abbrev μ-loop : tie.MeasureT-loop
 loop-holds : tie.Need-loop-holds Inv-loop μ-loop
 loop-holds c =
     let a = c .before .before .args in
-    (search needs, search needs, search needs, lines.no-tally (a .store .now), lines.no-lines (a .store .now) (a .text .now) (a .at))
+    (search needs, search needs, search needs, lines.no-tally (a .store .now), no-lines _ _ _)
 
 loop-again : tie.Need-loop-again Inv-loop μ-loop
 loop-again c =

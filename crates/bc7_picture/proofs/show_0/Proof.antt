@@ -21,9 +21,6 @@ use Rattle.bc7_picture.proofs.show_0.Tie as tie
 map : (c : tie.After-row) → Three (c .before .run .result) (c .row .result)
 map c = three (c .before .run .result) (c .row .result) (lt-of-lt-of-le (c .before .run .ensures .small) (lit≤ tt)) (c .row .ensures)
 
-weigh-requires : tie.Need-weigh-three-requires
-weigh-requires c κs = let m = map (c .before .before) in (lit< tt, lit≤ tt, lit≤ tt, m .low-positive, m .low-high, m .high-fits)
-
 module _ (c : tie.After-weigh-three) where
   abbrev at-row : tie.After-row
   at-row = c .before .before .before
@@ -55,7 +52,7 @@ show-0-spec =
     (λ c κs. lt-of-lt-of-le (c .run .ensures .small) (lit≤ tt))
     (λ c κs. (lit< tt, lit≤ tt))
     (λ c κs. (lit< tt, lit≤ tt, record { p-bit = lit≤ tt; low = lit≤ tt; high = lit≤ tt; fits = lit≤ tt }, record { p-bit = lit≤ tt; low = lit≤ tt; high = lit≤ tt; fits = lit≤ tt }))
-    weigh-requires
+    (λ c κs. let m = map (c .before .before) in (lit< tt, lit≤ tt, lit≤ tt, m .low-positive, m .low-high, m .high-fits))
     (λ c κs. record { bytes = c .before .before .ends-in .ensures .small; colour-weights = c .before .weigh-three .ensures .small; alpha-weights = c .before .weigh-three .ensures .small; turns = lit< tt; room = c .before .before .before .before .before .before .before .pre })
     (λ c. search needs)
     returns)

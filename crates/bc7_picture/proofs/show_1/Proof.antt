@@ -22,9 +22,6 @@ use Rattle.bc7_picture.proofs.show_1.Tie as tie
 map : (c : tie.After-row) → Two (c .before .run .result) (c .row .result)
 map c = two (c .before .run .result) (c .row .result) (lt-of-lt-of-le (c .before .run .ensures .small) (lit≤ tt)) (c .row .ensures)
 
-weigh-requires : tie.Need-weigh-two-requires
-weigh-requires c κs = let m = map (c .before .before .before .before) in (lit< tt, lit≤ tt, lit≤ tt, m .low-positive, m .low-fits)
-
 module _ (c : tie.After-weigh-two) where
   abbrev at-row : tie.After-row
   at-row = c .before .before .before .before .before
@@ -58,7 +55,7 @@ show-1-spec =
     (λ c κs. (lit< tt, lit≤ tt))
     (λ c κs. (c .before .run2 .ensures .small, c .run3 .ensures .small))
     (λ c κs. (lit< tt, lit≤ tt, record { p-bit = lit≤ tt; low = lit≤ tt; high = lit≤ tt; fits = lit≤ tt }, record { p-bit = lit≤ tt; low = lit≤ tt; high = lit≤ tt; fits = lit≤ tt }))
-    weigh-requires
+    (λ c κs. let m = map (c .before .before .before .before) in (lit< tt, lit≤ tt, lit≤ tt, m .low-positive, m .low-fits))
     (λ c κs. record { bytes = c .before .before .ends-in .ensures .small; colour-weights = c .before .weigh-two .ensures .small; alpha-weights = c .before .weigh-two .ensures .small; turns = lit< tt; room = c .before .before .before .before .before .before .before .before .before .pre })
     (λ c. search needs)
     returns)

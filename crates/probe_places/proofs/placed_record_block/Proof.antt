@@ -11,11 +11,8 @@ use Rattle.probe_places.proofs.placed_record_block.Tie as tie
 found : (c : tie.Else1) → Known (now (c .before .before .before .args .store)) (c .before .before .before .args .n)
 found c = known-of (c .before .placed-refusal .ensures) (c .if1 .left)
 
-returns-2 : tie.Need-returns-2
-unfolding blockIn
-returns-2 c = rw add-sub-cancel-left (part-of _ _ (c .before .before .placed-refusal .ensures) (c .before .if1 .left))
-
 pub placed-record-block-spec : {M : Type 1} → statement M
+unfolding blockIn
 placed-record-block-spec =
     tie.close
     (tie.spec
@@ -28,4 +25,4 @@ placed-record-block-spec =
     (λ c. search needs)
     (λ c. search needs)
     (λ c. let k = found c in omega arith)
-    returns-2)
+    (λ c. rw add-sub-cancel-left (part-of _ _ (c .before .before .placed-refusal .ensures) (c .before .if1 .left))))

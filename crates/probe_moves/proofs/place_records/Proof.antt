@@ -18,11 +18,8 @@ abbrev μ-loop : tie.MeasureT-loop
 loop-again : tie.Need-loop-again Inv-loop μ-loop
 loop-again c = let i = c .before .before .loop .inv in (search needs, made-store _ _ _ _ _ _ (i .1) refl (c .placed-byte .ensures) (search needs), simp length-set (i .2))
 
-returns : tie.Need-returns Inv-loop μ-loop
-unfolding placedStore
-returns c = made-upto _ _ _ _ _ (c .before .loop .inv .1) (search needs) (search needs)
-
 pub place-records-spec : {M : Type 1} → statement M
+unfolding placedStore
 place-records-spec =
     tie.close
     (tie.spec
@@ -37,4 +34,4 @@ place-records-spec =
     (λ c. search needs)
     loop-again
     (λ c. search needs)
-    returns)
+    (λ c. made-upto _ _ _ _ _ (c .before .loop .inv .1) (search needs) (search needs)))

@@ -44,11 +44,8 @@ search-again-2 c = let i = c .before .before .before .before .before .search .in
 loop-again-3 : tie.Need-loop-again-3 Inv-search μ-search Inv-loop μ-loop
 loop-again-3 c = let i = c .before .before .before .before .before .before .before .before .before .before .loop .inv in let u = unrefused (c .before .before .before .before .before .before .before .before .record-at .ensures) (c .before .before .before .before .before .before .found .given .1) in let s = c .before .search .inv in (search needs, made-store _ _ _ _ _ _ (i .1) refl (⊎-elim (λ w. w .1 ∙ s .1 ∙ mark-kept _ _ u (unfound _ _ _ (s .0) (w .0 .left) (s .2))) (λ w. w .5 ∙ mark-twin _ _ u (found _ _ _ (s .2) (w .0 .taken) (sym (w .3 .ensures) ∙ w .4 .taken))) (c .search-test .came)) (search needs), simp length-set (i .2))
 
-returns : tie.Need-returns Inv-search μ-search Inv-loop μ-loop
-unfolding marksOf
-returns c = made-upto _ _ _ _ _ (c .before .loop .inv .1) (search needs) (search needs)
-
 pub mark-records-spec : {M : Type 1} → statement M
+unfolding marksOf
 mark-records-spec =
     tie.close
     (tie.spec
@@ -87,4 +84,4 @@ mark-records-spec =
     (λ c. search needs)
     loop-again-3
     (λ c. search needs)
-    returns)
+    (λ c. made-upto _ _ _ _ _ (c .before .loop .inv .1) (search needs) (search needs)))

@@ -15,18 +15,11 @@ Inv-loop palettes first count channel i₀ i = (i ≤ count) × (some (repeated 
 abbrev μ-loop : tie.MeasureT-loop
 μ-loop palettes first count channel i₀ i = count - i
 
-returns : tie.Need-returns Inv-loop μ-loop
-unfolding entriesDiffer
-returns c = ap not (some-here _ _ _ (sym (c .before .is-repeated .ensures) ∙ c .if1 .taken) (search needs))
-
 loop-again : tie.Need-loop-again Inv-loop μ-loop
 loop-again c = (search needs, some-more _ _ (c .before .before .before .loop .inv .1) (sym (c .before .is-repeated .ensures) ∙ c .if1 .left))
 
-returns-2 : tie.Need-returns-2 Inv-loop μ-loop
-unfolding entriesDiffer
-returns-2 c = ap not (some-upto _ _ _ (c .before .loop .inv .1) (search needs) (search needs))
-
 pub entries-differ-spec : {M : Type 1} → statement M
+unfolding entriesDiffer
 entries-differ-spec =
     tie.close
     (tie.spec
@@ -34,8 +27,8 @@ entries-differ-spec =
     μ-loop
     (λ c. (search needs, some-none _))
     (λ c κs. search needs)
-    returns
+    (λ c. ap not (some-here _ _ _ (sym (c .before .is-repeated .ensures) ∙ c .if1 .taken) (search needs)))
     (λ c. search needs)
     (λ c. search needs)
     loop-again
-    returns-2)
+    (λ c. ap not (some-upto _ _ _ (c .before .loop .inv .1) (search needs) (search needs))))

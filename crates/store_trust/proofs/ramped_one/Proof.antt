@@ -5,11 +5,8 @@ use Rattle.store_trust.proofs.Ramp.{one-bytes}
 use Rattle.store_trust.proofs.ramped_one.Statement.{statement}
 use Rattle.store_trust.proofs.ramped_one.Tie as tie
 
-returns : tie.Need-returns
-unfolding made
-returns c = one-bytes _ (search needs)
-
 pub ramped-one-spec : {M : Type 1} → statement M
+unfolding made
 ramped-one-spec =
     tie.close
     (tie.spec
@@ -23,4 +20,4 @@ ramped-one-spec =
     (λ c. search needs)
     (λ c. search needs)
     (λ c. search needs)
-    returns)
+    (λ c. one-bytes _ (search needs)))

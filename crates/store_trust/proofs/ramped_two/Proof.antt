@@ -5,11 +5,8 @@ use Rattle.store_trust.proofs.Ramp.{two-bytes}
 use Rattle.store_trust.proofs.ramped_two.Statement.{statement}
 use Rattle.store_trust.proofs.ramped_two.Tie as tie
 
-returns : tie.Need-returns
-unfolding made
-returns c = two-bytes _ (search needs)
-
 pub ramped-two-spec : {M : Type 1} → statement M
+unfolding made
 ramped-two-spec =
     tie.close
     (tie.spec
@@ -24,4 +21,4 @@ ramped-two-spec =
     (λ c. search needs)
     (λ c. search needs)
     (λ c. search needs)
-    returns)
+    (λ c. two-bytes _ (search needs)))

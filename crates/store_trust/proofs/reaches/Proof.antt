@@ -15,18 +15,11 @@ Inv-loop fields region n k₀ k = (k ≤ 16) × (some (indexedAt fields region n
 abbrev μ-loop : tie.MeasureT-loop
 μ-loop fields region n k₀ k = 16 - k
 
-returns : tie.Need-returns Inv-loop μ-loop
-unfolding reaches
-returns c = some-here _ _ _ (sym (c .before .is-at .ensures) ∙ c .if1 .taken) (search needs)
-
 loop-again : tie.Need-loop-again Inv-loop μ-loop
 loop-again c = (search needs, some-more _ _ (c .before .before .before .loop .inv .1) (sym (c .before .is-at .ensures) ∙ c .if1 .left))
 
-returns-2 : tie.Need-returns-2 Inv-loop μ-loop
-unfolding reaches
-returns-2 c = some-upto _ _ _ (c .before .loop .inv .1) (search needs) (search needs)
-
 pub reaches-spec : {M : Type 1} → statement M
+unfolding reaches
 reaches-spec =
     tie.close
     (tie.spec
@@ -34,8 +27,8 @@ reaches-spec =
     μ-loop
     (λ c. (search needs, some-none _))
     (λ c κs. search needs)
-    returns
+    (λ c. some-here _ _ _ (sym (c .before .is-at .ensures) ∙ c .if1 .taken) (search needs))
     (λ c. search needs)
     (λ c. search needs)
     loop-again
-    returns-2)
+    (λ c. some-upto _ _ _ (c .before .loop .inv .1) (search needs) (search needs)))

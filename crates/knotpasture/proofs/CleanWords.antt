@@ -47,15 +47,12 @@ module _ {store lent paper after written : List ℕ} {r : Cleaned} (d : ReceiptI
   pub receipt-called : {word : ℕ} → word ≡ cleanWord r → ReceiptCalled store lent paper word after written
   receipt-called e = record { answers = e ∙ ap cleanWord (d .answers); holds = d .holds; tells = d .tells }
 
-  receipt-alone : (k : ℕ) → receiptRefusal (length store) (length lent) (length paper) ≡ suc k → r ≡ refusal (suc k)
-  receipt-alone k q = rw q at (d .answers)
-
   pub receipt-few : r .kept + r .removed ≤ mostRecords
   receipt-few = go (receiptRefusal (length store) (length lent) (length paper)) refl
     where
       go : (k : ℕ) → receiptRefusal (length store) (length lent) (length paper) ≡ k → r .kept + r .removed ≤ mostRecords
       go zero q = let z : r .answer ≡ done = telling.answer-number d ∙ q in clean-done-few (telling.as-cleaned d z) z
-      go (suc k) q = rw (receipt-alone k q) (omega arith)
+      go (suc k) q = let e : r ≡ refusal (suc k) = rw q at (d .answers) in rw e (omega arith)
 
 pub one-receipt : {store lent paper : List ℕ} {r s : ℕ} {a b u v : List ℕ} → ReceiptCalled store lent paper r a u → ReceiptCalled store lent paper s b v
     → (r ≡ s) × (a ≡ b) × (u ≡ v)
@@ -67,15 +64,12 @@ module _ {cleaned receipt lent after : List ℕ} {r : Restored} (d : RestoredInt
   pub restore-called : {word : ℕ} → word ≡ restoredWord r → RestoreCalled cleaned receipt lent word after
   restore-called e = record { answers = e ∙ ap restoredWord (d .answers); holds = d .holds }
 
-  restore-alone : (k : ℕ) → restoreRefusal cleaned receipt (length lent) ≡ suc k → r ≡ record { answer = suc k; records = 0 }
-  restore-alone k q = rw q at (d .answers)
-
   pub restored-few : r .records ≤ mostRecords
   restored-few = go (restoreRefusal cleaned receipt (length lent)) refl
     where
       go : (k : ℕ) → restoreRefusal cleaned receipt (length lent) ≡ k → r .records ≤ mostRecords
       go zero q = rw (restoring.all-restored d q) (restorable cleaned receipt (length lent) q .few)
-      go (suc k) q = rw (restore-alone k q) (omega arith)
+      go (suc k) q = let e : r ≡ record { answer = suc k; records = 0 } = rw q at (d .answers) in rw e (omega arith)
 
 pub one-restore : {cleaned receipt lent : List ℕ} {r s : ℕ} {a b : List ℕ} → RestoreCalled cleaned receipt lent r a → RestoreCalled cleaned receipt lent s b
     → (r ≡ s) × (a ≡ b)

@@ -1,5 +1,5 @@
 -- The exports over the fields of a block as numbers, from what the calls ensure. Assumes nothing.
-use mathlib.Core.Path.{_≡_, refl, sym, ap, subst, _∙_}
+use mathlib.Core.Path.{_≡_, refl, sym, ap, _∙_}
 use mathlib.Core.List.{List, _++_}
 use Prim.Native.Nat.{ℕ, zero, suc, _<_, _≤_}
 use lib.ListN.{length, drop}
@@ -10,8 +10,6 @@ use Rattle.bc6h_spec.specs.Fields.{modeOf, fieldsOf}
 use Rattle.bc6_fields.specs.declared.FieldsRead.{FieldsRead}
 use Rattle.bc6_fields.specs.Call.{refusalOf, answerAt, Extracted}
 use Rattle.bc6_fields.proofs.Calls.{mode-read}
-use Rattle.bc6_writer.specs.Call.{BlockWritten}
-use Rattle.bc6_palette.specs.Call.{FieldsShown}
 use Rattle.bc6_numbers.specs.Numbers.{numberCount, numbersOf}
 use Rattle.knotpasture.specs.Words.{twoBytes}
 use Rattle.knotpasture.specs.Fields.{FieldsCalled}
@@ -55,15 +53,3 @@ module _ {block : List ℕ} {format : ℕ} {r : FieldsRead} (d : Extracted block
 pub one-fields : {block : List ℕ} {format : ℕ} {lent : List ℕ} {r s : ℕ} {a b : List ℕ} → FieldsCalled block format lent r a → FieldsCalled block format lent s b
     → (r ≡ s) × (a ≡ b)
 one-fields d e = (d .answers ∙ sym (e .answers), d .holds ∙ sym (e .holds))
-
--- ---- the writer
-
--- what the writer leaves is told of the record that the numbers make
-pub of-numbers : {f g : Fields} {lent : List ℕ} {r : ℕ} {after : List ℕ} → f ≡ g → BlockWritten f lent r after → BlockWritten g lent r after
-of-numbers {f} {g} {lent} {r} {after} e w = subst (λ (h : Fields). BlockWritten h lent r after) e w
-
--- ---- what a record shows
-
--- what the call leaves is told of the record that the numbers make
-pub shown-of : {f g : Fields} {lent : List ℕ} {r : ℕ} {after : List ℕ} → f ≡ g → FieldsShown f lent r after → FieldsShown g lent r after
-shown-of {lent = lent} {r} {after} e w = subst (λ (h : Fields). FieldsShown h lent r after) e w

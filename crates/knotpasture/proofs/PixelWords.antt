@@ -5,7 +5,6 @@ use Prim.Native.Nat.{ℕ}
 use Rattle.bc6.specs.declared.Pixels.{Pixels}
 use Rattle.bc6.specs.Call.{Painted}
 use Rattle.bc6_blocks.specs.declared.BlocksPixels.{BlocksPixels}
-use Rattle.bc6_blocks.specs.Run.{RunPainted}
 use Rattle.knotpasture.specs.Pixels.{pixelsWord, PixelsCalled, RunCalled}
 
 -- ---- the pixels call
@@ -19,10 +18,6 @@ pub one-outcome : {block : List ℕ} {format : ℕ} {out : List ℕ} {r s : ℕ}
 one-outcome d e = (d .answers ∙ sym (e .answers), d .holds ∙ sym (e .holds))
 
 -- ---- the call over a run of blocks
-
-pub run-called : {blocks : List ℕ} {format : ℕ} {out : List ℕ} {p : BlocksPixels} {after : List ℕ}
-    → RunPainted blocks format out p after → RunCalled blocks format out (p .answer) after (p .blocks) (p .infinite)
-run-called d = record { answers = d .answers; holds = d .holds }
 
 pub one-run : {blocks : List ℕ} {format : ℕ} {out : List ℕ} {r s m n i j : ℕ} {a b : List ℕ}
     → RunCalled blocks format out r a m i → RunCalled blocks format out s b n j → (r ≡ s) × (m ≡ n) × (i ≡ j) × (a ≡ b)

@@ -1,7 +1,7 @@
 -- The words of the exports over records with a place and over a probe, from what the calls ensure. Assumes nothing.
 use mathlib.Core.Path.{_≡_, refl, sym, ap, subst, _∙_}
 use mathlib.Core.List.{List}
-use Prim.Native.Nat.{ℕ, zero, suc, _+_, _*_, _<_, _≤_}
+use Prim.Native.Nat.{ℕ, zero, suc, _+_, _-_, _*_, _<_, _≤_}
 use native.Mathlib.Omega.{arith}
 use lib.Dec.{eqb, ltb}
 use lib.ListN.{length, take, drop}
@@ -34,14 +34,6 @@ use Rattle.knotpasture.specs.Probe.{placedOffset, movedWord, PlacedReadi
 
 -- ---- the record calls
 
-refusal-called : (store : List ℕ) (n number : ℕ) → placedRefusal store n ≡ number → (number ≡ 0 → ⊥) → PlacedReadingCalled store n number 0 0
-refusal-called store n zero e h = absurd (h refl)
-refusal-called store n (suc number) e h = record { answers = rw e; column-told = rw e; row-told = rw e }
-
-no-offset : (number n : ℕ) → (number ≡ 0 → ⊥) → 0 ≡ placedOffset number n
-no-offset zero n h = absurd (h refl)
-no-offset (suc number) n h = refl
-
 module _ {store : List ℕ} {n : ℕ} {x : PlacedReading} (d : PlacedRead store n x) where
   pub placed-called : {r : PlacedRecord} → x ≡ reading.Record r
       → PlacedReadingCalled store n (r .format * 0x100 + r .place .face * 0x10000 + r .tile * 0x100000000) (r .place .column) (r .place .row)
@@ -50,16 +42,19 @@ module _ {store : List ℕ} {n : ℕ} {x : PlacedReading} (d : PlacedRead store 
       let i = record-is d e in
       record { answers = rw (u, i); column-told = rw (u, i); row-told = rw (u, i) }
 
+  some-number : {number : ℕ} → x ≡ reading.Refused number → placedRefusal store n ≡ suc (placedRefusal store n - 1)
+  some-number e = omega (arith, refused d e)
+
   pub placed-refused : {number : ℕ} → x ≡ reading.Refused number → PlacedReadingCalled store n number 0 0
   placed-refused {number} e =
       let a : number ≡ placedRefusal store n = rw e at (d .answers) in
-      refusal-called store n number (sym a) (λ z. refused d e (sym a ∙ z))
+      record { answers = a ∙ rw (some-number e); column-told = rw (some-number e); row-told = rw (some-number e) }
 
   pub placed-offset : {r : PlacedRecord} → x ≡ reading.Record r → n * placeSize + placeHead ≡ placedOffset (placedRefusal store n) n
   placed-offset e = rw (unrefused d e)
 
   pub refused-offset : {number : ℕ} → x ≡ reading.Refused number → 0 ≡ placedOffset (placedRefusal store n) n
-  refused-offset e = no-offset (placedRefusal store n) n (refused d e)
+  refused-offset e = rw (some-number e)
 
   -- a record that is there starts inside the store
   pub inside : {r : PlacedRecord} → x ≡ reading.Record r → n * placeSize < placeLimit

@@ -1,7 +1,7 @@
 -- The words that the exports over a store answer, from what the calls ensure. Assumes nothing.
-use mathlib.Core.Path.{_≡_, refl, sym, ap, _∙_}
+use mathlib.Core.Path.{_≡_, sym, ap, _∙_}
 use mathlib.Core.List.{List, [], _∷_}
-use Prim.Native.Nat.{ℕ, zero, suc, _+_, _*_, _<_, _≤_}
+use Prim.Native.Nat.{ℕ, suc, _+_, _-_, _*_, _<_, _≤_}
 use native.Mathlib.Omega.{arith}
 use lib.Dec.{eqb}
 use lib.ListN.{take, drop}
@@ -20,17 +20,9 @@ use Rattle.store_spec.specs.Twins.{refusal, Listed, ListedIn}
 use Rattle.store_spec.proofs.Listing.{refused-alone, counts-add-up, whole, list-is, silent-in}
 use Rattle.store_twins.specs.Strict.{StrictlyListed}
 use Rattle.store_twins.proofs.Strictness as strict
-use Rattle.knotpasture.specs.Store.{recordWord, readingWord, offsetAt, twinsWord, TwinsCalled, StrictCalled, TwinsInCalled}
+use Rattle.knotpasture.specs.Store.{readingWord, offsetAt, twinsWord, TwinsCalled, StrictCalled, TwinsInCalled}
 
 -- ---- the record calls
-
-refusal-word : (store : List ℕ) (n number : ℕ) → (number ≡ 0 → ⊥) → number ≡ recordWord number store n
-refusal-word store n zero h = absurd (h refl)
-refusal-word store n (suc number) h = refl
-
-no-offset : (number n : ℕ) → (number ≡ 0 → ⊥) → 0 ≡ offsetAt number n
-no-offset zero n h = absurd (h refl)
-no-offset (suc number) n h = refl
 
 module _ {store : List ℕ} {n : ℕ} {x : RecordReading} (d : RecordRead store n x) where
   pub record-word : {r : Record} → x ≡ reading.Record r → r .format * 0x100 + r .tile * 0x100000000 ≡ readingWord store n
@@ -41,16 +33,19 @@ module _ {store : List ℕ} {n : ℕ} {x : RecordReading} (d : RecordRead store 
       let f : r .format ≡ formatOf store n = cc in
       rw (u, t, f)
 
+  some-number : {number : ℕ} → x ≡ reading.Refused number → recordRefusal store n ≡ suc (recordRefusal store n - 1)
+  some-number e = omega (arith, refused d e)
+
   pub refused-word : {number : ℕ} → x ≡ reading.Refused number → number ≡ readingWord store n
   refused-word {number} e =
       let a : number ≡ recordRefusal store n = rw e at (d .answers) in
-      a ∙ refusal-word store n (recordRefusal store n) (refused d e)
+      a ∙ rw (some-number e)
 
   pub record-offset : {r : Record} → x ≡ reading.Record r → n * recordSize + headSize ≡ offsetAt (recordRefusal store n) n
   record-offset e = rw (unrefused d e)
 
   pub refused-offset : {number : ℕ} → x ≡ reading.Refused number → 0 ≡ offsetAt (recordRefusal store n) n
-  refused-offset e = no-offset (recordRefusal store n) n (refused d e)
+  refused-offset e = rw (some-number e)
 
   -- a record that is there starts inside the store
   pub inside : {r : Record} → x ≡ reading.Record r → n * recordSize < storeLimit

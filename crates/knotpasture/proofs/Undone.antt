@@ -16,7 +16,6 @@ use Rattle.bc6_writer.proofs.Undone.{answered, read-back, written-size, written
 use Rattle.bc6_numbers.specs.Numbers.{numberCount, numbersOf, fieldsFrom}
 use Rattle.bc6_numbers.proofs.Back.{fields-back}
 use Rattle.knotpasture.specs.Fields.{FieldsCalled}
-use Rattle.knotpasture.proofs.FieldWords.{of-numbers}
 
 -- the numbers that are written of an unreserved block, where there is room for no other
 pub numbers-are : (block : List ℕ) (format : ℕ) → length block ≡ blockSize → format ≤ 1 → 1 ≤ modeOf block → {lent : List ℕ} → length lent ≡ numberCount
@@ -40,7 +39,7 @@ pub numbers-back : (f : Fields) → Valid f → {out : List ℕ} → length out 
     → {lent : List ℕ} → length lent ≡ numberCount → {r : ℕ} {numbers : List ℕ} → FieldsCalled block (f .format) lent r numbers
     → (s ≡ done) × (numbers ≡ numbersOf f)
 numbers-back f v {out} o {s} {block} w l d =
-    let x : BlockWritten f out s block = of-numbers (fields-back f v) w in (
+    let x : BlockWritten f out s block = rw (fields-back f v) at w in (
       answered f v o x,
       numbers-are block (f .format) (written-size f v o x) (v .format-known) (written-mode f v o x) l d ∙ ap numbersOf (read-back f v o x),
     )

@@ -12,12 +12,6 @@ returns c = refused-offset (c .before .before .placed-record-at .ensures) (c .en
 within : (c : tie.After-enum-told) → c .before .before .before .before .args .n * placeSize < placeLimit
 within c = inside (c .before .before .placed-record-at .ensures) (c .enum-told .given .1)
 
-mul-result : tie.Need-mul-result
-mul-result c = record { fits = omega (arith, within c) }
-
-add-result : tie.Need-add-result
-add-result c = record { fits = omega (arith, within c) }
-
 returns-2 : tie.Need-returns-2
 returns-2 c = placed-offset (c .before .before .placed-record-at .ensures) (c .enum-told .given .1)
 
@@ -29,6 +23,6 @@ knot-placed-record-block-spec =
     (λ c. search needs)
     (λ c. search needs)
     returns
-    mul-result
-    add-result
+    (λ c. record { fits = omega (arith, within c) })
+    (λ c. record { fits = omega (arith, within c) })
     returns-2)

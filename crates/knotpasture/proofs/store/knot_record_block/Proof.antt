@@ -12,16 +12,10 @@ returns c = refused-offset (c .before .before .record-at .ensures) (c .enum-told
 within : (c : tie.After-enum-told) → c .before .before .before .before .args .n * recordSize < storeLimit
 within c = inside (c .before .before .record-at .ensures) (c .enum-told .given .1)
 
-mul-result : tie.Need-mul-result
-mul-result c = record { fits = omega (arith, within c) }
-
-add-result : tie.Need-add-result
-add-result c = record { fits = omega (arith, within c) }
-
 returns-2 : tie.Need-returns-2
 returns-2 c = record-offset (c .before .before .record-at .ensures) (c .enum-told .given .1)
 
 pub knot-record-block-spec : {M : Type 1} → statement M
 knot-record-block-spec =
     tie.close
-    (tie.spec (λ c κs. search needs) (λ c. search needs) (λ c. search needs) returns mul-result add-result returns-2)
+    (tie.spec (λ c κs. search needs) (λ c. search needs) (λ c. search needs) returns (λ c. record { fits = omega (arith, within c) }) (λ c. record { fits = omega (arith, within c) }) returns-2)

@@ -1,5 +1,5 @@
 -- The widths of a record's numbers, as the code works them out. Assumes nothing.
-use mathlib.Core.Path.{_≡_, _∙_, refl, sym, ap}
+use mathlib.Core.Path.{_≡_, _∙_, refl, ap}
 use mathlib.Core.Bool.{Bool, true, false}
 use mathlib.Core.List.{[], _∷_}
 use Prim.Native.Nat.{ℕ, _-_, _*_, _%_, _^_, _≤_, _<_}
@@ -19,7 +19,6 @@ use Rattle.bc6h_spec.specs.Regions.{regionOf, region1Of}
 use Rattle.bcn_spec.specs.Indices.{has, storedBits}
 use Rattle.bc6h_spec.specs.Fields.{indexBits, fixups}
 use Rattle.bc6h_spec.proofs.Once.{row-once}
-use Rattle.bc6h_spec.proofs.Partitions.{counted-one}
 use Rattle.bcn_data.specs.declared.Subset2Map.{Subset2Map}
 use Rattle.bcn_data.specs.Subsets.{subset2}
 use Rattle.bc6_mode.specs.declared.ModeBits.{ModeBits}
@@ -34,22 +33,19 @@ below-power value bits h = ap (ltb value) (shl-exact {a = 1} 1 bits 32 (lit< tt)
 module _ (mode : ℕ) {bits : ModeBits} (e : bits ≡ bitsFor mode) where
   pub own-red : (channel : ℕ) → channel ≡ 0 → bits .r ≡ ownWidth mode channel
   unfolding bitsFor
-  own-red channel z = rw z (ap (λ (b : ModeBits). b .r) e)
+  own-red channel z = rw (z, e)
 
   pub own-green : (channel : ℕ) → channel ≡ 1 → bits .g ≡ ownWidth mode channel
   unfolding bitsFor
-  own-green channel z = rw z (ap (λ (b : ModeBits). b .g) e)
+  own-green channel z = rw (z, e)
 
   pub own-blue : (channel : ℕ) → channel < 3 → (channel ≡ 0 → ⊥) → (channel ≡ 1 → ⊥) → bits .b ≡ ownWidth mode channel
   unfolding bitsFor
-  own-blue channel h n o =
-      let z : channel ≡ 2 = omega arith in
-      rw z (ap (λ (b : ModeBits). b .b) e)
+  own-blue channel h n o = let z : channel ≡ 2 = omega arith in rw (z, e)
 
-  module _ (place : ℕ) where
-    pub first-width : place < 3 → bits .a0 ≡ width mode place
-    unfolding width bitsFor
-    first-width h = rw (lt-ltb place 3 h) (ap (λ (b : ModeBits). b .a0) e)
+  pub first-width : (place : ℕ) → place < 3 → bits .a0 ≡ width mode place
+  unfolding width bitsFor
+  first-width place h = rw (lt-ltb place 3 h, e)
 
 module _ (mode place : ℕ) (h : 3 ≤ place) where
   pub second-width : {w : ℕ} → place < 6 → w ≡ ownWidth mode (place % 3) → w ≡ width mode place
@@ -68,14 +64,6 @@ module _ (mode place : ℕ) (h : 3 ≤ place) where
 pub narrow : (mode place : ℕ) → 1 ≤ mode → mode ≤ 14 → place < 12 → {w : ℕ} → w ≡ width mode place → w ≤ 16
 narrow mode place low high h {w} e = let k : width mode place < 17 = row-once mode low high .narrow place (omega arith) in omega (arith, e)
 
-pub part-two : (mode partition : ℕ) → mode ≤ 10 → ltb partition 32 ≡ ltb partition (2 ^ width mode 13)
-unfolding width
-part-two mode partition h = rw (le-leb mode 10 h) refl
-
-pub part-one : (mode partition : ℕ) → 10 < mode → ltb partition 1 ≡ ltb partition (2 ^ width mode 13)
-unfolding width
-part-one mode partition h = rw (lt-leb mode 10 h) refl
-
 -- ---- the regions
 
 pub count-two : (mode partition : ℕ) {map : Subset2Map} {ones : ℕ} → mode ≤ 10 → map ≡ subset2 partition
@@ -87,24 +75,7 @@ count-two mode partition {map} h em eo =
     (made-cong (bit (map .«subset_indexes»)) (regionOf mode partition)
     (λ k. ap (λ (y : Subset2Map). bit (y .«subset_indexes») k) em ∙ rw (le-leb mode 10 h) refl) 16)
 
-pub count-none : (mode partition : ℕ) → 10 < mode → 0 ≡ region1Of mode partition
-count-none mode partition h = sym (counted-one mode partition (lt-leb mode 10 h))
-
-pub fixup-two : (mode partition : ℕ) {map : Subset2Map} → mode ≤ 10 → map ≡ subset2 partition → map .«fixup_index_2» ≡ secondFixup mode partition
-unfolding secondFixup
-fixup-two mode partition h e = rw (le-leb mode 10 h) (ap (λ (y : Subset2Map). y .«fixup_index_2») e)
-
-pub fixup-none : (mode partition : ℕ) → 10 < mode → 0 ≡ secondFixup mode partition
-unfolding secondFixup
-fixup-none mode partition h = rw (lt-leb mode 10 h) refl
-
 -- ---- the indices
-
-pub bits-two : (mode : ℕ) → mode ≤ 10 → _≡_ {A = ℕ} 3 (indexBits mode)
-bits-two mode h = rw (le-leb mode 10 h) refl
-
-pub bits-one : (mode : ℕ) → 10 < mode → _≡_ {A = ℕ} 4 (indexBits mode)
-bits-one mode h = rw (lt-leb mode 10 h) refl
 
 pub bits-range : (mode : ℕ) → (1 ≤ indexBits mode) × (indexBits mode ≤ 4)
 bits-range mode = picks (twoRegions mode) 3 4 (λ (n : ℕ). (1 ≤ n) × (n ≤ 4)) (λ _. (lit≤ tt, lit≤ tt)) (λ _. (lit≤ tt, lit≤ tt))
@@ -112,16 +83,16 @@ bits-range mode = picks (twoRegions mode) 3 4 (λ (n : ℕ). (1 ≤ n) × (n ≤
 module _ (mode fixup pixel : ℕ) {bits : ℕ} (e : bits ≡ indexBits mode) where
   pub size-first : pixel ≡ 0 → bits - 1 ≡ indexSize mode fixup pixel
   unfolding indexSize
-  size-first z = rw (eq-eqb pixel 0 z) (ap (λ (w : ℕ). w - 1) e)
+  size-first z = rw (eq-eqb pixel 0 z, e)
 
   module _ (n : pixel ≡ 0 → ⊥) where
     pub size-fixup : pixel ≡ fixup → bits - 1 ≡ indexSize mode fixup pixel
     unfolding indexSize
-    size-fixup q = rw (ne-eqb pixel 0 n, eq-eqb pixel fixup q) (ap (λ (w : ℕ). w - 1) e)
+    size-fixup q = rw (ne-eqb pixel 0 n, eq-eqb pixel fixup q, e)
 
     pub size-other : (pixel ≡ fixup → ⊥) → bits ≡ indexSize mode fixup pixel
     unfolding indexSize
-    size-other q = rw (ne-eqb pixel 0 n, ne-eqb pixel fixup q) e
+    size-other q = rw (ne-eqb pixel 0 n, ne-eqb pixel fixup q, e)
 
 pub size-le : (mode fixup pixel : ℕ) → indexSize mode fixup pixel ≤ 4
 unfolding indexSize

@@ -5,12 +5,6 @@ use Rattle.bc6_fields.proofs.Calls.{bad-format, bad-block, bad-mode, al
 use Rattle.bc6_fields.proofs.block_fields.Statement.{statement}
 use Rattle.bc6_fields.proofs.block_fields.Tie as tie
 
-returns : tie.Need-returns
-returns c = bad-format _ _ (c .before .if1 .taken) (c .none .ensures)
-
-returns-2 : tie.Need-returns-2
-returns-2 c = bad-block _ _ (search needs) (c .before .if2 .taken) (c .none2 .ensures)
-
 returns-3 : tie.Need-returns-3
 returns-3 c =
     let read = c .before .before .before in
@@ -26,9 +20,9 @@ block-fields-spec =
     tie.close
     (tie.spec
     (λ c κs. search needs)
-    returns
+    (λ c. bad-format _ _ (c .before .if1 .taken) (c .none .ensures))
     (λ c κs. search needs)
-    returns-2
+    (λ c. bad-block _ _ (search needs) (c .before .if2 .taken) (c .none2 .ensures))
     (λ c κs. search needs)
     (λ c κs. search needs)
     returns-3

@@ -15,12 +15,6 @@ new-p2-requires c κs =
     let f = fixup-range _ (part (c .before .before .before)) (c .before .before .of .ensures) in
     (search needs, search needs, f .0, f .1)
 
-cast-partition : tie.Need-cast-t15
-cast-partition c = let h = part (c .before .before .before .before) in search needs
-
-cast-ones : tie.Need-cast-t17
-cast-ones c = let h = few-ones _ (c .count-ones .ensures) in search needs
-
 returns : tie.Need-returns
 returns c =
     let of = c .before .before .before .before .before in
@@ -44,9 +38,9 @@ fields-from-spec =
     (λ c. search needs)
     new-p2-requires
     (λ c. search needs)
-    cast-partition
+    (λ c. let h = part (c .before .before .before .before) in search needs)
     (λ c κs. search needs)
-    cast-ones
+    (λ c. let h = few-ones _ (c .count-ones .ensures) in search needs)
     (λ c κs. narrow (c .before .new-p2 .ensures) (lit≤ tt))
     returns
     (λ c κs. search needs)

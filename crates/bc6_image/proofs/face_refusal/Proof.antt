@@ -12,9 +12,6 @@ use Rattle.bc6_image.proofs.Calls.{row-small, Sides, sides, refused-for
 use Rattle.bc6_image.proofs.face_refusal.Statement.{statement}
 use Rattle.bc6_image.proofs.face_refusal.Tie as tie
 
-returns : tie.Need-returns
-returns c = refused-format _ _ _ _ _ _ _ (c .if1 .taken)
-
 returns-2 : tie.Need-returns-2
 returns-2 c =
     let s = c .before .before .before .args in
@@ -35,9 +32,6 @@ known c = let s = c .before .before .before .before .before .args in sides (s .s
 
 row : (c : tie.After-lanes-of) → (let s = c .before .before .before .before .before .args in c .lanes-of .result * (4 * s .width) ≡ rowSize (s .alpha) (s .width))
 row c = let s = c .before .before .before .before .before .args in ap (λ (k : ℕ). k * (4 * s .width)) (c .lanes-of .ensures)
-
-mul-row : tie.Need-mul-row
-mul-row c = let d = known c in record { fits = omega arith }
 
 mul-row-2 : tie.Need-mul-row-2
 mul-row-2 c =
@@ -67,12 +61,6 @@ div-if6 c =
     let s = a .before .before .before .before .before .args in
     positive (s .alpha) (s .size) (s .format) (s .width) (s .height) (s .pitch) (s .room) (search needs) (whole a) (a .before .if3 .left) (let r = row a in omega arith)
 
-mul-if6 : tie.Need-mul-if6
-mul-if6 c = let d = known (c .before .before) in record { fits = omega arith }
-
-sub-if6 : tie.Need-sub-if6
-sub-if6 c = let d = known (c .before .before) in search needs
-
 last : (c : tie.Else5) → (let s = c .before .before .before .before .before .before .before .args in
     (s .room - c .before .before .lanes-of .result * (4 * s .width)) / s .pitch ≡ (s .room - rowSize (s .alpha) (s .width)) / s .pitch)
 last c = let s = c .before .before .before .before .before .before .before .args in ap (λ (k : ℕ). (s .room - k) / s .pitch) (row (c .before .before))
@@ -97,17 +85,17 @@ pub face-refusal-spec : {M : Type 1} → statement M
 face-refusal-spec =
     tie.close
     (tie.spec
-    returns
+    (λ c. refused-format _ _ _ _ _ _ _ (c .if1 .taken))
     (λ c κs. search needs)
     returns-2
     returns-3
     (λ c κs. search needs)
-    mul-row
+    (λ c. let d = known c in record { fits = omega arith })
     mul-row-2
     returns-4
     returns-5
     div-if6
-    mul-if6
-    sub-if6
+    (λ c. let d = known (c .before .before) in record { fits = omega arith })
+    (λ c. let d = known (c .before .before) in search needs)
     returns-6
     returns-7)

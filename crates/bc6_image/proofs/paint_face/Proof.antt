@@ -24,9 +24,6 @@ Inv-loop blocks width height format alpha out₀ pitch step count infinite₀ n�
 abbrev μ-loop : tie.MeasureT-loop
 μ-loop blocks width height format alpha out₀ pitch step count infinite₀ n₀ out infinite n = count - n
 
-loop-holds : tie.Need-loop-holds Inv-loop μ-loop
-loop-holds c = (search needs, put-start _ _ _ _ _ _, refl, none-counted _ _)
-
 -- where the block goes
 corner : (c : tie.In-loop Inv-loop μ-loop)
     → (let s = c .before .before .before .before .before .args in Cornered (s .width) (s .pitch) (c .before .before .lanes-of .result) (c .before .loop .n) (length (s .out .now)))
@@ -70,7 +67,7 @@ paint-face-spec =
     Inv-loop
     μ-loop
     (λ c κs. search needs)
-    loop-holds
+    (λ c. (search needs, put-start _ _ _ _ _ _, refl, none-counted _ _))
     (λ c. search needs)
     (λ c. search needs)
     (λ c. search needs)

@@ -18,12 +18,6 @@ Inv-loop fields bits endpoints place₀ place = (place ≤ 12) × (below (endpoi
 abbrev μ-loop : tie.MeasureT-loop
 μ-loop fields bits endpoints place₀ place = 12 - place
 
-loop-holds : tie.Need-loop-holds Inv-loop μ-loop
-loop-holds c = (search needs, refl)
-
-fits-requires : tie.Need-fits-requires Inv-loop μ-loop
-fits-requires c κs = narrow _ _ (search needs) (search needs) (search needs) (c .place-bits .ensures)
-
 tested : (c : tie.After-fits2 Inv-loop μ-loop) → c .fits2 .result ≡ endpointFits (c .before .before .before .before .before .before .args .fields) (c .before .before .before .loop .place)
 tested c = end-tested (c .before .before .before .before .before .before .args .fields) _ (c .before .place-bits .ensures) (c .fits2 .ensures)
 
@@ -46,11 +40,11 @@ endpoints-fit-spec =
     Inv-loop
     μ-loop
     (λ c κs. search needs)
-    loop-holds
+    (λ c. (search needs, refl))
     (λ c. search needs)
     (λ c. search needs)
     (λ c κs. search needs)
-    fits-requires
+    (λ c κs. narrow _ _ (search needs) (search needs) (search needs) (c .place-bits .ensures))
     returns
     (λ c. search needs)
     (λ c. search needs)

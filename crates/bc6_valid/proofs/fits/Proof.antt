@@ -4,8 +4,5 @@ use Rattle.bc6_valid.proofs.Sizes.{below-power}
 use Rattle.bc6_valid.proofs.fits.Statement.{statement}
 use Rattle.bc6_valid.proofs.fits.Tie as tie
 
-returns : tie.Need-returns
-returns c = below-power (c .args .value) (c .args .bits) (search needs)
-
 pub fits-spec : {M : Type 1} → statement M
-fits-spec = tie.close (tie.spec (λ c. search needs) returns)
+fits-spec = tie.close (tie.spec (λ c. search needs) (λ c. below-power (c .args .value) (c .args .bits) (search needs)))

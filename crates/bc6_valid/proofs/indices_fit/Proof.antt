@@ -18,12 +18,6 @@ Inv-loop fields fixup indices pixel₀ pixel = (pixel ≤ 16) × (below (indexFi
 abbrev μ-loop : tie.MeasureT-loop
 μ-loop fields fixup indices pixel₀ pixel = 16 - pixel
 
-loop-holds : tie.Need-loop-holds Inv-loop μ-loop
-loop-holds c = (search needs, refl)
-
-fits-requires : tie.Need-fits-requires Inv-loop μ-loop
-fits-requires c κs = size-narrow _ _ _ (c .stored-bits .ensures)
-
 tested : (c : tie.After-fits2 Inv-loop μ-loop) → c .fits2 .result ≡ indexFits (c .before .before .before .before .before .before .args .fields) (c .before .before .before .loop .pixel)
 tested c = index-tested (c .before .before .before .before .before .before .args .fields) _ (c .before .before .before .before .before .second-fixup .ensures) (c .before .stored-bits .ensures) (c .fits2 .ensures)
 
@@ -46,11 +40,11 @@ indices-fit-spec =
     Inv-loop
     μ-loop
     (λ c κs. search needs)
-    loop-holds
+    (λ c. (search needs, refl))
     (λ c. search needs)
     (λ c. search needs)
     (λ c κs. search needs)
-    fits-requires
+    (λ c κs. size-narrow _ _ _ (c .stored-bits .ensures))
     returns
     (λ c. search needs)
     (λ c. search needs)

@@ -5,15 +5,6 @@ use Rattle.bc6_valid.proofs.Verdict as laws
 use Rattle.bc6_valid.proofs.is_valid.Statement.{statement}
 use Rattle.bc6_valid.proofs.is_valid.Tie as tie
 
-returns : tie.Need-returns
-returns c = laws.other-format _ (search needs)
-
-returns-2 : tie.Need-returns-2
-returns-2 c = laws.mode-below _ (search needs)
-
-returns-3 : tie.Need-returns-3
-returns-3 c = laws.mode-above _ (search needs)
-
 returns-4 : tie.Need-returns-4
 returns-4 c = laws.wide-endpoint _ (c .before .endpoints-fit .ensures) (not-true _ (c .if4 .taken))
 
@@ -40,9 +31,9 @@ pub is-valid-spec : {M : Type 1} → statement M
 is-valid-spec =
     tie.close
     (tie.spec
-    returns
-    returns-2
-    returns-3
+    (λ c. laws.other-format _ (search needs))
+    (λ c. laws.mode-below _ (search needs))
+    (λ c. laws.mode-above _ (search needs))
     (λ c κs. search needs)
     returns-4
     (λ c κs. search needs)

@@ -4,27 +4,18 @@ use Rattle.bc6_writer.proofs.Scattering.{code-two, code-five, code-last
 use Rattle.bc6_writer.proofs.mode_code.Statement.{statement}
 use Rattle.bc6_writer.proofs.mode_code.Tie as tie
 
-returns : tie.Need-returns
-returns c = code-two _ (search needs) (search needs) (search needs)
-
-returns-2 : tie.Need-returns-2
-returns-2 c = code-five _ (search needs) (search needs) (search needs) (search needs)
-
-returns-3 : tie.Need-returns-3
-returns-3 c = code-last _ (search needs) (search needs) (search needs) (search needs)
-
 pub mode-code-spec : {M : Type 1} → statement M
 mode-code-spec =
     tie.close
     (tie.spec
     (λ c. search needs)
     (λ c. search needs)
-    returns
+    (λ c. code-two _ (search needs) (search needs) (search needs))
     (λ c. search needs)
     (λ c. search needs)
     (λ c. search needs)
-    returns-2
+    (λ c. code-five _ (search needs) (search needs) (search needs) (search needs))
     (λ c. search needs)
     (λ c. search needs)
     (λ c. search needs)
-    returns-3)
+    (λ c. code-last _ (search needs) (search needs) (search needs) (search needs)))

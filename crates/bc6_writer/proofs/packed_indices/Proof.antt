@@ -11,9 +11,6 @@ Inv-loop fields fixup indices bits₀ at₀ pixel₀ bits at pixel = (pixel ≤ 
 abbrev μ-loop : tie.MeasureT-loop
 μ-loop fields fixup indices bits₀ at₀ pixel₀ bits at pixel = 16 - pixel
 
-loop-holds : tie.Need-loop-holds Inv-loop μ-loop
-loop-holds c = (search needs, laws.so-first _ (c .before .before .pre))
-
 shl-bits : tie.Need-shl-bits Inv-loop μ-loop
 shl-bits c = let h = laws.so-at _ (c .before .before .before .before .pre) (c .before .loop .inv .1) (search needs) in search needs
 
@@ -39,7 +36,7 @@ packed-indices-spec =
     Inv-loop
     μ-loop
     (λ c κs. search needs)
-    loop-holds
+    (λ c. (search needs, laws.so-first _ (c .before .before .pre)))
     (λ c. search needs)
     (λ c. search needs)
     shl-bits

@@ -6,9 +6,6 @@ use Rattle.bc6_writer.proofs.Calls as laws
 use Rattle.bc6_writer.proofs.write_block.Statement.{statement}
 use Rattle.bc6_writer.proofs.write_block.Tie as tie
 
-returns : tie.Need-returns
-returns c = laws.bad-format _ _ (search needs)
-
 returns-2 : tie.Need-returns-2
 returns-2 c = laws.bad-record _ _ (search needs) (c .before .is-valid .ensures) (not-true _ (c .if2 .taken))
 
@@ -27,7 +24,7 @@ pub write-block-spec : {M : Type 1} → statement M
 write-block-spec =
     tie.close
     (tie.spec
-    returns
+    (λ c. laws.bad-format _ _ (search needs))
     (λ c κs. search needs)
     returns-2
     returns-3

@@ -5,8 +5,5 @@ use Rattle.dds.proofs.Levels.{one-is}
 use Rattle.dds.proofs.at_least_one.Statement.{statement}
 use Rattle.dds.proofs.at_least_one.Tie as tie
 
-returns-2 : tie.Need-returns-2
-returns-2 c = omega (arith, one-is (c .before .args .number))
-
 pub at-least-one-spec : {M : Type 1} → statement M
-at-least-one-spec = tie.close (tie.spec (λ c. search needs) returns-2)
+at-least-one-spec = tie.close (tie.spec (λ c. search needs) (λ c. omega (arith, one-is (c .before .args .number))))

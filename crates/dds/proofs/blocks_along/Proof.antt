@@ -4,8 +4,5 @@ use borrow.Author.Needs.{needs}
 use Rattle.dds.proofs.blocks_along.Statement.{statement}
 use Rattle.dds.proofs.blocks_along.Tie as tie
 
-returns : tie.Need-returns
-returns c = refl
-
 pub blocks-along-spec : {M : Type 1} → statement M
-blocks-along-spec = tie.close (tie.spec (λ c. search needs) returns)
+blocks-along-spec = tie.close (tie.spec (λ c. search needs) (λ c. refl))

@@ -30,9 +30,6 @@ add-bytes c =
     let a = c .before .before .before .args in
     omega (arith, next c, chain-most (l .level + 1) (a .width) (a .height) (search needs) (c .before .before .before .pre .1))
 
-loop-again : tie.Need-loop-again Inv-loop μ-loop
-loop-again c = (search needs, next c)
-
 returns : tie.Need-returns Inv-loop μ-loop
 returns c =
     let e : c .before .loop .level ≡ c .before .before .args .levels = omega arith in
@@ -49,5 +46,5 @@ chain-bytes-spec =
     add-bytes
     (λ c. search needs)
     (λ c. search needs)
-    loop-again
+    (λ c. (search needs, next c))
     returns)

@@ -18,12 +18,6 @@ ours c = sym (c .before .header-ours .ensures) ∙ not-false _ (c .if1 .left)
 returns : tie.Need-returns
 returns c = told-foreign _ _ _ (sym (c .before .before .header-ours .ensures) ∙ not-true _ (c .before .if1 .taken)) (c .refused .ensures)
 
-u32-at-requires : tie.Need-u32-at-requires
-u32-at-requires c κs = let h = ours-means _ _ _ (ours c) in omega arith
-
-u32-at-requires-2 : tie.Need-u32-at-requires-2
-u32-at-requires-2 c κs = let h = ours-means _ _ _ (ours (c .before)) in omega arith
-
 returns-2 : tie.Need-returns-2
 returns-2 c =
     told-size _ _ _ (c .before .before .before .u32-at2 .ensures) (c .before .before .before .before .u32-at .ensures) (ours (c .before .before .before .before .before))
@@ -50,8 +44,8 @@ head-of-spec =
     (λ c κs. search needs)
     (λ c κs. search needs)
     returns
-    u32-at-requires
-    u32-at-requires-2
+    (λ c κs. let h = ours-means _ _ _ (ours c) in omega arith)
+    (λ c κs. let h = ours-means _ _ _ (ours (c .before)) in omega arith)
     (λ c κs. search needs)
     (λ c κs. search needs)
     returns-2

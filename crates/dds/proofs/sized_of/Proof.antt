@@ -8,9 +8,6 @@ use Rattle.dds.proofs.Reading.{head-ours, head-sized, levels-fit, sized
 use Rattle.dds.proofs.sized_of.Statement.{statement}
 use Rattle.dds.proofs.sized_of.Tie as tie
 
-returns : tie.Need-returns
-returns c = sized-refused (c .before .before .head-of .ensures) (c .if1 .taken)
-
 u32-at-requires : tie.Need-u32-at-requires
 u32-at-requires c κs = let h = head-ours (c .before .before .head-of .ensures) (c .if1 .left) in omega (arith, h .long)
 
@@ -44,7 +41,7 @@ sized-of-spec =
     tie.close
     (tie.spec
     (λ c κs. search needs)
-    returns
+    (λ c. sized-refused (c .before .before .head-of .ensures) (c .if1 .taken))
     u32-at-requires
     (λ c κs. search needs)
     (λ c. search needs)

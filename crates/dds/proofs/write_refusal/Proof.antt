@@ -19,9 +19,6 @@ returns c = sym (write-format _ _ _ _ _ (search needs))
 returns-2 : tie.Need-returns-2
 returns-2 c = sym (write-size _ _ _ _ _ (search needs) (sym (c .before .size-ours .ensures) ∙ not-true _ (c .if2 .taken)))
 
-block-bytes-requires : tie.Need-block-bytes-requires
-block-bytes-requires c κs = size-means _ _ (sized c)
-
 returns-3 : tie.Need-returns-3
 returns-3 c =
     sym (write-blocks _ _ _ _ _ (search needs) (sized (c .before .before)) (λ e. c .if3 .taken (e ∙ sym (c .before .block-bytes .ensures))))
@@ -40,4 +37,4 @@ returns-5 c =
 pub write-refusal-spec : {M : Type 1} → statement M
 write-refusal-spec =
     tie.close
-    (tie.spec returns (λ c κs. search needs) returns-2 block-bytes-requires returns-3 add-if4 returns-4 returns-5)
+    (tie.spec returns (λ c κs. search needs) returns-2 (λ c κs. size-means _ _ (sized c)) returns-3 add-if4 returns-4 returns-5)

@@ -17,9 +17,6 @@ Inv-loop values colours₀ k₀ colours k = (k ≤ 16) × (colours ≡ made (col
 abbrev μ-loop : tie.MeasureT-loop
 μ-loop values colours₀ k₀ colours k = 16 - k
 
-loop-holds : tie.Need-loop-holds Inv-loop μ-loop
-loop-holds c = (search needs, made-none _ _)
-
 loop-again : tie.Need-loop-again Inv-loop μ-loop
 loop-again c =
     let l = c .before .before .before .before .before .loop in
@@ -39,7 +36,7 @@ colours-of-spec =
     Inv-loop
     μ-loop
     (λ c κs. search needs)
-    loop-holds
+    (λ c. (search needs, made-none _ _))
     (λ c. search needs)
     (λ c. search needs)
     (λ c. search needs)

@@ -24,9 +24,6 @@ abbrev μ-loop : tie.MeasureT-loop
 here : (c : tie.In-loop Inv-loop μ-loop) → Placed (c .before .before .before .before .args .across) (c .before .before .before .before .args .down) (c .before .loop .n) (length (c .before .before .before .before .args .blocks .now)) (length (c .before .before .before .before .args .out .now))
 here c = placed _ _ _ _ _ (search needs) (search needs) (search needs) (search needs) (search needs)
 
-loop-holds : tie.Need-loop-holds Inv-loop μ-loop
-loop-holds c = (search needs, run-start _ _ (length-up _ _ _ _) _, refl)
-
 put-band-requires : tie.Need-put-band-requires Inv-loop μ-loop
 put-band-requires c κs =
     let p = here (c .before) in
@@ -57,7 +54,7 @@ put-bands-spec =
     (tie.spec
     Inv-loop
     μ-loop
-    loop-holds
+    (λ c. (search needs, run-start _ _ (length-up _ _ _ _) _, refl))
     (λ c. search needs)
     (λ c. search needs)
     (λ c. let p = here c in record { fits = omega arith })

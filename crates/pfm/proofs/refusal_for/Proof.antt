@@ -12,9 +12,6 @@ use Rattle.pfm.proofs.refusal_for.Tie as tie
 even : (c : tie.Else2) → sizeWritable (c .before .before .before .args .width) (c .before .before .before .args .height) ≡ true
 even c = sym (c .before .size-even .ensures) ∙ not-false _ (c .if2 .left)
 
-returns : tie.Need-returns
-returns c = sym (write-format _ _ _ _ _ _ (search needs))
-
 returns-2 : tie.Need-returns-2
 returns-2 c = sym (write-size _ _ _ _ _ _ (search needs) (sym (c .before .size-even .ensures) ∙ not-true _ (c .if2 .taken)))
 
@@ -35,7 +32,7 @@ pub refusal-for-spec : {M : Type 1} → statement M
 refusal-for-spec =
     tie.close
     (tie.spec
-    returns
+    (λ c. sym (write-format _ _ _ _ _ _ (search needs)))
     (λ c κs. search needs)
     returns-2
     (λ c. search needs)

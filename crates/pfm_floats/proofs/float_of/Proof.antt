@@ -5,12 +5,6 @@ use Rattle.pfm_floats.proofs.Chosen.{normal-bits, size-whole, one-bits,
 use Rattle.pfm_floats.proofs.float_of.Statement.{statement}
 use Rattle.pfm_floats.proofs.float_of.Tie as tie
 
-float-from-bits-normal : tie.Need-float-from-bits-normal
-float-from-bits-normal c = normal-bits _ (search needs)
-
-int-to-float-subnormal : tie.Need-int-to-float-subnormal
-int-to-float-subnormal c = size-whole _ (search needs)
-
 float-from-bits-subnormal : tie.Need-float-from-bits-subnormal
 unfolding nanBits
 float-from-bits-subnormal c = search needs
@@ -18,9 +12,6 @@ float-from-bits-subnormal c = search needs
 float-from-bits-infinite : tie.Need-float-from-bits-infinite
 unfolding nanBits
 float-from-bits-infinite c = search needs
-
-float-from-bits-sign : tie.Need-float-from-bits-sign
-float-from-bits-sign c = one-bits _ (search needs)
 
 returns : tie.Need-returns
 returns c =
@@ -33,8 +24,8 @@ float-of-spec =
     (tie.spec
     (λ c. search needs)
     (λ c. search needs)
-    float-from-bits-normal
-    int-to-float-subnormal
+    (λ c. normal-bits _ (search needs))
+    (λ c. size-whole _ (search needs))
     float-from-bits-subnormal
     float-from-bits-infinite
     (λ c κs. search needs)
@@ -42,5 +33,5 @@ float-of-spec =
     (λ c κs. search needs)
     (λ c. search needs)
     (λ c. search needs)
-    float-from-bits-sign
+    (λ c. one-bits _ (search needs))
     returns)

@@ -6,9 +6,6 @@ use Rattle.pfm_floats.proofs.Stores.{word-stores}
 use Rattle.pfm_floats.proofs.put_word.Statement.{statement}
 use Rattle.pfm_floats.proofs.put_word.Tie as tie
 
-returns : tie.Need-returns
-returns c = word-stores (c .args .out .now) (c .args .at) (c .args .word)
-
 pub put-word-spec : {M : Type 1} → statement M
 put-word-spec =
     tie.close
@@ -25,4 +22,4 @@ put-word-spec =
     (λ c. search needs)
     (λ c. simp length-set (omega arith))
     (λ c. search needs)
-    returns)
+    (λ c. word-stores (c .args .out .now) (c .args .at) (c .args .word)))

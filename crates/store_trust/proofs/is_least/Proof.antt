@@ -18,9 +18,6 @@ x c = arg 32768 (c .fits .x) (omega (arith, power c, c .pre .2 .inside))
 abbrev top : tie.Start → Num
 top c = ones (c .args .bits - 1) (omega arith)
 
-sub-top-2 : tie.Need-sub-top-2
-sub-top-2 c = need (top c) tt
-
 sub-result : tie.Need-sub-result
 sub-result c = need (neg (kept (top c) tt)) tt
 
@@ -28,4 +25,4 @@ returns : tie.Need-returns
 returns c = sym (lt-flag (x c) (kept (neg (kept (top c) tt)) tt) refl) ∙ below-top (c .args .bits) (c .args .x) (c .pre .2)
 
 pub is-least-spec : {M : Type 1} → statement M
-is-least-spec = tie.close (tie.spec (λ c. search needs) (λ c. search needs) (λ c. search needs) sub-top-2 sub-result returns)
+is-least-spec = tie.close (tie.spec (λ c. search needs) (λ c. search needs) (λ c. search needs) (λ c. need (top c) tt) sub-result returns)

@@ -16,9 +16,6 @@ Inv-loop text₀ form store count end₀ n₀ text end n = (n ≤ count) × (len
 abbrev μ-loop : tie.MeasureT-loop
 μ-loop text₀ form store count end₀ n₀ text end n = count - n
 
-loop-holds : tie.Need-loop-holds Inv-loop μ-loop
-loop-holds c = (search needs, search needs, search needs, all.no-lines _ _ _)
-
 loop-again : tie.Need-loop-again Inv-loop μ-loop
 loop-again c = (search needs, search needs, search needs, lines.line-skipped _ (c .before .before .before .before .before .before .before .args .store .now) (c .before .before .before .loop .n) (c .before .cause-of .ensures) (c .if1 .taken) (c .before .before .before .loop .inv .3))
 
@@ -38,7 +35,7 @@ put-faults-spec =
     Inv-loop
     μ-loop
     (λ c κs. search needs)
-    loop-holds
+    (λ c. (search needs, search needs, search needs, all.no-lines _ _ _))
     (λ c κs. search needs)
     (λ c. search needs)
     (λ c. search needs)

@@ -12,10 +12,6 @@ use Rattle.text_clean.proofs.put_cleaning.Tie as tie
 room : length (replicate {A = ℕ} storeLimit 0) ≡ storeLimit
 room = length-replicate {A = ℕ} storeLimit 0
 
-put-text-requires : tie.Need-put-text-requires
-put-text-requires c κs =
-    (search needs, lines.cleaned-is room (c .before .before .clean-store .ensures))
-
 mul-size : tie.Need-mul-size
 mul-size c =
     let n = lines.left-size room (c .before .before .before .before .before .before .clean-store .ensures) in omega arith
@@ -44,7 +40,7 @@ put-cleaning-spec =
     (tie.spec
     (λ c. search needs)
     (λ c κs. search needs)
-    put-text-requires
+    (λ c κs. (search needs, lines.cleaned-is room (c .before .before .clean-store .ensures)))
     mul-size
     array-share-prefix-left
     slice-aggregate-put

@@ -16,9 +16,6 @@ Inv-loop text₀ store count end₀ n₀ text end n =
 abbrev μ-loop : tie.MeasureT-loop
 μ-loop text₀ store count end₀ n₀ text end n = count - n
 
-loop-holds : tie.Need-loop-holds Inv-loop μ-loop
-loop-holds c = (search needs, search needs, search needs, all.no-lines _ _ _)
-
 loop-again : tie.Need-loop-again Inv-loop μ-loop
 loop-again c =
     let l = c .before .before .before .loop in
@@ -41,7 +38,7 @@ put-lines-spec =
     Inv-loop
     μ-loop
     (λ c κs. search needs)
-    loop-holds
+    (λ c. (search needs, search needs, search needs, all.no-lines _ _ _))
     (λ c κs. search needs)
     (λ c. search needs)
     (λ c. search needs)

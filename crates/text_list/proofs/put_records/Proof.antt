@@ -15,9 +15,6 @@ Inv-loop text₀ store marks count end₀ n₀ text end n =
 abbrev μ-loop : tie.MeasureT-loop
 μ-loop text₀ store marks count end₀ n₀ text end n = count - n
 
-loop-holds : tie.Need-loop-holds Inv-loop μ-loop
-loop-holds c = (search needs, search needs, search needs, no-lines _ _ _)
-
 put-record-requires : tie.Need-put-record-requires Inv-loop μ-loop
 put-record-requires c κs = (search needs, c .before .before .before .before .before .before .before .before .pre .1 .1 .at (c .before .before .before .loop .n) (search needs))
 
@@ -38,7 +35,7 @@ put-records-spec =
     Inv-loop
     μ-loop
     (λ c κs. search needs)
-    loop-holds
+    (λ c. (search needs, search needs, search needs, no-lines _ _ _))
     (λ c. search needs)
     put-record-requires
     (λ c. search needs)

@@ -15,9 +15,6 @@ Inv-loop text₀ store count end₀ n₀ text end n =
 abbrev μ-loop : tie.MeasureT-loop
 μ-loop text₀ store count end₀ n₀ text end n = count - n
 
-loop-holds : tie.Need-loop-holds Inv-loop μ-loop
-loop-holds c = (search needs, search needs, search needs, no-lines _ _ _)
-
 loop-again : tie.Need-loop-again Inv-loop μ-loop
 loop-again c =
     let l = c .before .before .before .before .before .loop in
@@ -34,7 +31,7 @@ put-records-spec =
     (tie.spec
     Inv-loop
     μ-loop
-    loop-holds
+    (λ c. (search needs, search needs, search needs, no-lines _ _ _))
     (λ c κs. search needs)
     (λ c. search needs)
     (λ c. search needs)

@@ -3,11 +3,8 @@ use borrow.Author.Needs.{needs}
 use Rattle.knotpasture.proofs.probes.knot_probe_check.Statement.{statement}
 use Rattle.knotpasture.proofs.probes.knot_probe_check.Tie as tie
 
-fault-word-requires : tie.Need-fault-word-requires
-fault-word-requires c κs = fault-few _ _ (c .probe-check .ensures)
-
 returns : tie.Need-returns
 returns c = fault-called _ _ (c .before .probe-check .ensures) (c .fault-word .ensures)
 
 pub knot-probe-check-spec : {M : Type 1} → statement M
-knot-probe-check-spec = tie.close (tie.spec (λ c κs. search needs) fault-word-requires returns)
+knot-probe-check-spec = tie.close (tie.spec (λ c κs. search needs) (λ c κs. fault-few _ _ (c .probe-check .ensures)) returns)

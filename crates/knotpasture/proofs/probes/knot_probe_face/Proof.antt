@@ -3,9 +3,6 @@ use borrow.Author.Needs.{needs}
 use Rattle.knotpasture.proofs.probes.knot_probe_face.Statement.{statement}
 use Rattle.knotpasture.proofs.probes.knot_probe_face.Tie as tie
 
-returns : tie.Need-returns
-returns c = face-called (c .before .before .before .probe-face .ensures)
-
 pub knot-probe-face-spec : {M : Type 1} → statement M
 knot-probe-face-spec =
     tie.close
@@ -13,4 +10,4 @@ knot-probe-face-spec =
     (λ c κs. search needs)
     (λ c. search needs)
     (λ c. search needs)
-    returns)
+    (λ c. face-called (c .before .before .before .probe-face .ensures)))

@@ -3,12 +3,9 @@ use Rattle.knotpasture.proofs.StoreWords.{strict-called, strict-few}
 use Rattle.knotpasture.proofs.store.knot_strict_twin_list.Statement.{statement}
 use Rattle.knotpasture.proofs.store.knot_strict_twin_list.Tie as tie
 
-list-word-requires : tie.Need-list-word-requires
-list-word-requires c κs = strict-few (c .before .before .strict-twin-list .ensures)
-
 returns : tie.Need-returns
 returns c = strict-called (c .before .before .before .strict-twin-list .ensures) (c .list-word .ensures)
 
 pub knot-strict-twin-list-spec : {M : Type 1} → statement M
 knot-strict-twin-list-spec =
-    tie.close (tie.spec (λ c κs. search needs) list-word-requires (λ c. search needs) returns)
+    tie.close (tie.spec (λ c κs. search needs) (λ c κs. strict-few (c .before .before .strict-twin-list .ensures)) (λ c. search needs) returns)

@@ -3,12 +3,9 @@ use Rattle.knotpasture.proofs.StoreWords.{twins-called, few}
 use Rattle.knotpasture.proofs.store.knot_twin_list.Statement.{statement}
 use Rattle.knotpasture.proofs.store.knot_twin_list.Tie as tie
 
-list-word-requires : tie.Need-list-word-requires
-list-word-requires c κs = few (c .before .before .twin-list .ensures)
-
 returns : tie.Need-returns
 returns c = twins-called (c .before .before .before .twin-list .ensures) (c .list-word .ensures)
 
 pub knot-twin-list-spec : {M : Type 1} → statement M
 knot-twin-list-spec =
-    tie.close (tie.spec (λ c κs. search needs) list-word-requires (λ c. search needs) returns)
+    tie.close (tie.spec (λ c κs. search needs) (λ c κs. few (c .before .before .twin-list .ensures)) (λ c. search needs) returns)

@@ -3,7 +3,7 @@ use mathlib.Core.Path.{_≡_, _∙_, refl, sym, ap}
 use mathlib.Core.Bool.{Bool, true, false, not}
 use mathlib.Core.List.{List, [], _∷_}
 use Prim.Native.Nat.{ℕ, zero, suc, _+_, _-_, _*_, _/_, _%_, _≤_, _<_}
-use native.Mathlib.Nat.{zero-mul, mul-add, mul-comm, mul-le-mul-left, mul-mod-right, mul-div-right, div-add-mod, le-div-iff-mul-le}
+use native.Mathlib.Nat.{zero-mul, mul-comm, mul-le-mul-left, mul-mod-right, mul-div-right, div-add-mod, le-div-iff-mul-le}
 use native.Mathlib.Omega.{arith}
 use lib.Dec.{eqb, leb, ltb}
 use lib.ListN.{length, getD, drop, List·getD-append}
@@ -26,7 +26,7 @@ use Rattle.bc6_blocks.proofs.Calls.{block-by-block}
 use Rattle.bc6_image.specs.declared.FacePixels.{FacePixels}
 use Rattle.bc6_image.specs.Face.{lanes, opaque, laneOf, laneAt, rowSize, FaceShown, imageIn, roomy, imageRefusal, ImagePainted}
 use Rattle.bc6_image.specs.Stores.{FaceWritten, Fitting}
-use Rattle.bc6_image.proofs.Places.{lanes-low, put-shown, shown-is, is-shown}
+use Rattle.bc6_image.proofs.Places.{lanes-low, block-low, put-shown, shown-is, is-shown}
 
 -- ---- the bytes of so many blocks
 
@@ -200,8 +200,7 @@ module _ {alpha : Bool} {blocks : List ℕ} {width height format : ℕ} {out : L
 
       block-there : width * (y / 4) + x / 4 < blocksIn blocks
       block-there =
-          let m : width * (y / 4 + 1) ≤ width * height = mul-le-mul-left width (omega arith) in
-          let e : width * (y / 4 + 1) ≡ width * (y / 4) + width * 1 = mul-add width (y / 4) 1 in
+          let l = block-low alpha width height pitch x y hx hy in
           let b : length blocks ≡ 16 * (width * height) = fits .bytes in
           omega arith
 

@@ -227,8 +227,8 @@ module _ (alpha : Bool) (width height pitch : ℕ) where
       go zero l = absurd (omega arith)
       go (suc w) l = omega arith
 
-  number-low : (x y : ℕ) → x < 4 * width → y < 4 * height → numberAt width x y < 16 * (width * height)
-  number-low x y hx hy =
+  pub block-low : (x y : ℕ) → x < 4 * width → y < 4 * height → width * (y / 4) + x / 4 < width * height
+  block-low x y hx hy =
       let m : width * (y / 4 + 1) ≤ width * height = mul-le-mul-left width (omega arith) in
       let e : width * (y / 4 + 1) ≡ width * (y / 4) + width * 1 = mul-add width (y / 4) 1 in
       omega arith
@@ -274,7 +274,7 @@ module _ (signed alpha : Bool) (blocks : List ℕ) (width height pitch : ℕ) (o
         (let r = in-room alpha width height pitch (length out) (fits .enough some) x y c hx hy hc in omega arith) in
         ap (λ (i : ℕ). getD (facePut signed alpha blocks width pitch (width * height) out) i 0) here
         ∙ scattered-hit (placeAt alpha width pitch) (cellAt signed alpha blocks) (lanes alpha) (length-cell signed alpha blocks) out (16 * (width * height)) q c
-        (number-low alpha width height pitch x y hx hy) hc room
+        (let l = block-low alpha width height pitch x y hx hy in omega arith) hc room
         (λ r d hr hd e. once alpha width height pitch (fits .pitched some) (omega arith) q c r d hc hd e)
         ∙ pixel-lane alpha (shownAt signed blocks (q / 16)) (q % 16) c hc
         ∙ ap₂ (λ (n k : ℕ). laneOf (shownAt signed blocks n) k c) (block-of width x y hx) (pixel-of width x y hx);

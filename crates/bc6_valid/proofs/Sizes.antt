@@ -12,13 +12,13 @@ use Rattle.laws.specs.Pick.{pick, either}
 use Rattle.laws.proofs.Tests.{picks}
 use Rattle.laws.specs.Bit.{bit}
 use Rattle.laws.specs.Made.{made, countOf}
-use Rattle.laws.proofs.Rows.{made-cong}
 use Rattle.bc6h_spec.specs.Layout.{ownWidth, width, twoRegions}
 use Rattle.bcn_spec.specs.Regions.{fixupOf}
-use Rattle.bc6h_spec.specs.Regions.{regionOf, region1Of}
+use Rattle.bc6h_spec.specs.Regions.{region1Of}
 use Rattle.bcn_spec.specs.Indices.{has, storedBits}
 use Rattle.bc6h_spec.specs.Fields.{indexBits, fixups}
 use Rattle.bc6h_spec.proofs.Once.{row-once}
+use Rattle.bc6h_spec.proofs.Partitions.{counted-two}
 use Rattle.bcn_data.specs.declared.Subset2Map.{Subset2Map}
 use Rattle.bcn_data.specs.Subsets.{subset2}
 use Rattle.bc6_mode.specs.declared.ModeBits.{ModeBits}
@@ -68,12 +68,7 @@ narrow mode place low high h {w} e = let k : width mode place < 17 = row-once mo
 
 pub count-two : (mode partition : ℕ) {map : Subset2Map} {ones : ℕ} → mode ≤ 10 → map ≡ subset2 partition
     → ones ≡ countOf 1 (made (bit (map .«subset_indexes»)) 16) → ones ≡ region1Of mode partition
-unfolding region1Of regionOf
-count-two mode partition {map} h em eo =
-    eo
-    ∙ ap (countOf 1)
-    (made-cong (bit (map .«subset_indexes»)) (regionOf mode partition)
-    (λ k. ap (λ (y : Subset2Map). bit (y .«subset_indexes») k) em ∙ rw (le-leb mode 10 h) refl) 16)
+count-two mode partition h em eo = eo ∙ counted-two mode partition _ (le-leb mode 10 h) (ap (λ (y : Subset2Map). y .«subset_indexes») em)
 
 -- ---- the indices
 

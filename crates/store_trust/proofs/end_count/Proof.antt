@@ -1,5 +1,5 @@
-use mathlib.Core.Path.{refl}
 -- `store_trust::end_count` meets its contract. Assumes nothing.
+use mathlib.Core.Path.{refl}
 use borrow.Author.Tests.{lt-leb, le-leb}
 use Rattle.store_trust.proofs.end_count.Statement.{statement}
 use Rattle.store_trust.proofs.end_count.Tie as tie

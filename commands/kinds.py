@@ -1,7 +1,8 @@
 """Which kind of file a file is: a store of 24-byte records, a store of records with a place, or neither.
 
 Neither form has a header, so that the bytes of one may pass for the other: the 32-byte records of a whole probe always have a length that
-24 divides. The calls take such a file as it is given. The commands look at both readings first, by the proved program `checking`.
+24 divides. The calls take such a file as it is given. The commands look at both readings first, by the proved program `run_check`; a listing
+only does where its own counts leave a doubt (`is_sure`).
 A file looks like something else than the store that it is given as when one of its records is refused and
 
 - it begins as a DDS file or a Portable Float Map does, or
@@ -89,6 +90,15 @@ def looks_like(data, form):
     if other.fits_better(own):
         return store_in_words(other.form, other.records)
     return f"no store at all: {own.refused:,} of its {own.records:,} records are refused" if own.mostly_refused() else None
+
+
+def is_sure(data, records, refused):
+    """Whether no remark on a file can come, which as 24-byte records has so many and so many refused ones: it has no header, at most half of
+    them are refused, and read as records with a place no smaller share is. Of those each with a format above 1 is refused: where there are
+    enough of them, `run_check` need not be asked."""
+    others, least = len(data) // PLACED, sum(number > 1 for number in data[4::PLACED])
+    is_no_better = len(data) % PLACED != 0 or least * records >= refused * others
+    return signature_of(data) is None and 2 * refused <= records and is_no_better
 
 
 def likelier_reading(data):

@@ -45,6 +45,12 @@ def listed_places(store, strict):
         raise house.Refused(error.number, error.line, f"{error}: first damaged record {damaged[0]}") if damaged else error from None
 
 
+def has_doubts(store, text):
+    """Whether a listed file may look like something else: one with a refused record."""
+    counts = [int(word) for word in text.splitlines()[-1].split()[1::2]]
+    return counts[-1] > 0 and not kinds.is_sure(store, sum(counts), counts[-1])
+
+
 def listed(asked):
     """The listing and its form, with a remark where the file looks like something else: a store without a refused record never does."""
     form, store = kinds.form_asked(asked), house.read(asked.store, kinds.MOST)
@@ -55,7 +61,7 @@ def listed(asked):
         text = house.listed(store, asked.strict)
     except house.Refused as error:
         refused = error
-    if form is None and (refused or not text.endswith(b" bad 0\n")):
+    if form is None and (refused or has_doubts(store, text)):
         if kinds.form_to_show(store) == kinds.PLACED:
             return listed_places(store, asked.strict), kinds.PLACED
         kinds.remark_on(store)

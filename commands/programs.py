@@ -15,8 +15,6 @@ PREFIX = os.path.dirname(os.path.dirname(ROOT))
 
 # The programs that are known to be as they were built, in this run.
 held = set()
-# What a command may ask of a file next: proved together with the first, by processors that would stand idle.
-ASKED_NEXT = {"run_list": ("run_check",)}
 
 
 def sums():
@@ -58,7 +56,7 @@ def hold_built(name):
     if module_at("tools/built.py")["is_as_seen"](name):
         return
     import subprocess
-    if subprocess.run([os.path.join(ROOT, "tools/prove"), name, *ASKED_NEXT.get(name, ())], stdin=subprocess.DEVNULL, stdout=subprocess.DEVNULL).returncode != 0:
+    if subprocess.run([os.path.join(ROOT, "tools/prove"), name], stdin=subprocess.DEVNULL, stdout=subprocess.DEVNULL).returncode != 0:
         raise Trouble(f"the program {name} is not built: the reason is above")
 
 

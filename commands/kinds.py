@@ -93,9 +93,9 @@ def looks_like(data, form):
 
 
 def is_sure(data, records, refused):
-    """Whether no remark on a file can come, which as 24-byte records has so many and so many refused ones: it has no header, at most half of
-    them are refused, and read as records with a place no smaller share is. Of those each with a format above 1 is refused: where there are
-    enough of them, `run_check` need not be asked."""
+    """Whether a file is a store of 24-byte records for sure, by how many records its listing has and how many of them are refused: it has no
+    header, at most half of the records are refused, and read as records with a place it has no smaller share of refused ones. Each of those
+    with a format above 1 is refused. Where they are enough, `run_check` need not be asked."""
     others, least = len(data) // PLACED, sum(number > 1 for number in data[4::PLACED])
     is_no_better = len(data) % PLACED != 0 or least * records >= refused * others
     return signature_of(data) is None and 2 * refused <= records and is_no_better

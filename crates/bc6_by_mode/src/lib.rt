@@ -9,6 +9,8 @@ use bc6_endpoints::moved_signed;
 use bc6_endpoints::moved_unsigned;
 use bc6_endpoints::whole_signed;
 use bc6_endpoints::whole_unsigned;
+use bc6_runs::Channels;
+use bc6_runs::one_region::read_pair;
 ghost use mathlib.Core.Bool.{true, false};
 ghost use Prim.Native.Nat.{_≤_};
 ghost use Rattle.bcn_util.specs.Stream.{number};
@@ -18,353 +20,299 @@ ghost use Rattle.bc6_by_mode.specs.Words.{MovedEnds, StoredEnds, Sixteen
 fn ends_1_unsigned(lo: u64, hi: u64) -> Ends
     ensures { λ r. ⌜ MovedEnds false 1 (number (record { lo = lo; hi = hi })) r ⌝ }
 {
-    let c = bc6_runs::channels_1(lo, hi);
-    let r = c.red;
-    let g = c.green;
-    let b = c.blue;
-    let red = moved_unsigned(r, 5, 10);
-    let green = moved_unsigned(g, 5, 10);
-    let blue = moved_unsigned(b, 5, 10);
-    Ends { red, green, blue }
+    let Channels { red, green, blue } = bc6_runs::channels_1(lo, hi);
+    Ends {
+        red: moved_unsigned(red, 5, 10),
+        green: moved_unsigned(green, 5, 10),
+        blue: moved_unsigned(blue, 5, 10),
+    }
 }
 
 fn ends_2_unsigned(lo: u64, hi: u64) -> Ends
     ensures { λ r. ⌜ MovedEnds false 2 (number (record { lo = lo; hi = hi })) r ⌝ }
 {
-    let c = bc6_runs::channels_2(lo, hi);
-    let r = c.red;
-    let g = c.green;
-    let b = c.blue;
-    let red = moved_unsigned(r, 6, 7);
-    let green = moved_unsigned(g, 6, 7);
-    let blue = moved_unsigned(b, 6, 7);
-    Ends { red, green, blue }
+    let Channels { red, green, blue } = bc6_runs::channels_2(lo, hi);
+    Ends {
+        red: moved_unsigned(red, 6, 7),
+        green: moved_unsigned(green, 6, 7),
+        blue: moved_unsigned(blue, 6, 7),
+    }
 }
 
 fn ends_3_unsigned(lo: u64, hi: u64) -> Ends
     ensures { λ r. ⌜ MovedEnds false 3 (number (record { lo = lo; hi = hi })) r ⌝ }
 {
-    let c = bc6_runs::channels_3(lo, hi);
-    let r = c.red;
-    let g = c.green;
-    let b = c.blue;
-    let red = moved_unsigned(r, 5, 11);
-    let green = moved_unsigned(g, 4, 11);
-    let blue = moved_unsigned(b, 4, 11);
-    Ends { red, green, blue }
+    let Channels { red, green, blue } = bc6_runs::channels_3(lo, hi);
+    Ends {
+        red: moved_unsigned(red, 5, 11),
+        green: moved_unsigned(green, 4, 11),
+        blue: moved_unsigned(blue, 4, 11),
+    }
 }
 
 fn ends_4_unsigned(lo: u64, hi: u64) -> Ends
     ensures { λ r. ⌜ MovedEnds false 4 (number (record { lo = lo; hi = hi })) r ⌝ }
 {
-    let c = bc6_runs::channels_4(lo, hi);
-    let r = c.red;
-    let g = c.green;
-    let b = c.blue;
-    let red = moved_unsigned(r, 4, 11);
-    let green = moved_unsigned(g, 5, 11);
-    let blue = moved_unsigned(b, 4, 11);
-    Ends { red, green, blue }
+    let Channels { red, green, blue } = bc6_runs::channels_4(lo, hi);
+    Ends {
+        red: moved_unsigned(red, 4, 11),
+        green: moved_unsigned(green, 5, 11),
+        blue: moved_unsigned(blue, 4, 11),
+    }
 }
 
 fn ends_5_unsigned(lo: u64, hi: u64) -> Ends
     ensures { λ r. ⌜ MovedEnds false 5 (number (record { lo = lo; hi = hi })) r ⌝ }
 {
-    let c = bc6_runs::channels_5(lo, hi);
-    let r = c.red;
-    let g = c.green;
-    let b = c.blue;
-    let red = moved_unsigned(r, 4, 11);
-    let green = moved_unsigned(g, 4, 11);
-    let blue = moved_unsigned(b, 5, 11);
-    Ends { red, green, blue }
+    let Channels { red, green, blue } = bc6_runs::channels_5(lo, hi);
+    Ends {
+        red: moved_unsigned(red, 4, 11),
+        green: moved_unsigned(green, 4, 11),
+        blue: moved_unsigned(blue, 5, 11),
+    }
 }
 
 fn ends_6_unsigned(lo: u64, hi: u64) -> Ends
     ensures { λ r. ⌜ MovedEnds false 6 (number (record { lo = lo; hi = hi })) r ⌝ }
 {
-    let c = bc6_runs::channels_6(lo, hi);
-    let r = c.red;
-    let g = c.green;
-    let b = c.blue;
-    let red = moved_unsigned(r, 5, 9);
-    let green = moved_unsigned(g, 5, 9);
-    let blue = moved_unsigned(b, 5, 9);
-    Ends { red, green, blue }
+    let Channels { red, green, blue } = bc6_runs::channels_6(lo, hi);
+    Ends {
+        red: moved_unsigned(red, 5, 9),
+        green: moved_unsigned(green, 5, 9),
+        blue: moved_unsigned(blue, 5, 9),
+    }
 }
 
 fn ends_7_unsigned(lo: u64, hi: u64) -> Ends
     ensures { λ r. ⌜ MovedEnds false 7 (number (record { lo = lo; hi = hi })) r ⌝ }
 {
-    let c = bc6_runs::channels_7(lo, hi);
-    let r = c.red;
-    let g = c.green;
-    let b = c.blue;
-    let red = moved_unsigned(r, 6, 8);
-    let green = moved_unsigned(g, 5, 8);
-    let blue = moved_unsigned(b, 5, 8);
-    Ends { red, green, blue }
+    let Channels { red, green, blue } = bc6_runs::channels_7(lo, hi);
+    Ends {
+        red: moved_unsigned(red, 6, 8),
+        green: moved_unsigned(green, 5, 8),
+        blue: moved_unsigned(blue, 5, 8),
+    }
 }
 
 fn ends_8_unsigned(lo: u64, hi: u64) -> Ends
     ensures { λ r. ⌜ MovedEnds false 8 (number (record { lo = lo; hi = hi })) r ⌝ }
 {
-    let c = bc6_runs::channels_8(lo, hi);
-    let r = c.red;
-    let g = c.green;
-    let b = c.blue;
-    let red = moved_unsigned(r, 5, 8);
-    let green = moved_unsigned(g, 6, 8);
-    let blue = moved_unsigned(b, 5, 8);
-    Ends { red, green, blue }
+    let Channels { red, green, blue } = bc6_runs::channels_8(lo, hi);
+    Ends {
+        red: moved_unsigned(red, 5, 8),
+        green: moved_unsigned(green, 6, 8),
+        blue: moved_unsigned(blue, 5, 8),
+    }
 }
 
 fn ends_9_unsigned(lo: u64, hi: u64) -> Ends
     ensures { λ r. ⌜ MovedEnds false 9 (number (record { lo = lo; hi = hi })) r ⌝ }
 {
-    let c = bc6_runs::channels_9(lo, hi);
-    let r = c.red;
-    let g = c.green;
-    let b = c.blue;
-    let red = moved_unsigned(r, 5, 8);
-    let green = moved_unsigned(g, 5, 8);
-    let blue = moved_unsigned(b, 6, 8);
-    Ends { red, green, blue }
+    let Channels { red, green, blue } = bc6_runs::channels_9(lo, hi);
+    Ends {
+        red: moved_unsigned(red, 5, 8),
+        green: moved_unsigned(green, 5, 8),
+        blue: moved_unsigned(blue, 6, 8),
+    }
 }
 
 fn ends_10_unsigned(lo: u64, hi: u64) -> Ends
     ensures { λ r. ⌜ StoredEnds false 10 (number (record { lo = lo; hi = hi })) r ⌝ }
 {
-    let c = bc6_runs::channels_10(lo, hi);
-    let r = c.red;
-    let g = c.green;
-    let b = c.blue;
-    let red = whole_unsigned(r, 6);
-    let green = whole_unsigned(g, 6);
-    let blue = whole_unsigned(b, 6);
-    Ends { red, green, blue }
+    let Channels { red, green, blue } = bc6_runs::channels_10(lo, hi);
+    Ends {
+        red: whole_unsigned(red, 6),
+        green: whole_unsigned(green, 6),
+        blue: whole_unsigned(blue, 6),
+    }
 }
 
 fn ends_11_unsigned(lo: u64, hi: u64) -> Ends
     ensures { λ r. ⌜ StoredEnds false 11 (number (record { lo = lo; hi = hi })) r ⌝ }
 {
-    let c = bc6_runs::one_region::read_pair(lo, hi, 0);
-    let r = c.red;
-    let g = c.green;
-    let b = c.blue;
-    let red = whole_unsigned(r, 10);
-    let green = whole_unsigned(g, 10);
-    let blue = whole_unsigned(b, 10);
-    Ends { red, green, blue }
+    let Channels { red, green, blue } = read_pair(lo, hi, 0);
+    Ends {
+        red: whole_unsigned(red, 10),
+        green: whole_unsigned(green, 10),
+        blue: whole_unsigned(blue, 10),
+    }
 }
 
 fn ends_12_unsigned(lo: u64, hi: u64) -> Ends
     ensures { λ r. ⌜ MovedEnds false 12 (number (record { lo = lo; hi = hi })) r ⌝ }
 {
-    let c = bc6_runs::one_region::read_pair(lo, hi, 1);
-    let r = c.red;
-    let g = c.green;
-    let b = c.blue;
-    let red = moved_unsigned(r, 9, 11);
-    let green = moved_unsigned(g, 9, 11);
-    let blue = moved_unsigned(b, 9, 11);
-    Ends { red, green, blue }
+    let Channels { red, green, blue } = read_pair(lo, hi, 1);
+    Ends {
+        red: moved_unsigned(red, 9, 11),
+        green: moved_unsigned(green, 9, 11),
+        blue: moved_unsigned(blue, 9, 11),
+    }
 }
 
 fn ends_13_unsigned(lo: u64, hi: u64) -> Ends
     ensures { λ r. ⌜ MovedEnds false 13 (number (record { lo = lo; hi = hi })) r ⌝ }
 {
-    let c = bc6_runs::one_region::read_pair(lo, hi, 2);
-    let r = c.red;
-    let g = c.green;
-    let b = c.blue;
-    let red = moved_unsigned(r, 8, 12);
-    let green = moved_unsigned(g, 8, 12);
-    let blue = moved_unsigned(b, 8, 12);
-    Ends { red, green, blue }
+    let Channels { red, green, blue } = read_pair(lo, hi, 2);
+    Ends {
+        red: moved_unsigned(red, 8, 12),
+        green: moved_unsigned(green, 8, 12),
+        blue: moved_unsigned(blue, 8, 12),
+    }
 }
 
 fn ends_1_signed(lo: u64, hi: u64) -> Ends
     ensures { λ r. ⌜ MovedEnds true 1 (number (record { lo = lo; hi = hi })) r ⌝ }
 {
-    let c = bc6_runs::channels_1(lo, hi);
-    let r = c.red;
-    let g = c.green;
-    let b = c.blue;
-    let red = moved_signed(r, 5, 10);
-    let green = moved_signed(g, 5, 10);
-    let blue = moved_signed(b, 5, 10);
-    Ends { red, green, blue }
+    let Channels { red, green, blue } = bc6_runs::channels_1(lo, hi);
+    Ends {
+        red: moved_signed(red, 5, 10),
+        green: moved_signed(green, 5, 10),
+        blue: moved_signed(blue, 5, 10),
+    }
 }
 
 fn ends_2_signed(lo: u64, hi: u64) -> Ends
     ensures { λ r. ⌜ MovedEnds true 2 (number (record { lo = lo; hi = hi })) r ⌝ }
 {
-    let c = bc6_runs::channels_2(lo, hi);
-    let r = c.red;
-    let g = c.green;
-    let b = c.blue;
-    let red = moved_signed(r, 6, 7);
-    let green = moved_signed(g, 6, 7);
-    let blue = moved_signed(b, 6, 7);
-    Ends { red, green, blue }
+    let Channels { red, green, blue } = bc6_runs::channels_2(lo, hi);
+    Ends {
+        red: moved_signed(red, 6, 7),
+        green: moved_signed(green, 6, 7),
+        blue: moved_signed(blue, 6, 7),
+    }
 }
 
 fn ends_3_signed(lo: u64, hi: u64) -> Ends
     ensures { λ r. ⌜ MovedEnds true 3 (number (record { lo = lo; hi = hi })) r ⌝ }
 {
-    let c = bc6_runs::channels_3(lo, hi);
-    let r = c.red;
-    let g = c.green;
-    let b = c.blue;
-    let red = moved_signed(r, 5, 11);
-    let green = moved_signed(g, 4, 11);
-    let blue = moved_signed(b, 4, 11);
-    Ends { red, green, blue }
+    let Channels { red, green, blue } = bc6_runs::channels_3(lo, hi);
+    Ends {
+        red: moved_signed(red, 5, 11),
+        green: moved_signed(green, 4, 11),
+        blue: moved_signed(blue, 4, 11),
+    }
 }
 
 fn ends_4_signed(lo: u64, hi: u64) -> Ends
     ensures { λ r. ⌜ MovedEnds true 4 (number (record { lo = lo; hi = hi })) r ⌝ }
 {
-    let c = bc6_runs::channels_4(lo, hi);
-    let r = c.red;
-    let g = c.green;
-    let b = c.blue;
-    let red = moved_signed(r, 4, 11);
-    let green = moved_signed(g, 5, 11);
-    let blue = moved_signed(b, 4, 11);
-    Ends { red, green, blue }
+    let Channels { red, green, blue } = bc6_runs::channels_4(lo, hi);
+    Ends {
+        red: moved_signed(red, 4, 11),
+        green: moved_signed(green, 5, 11),
+        blue: moved_signed(blue, 4, 11),
+    }
 }
 
 fn ends_5_signed(lo: u64, hi: u64) -> Ends
     ensures { λ r. ⌜ MovedEnds true 5 (number (record { lo = lo; hi = hi })) r ⌝ }
 {
-    let c = bc6_runs::channels_5(lo, hi);
-    let r = c.red;
-    let g = c.green;
-    let b = c.blue;
-    let red = moved_signed(r, 4, 11);
-    let green = moved_signed(g, 4, 11);
-    let blue = moved_signed(b, 5, 11);
-    Ends { red, green, blue }
+    let Channels { red, green, blue } = bc6_runs::channels_5(lo, hi);
+    Ends {
+        red: moved_signed(red, 4, 11),
+        green: moved_signed(green, 4, 11),
+        blue: moved_signed(blue, 5, 11),
+    }
 }
 
 fn ends_6_signed(lo: u64, hi: u64) -> Ends
     ensures { λ r. ⌜ MovedEnds true 6 (number (record { lo = lo; hi = hi })) r ⌝ }
 {
-    let c = bc6_runs::channels_6(lo, hi);
-    let r = c.red;
-    let g = c.green;
-    let b = c.blue;
-    let red = moved_signed(r, 5, 9);
-    let green = moved_signed(g, 5, 9);
-    let blue = moved_signed(b, 5, 9);
-    Ends { red, green, blue }
+    let Channels { red, green, blue } = bc6_runs::channels_6(lo, hi);
+    Ends {
+        red: moved_signed(red, 5, 9),
+        green: moved_signed(green, 5, 9),
+        blue: moved_signed(blue, 5, 9),
+    }
 }
 
 fn ends_7_signed(lo: u64, hi: u64) -> Ends
     ensures { λ r. ⌜ MovedEnds true 7 (number (record { lo = lo; hi = hi })) r ⌝ }
 {
-    let c = bc6_runs::channels_7(lo, hi);
-    let r = c.red;
-    let g = c.green;
-    let b = c.blue;
-    let red = moved_signed(r, 6, 8);
-    let green = moved_signed(g, 5, 8);
-    let blue = moved_signed(b, 5, 8);
-    Ends { red, green, blue }
+    let Channels { red, green, blue } = bc6_runs::channels_7(lo, hi);
+    Ends {
+        red: moved_signed(red, 6, 8),
+        green: moved_signed(green, 5, 8),
+        blue: moved_signed(blue, 5, 8),
+    }
 }
 
 fn ends_8_signed(lo: u64, hi: u64) -> Ends
     ensures { λ r. ⌜ MovedEnds true 8 (number (record { lo = lo; hi = hi })) r ⌝ }
 {
-    let c = bc6_runs::channels_8(lo, hi);
-    let r = c.red;
-    let g = c.green;
-    let b = c.blue;
-    let red = moved_signed(r, 5, 8);
-    let green = moved_signed(g, 6, 8);
-    let blue = moved_signed(b, 5, 8);
-    Ends { red, green, blue }
+    let Channels { red, green, blue } = bc6_runs::channels_8(lo, hi);
+    Ends {
+        red: moved_signed(red, 5, 8),
+        green: moved_signed(green, 6, 8),
+        blue: moved_signed(blue, 5, 8),
+    }
 }
 
 fn ends_9_signed(lo: u64, hi: u64) -> Ends
     ensures { λ r. ⌜ MovedEnds true 9 (number (record { lo = lo; hi = hi })) r ⌝ }
 {
-    let c = bc6_runs::channels_9(lo, hi);
-    let r = c.red;
-    let g = c.green;
-    let b = c.blue;
-    let red = moved_signed(r, 5, 8);
-    let green = moved_signed(g, 5, 8);
-    let blue = moved_signed(b, 6, 8);
-    Ends { red, green, blue }
+    let Channels { red, green, blue } = bc6_runs::channels_9(lo, hi);
+    Ends {
+        red: moved_signed(red, 5, 8),
+        green: moved_signed(green, 5, 8),
+        blue: moved_signed(blue, 6, 8),
+    }
 }
 
 fn ends_10_signed(lo: u64, hi: u64) -> Ends
     ensures { λ r. ⌜ StoredEnds true 10 (number (record { lo = lo; hi = hi })) r ⌝ }
 {
-    let c = bc6_runs::channels_10(lo, hi);
-    let r = c.red;
-    let g = c.green;
-    let b = c.blue;
-    let red = whole_signed(r, 6);
-    let green = whole_signed(g, 6);
-    let blue = whole_signed(b, 6);
-    Ends { red, green, blue }
+    let Channels { red, green, blue } = bc6_runs::channels_10(lo, hi);
+    Ends {
+        red: whole_signed(red, 6),
+        green: whole_signed(green, 6),
+        blue: whole_signed(blue, 6),
+    }
 }
 
 fn ends_11_signed(lo: u64, hi: u64) -> Ends
     ensures { λ r. ⌜ StoredEnds true 11 (number (record { lo = lo; hi = hi })) r ⌝ }
 {
-    let c = bc6_runs::one_region::read_pair(lo, hi, 0);
-    let r = c.red;
-    let g = c.green;
-    let b = c.blue;
-    let red = whole_signed(r, 10);
-    let green = whole_signed(g, 10);
-    let blue = whole_signed(b, 10);
-    Ends { red, green, blue }
+    let Channels { red, green, blue } = read_pair(lo, hi, 0);
+    Ends {
+        red: whole_signed(red, 10),
+        green: whole_signed(green, 10),
+        blue: whole_signed(blue, 10),
+    }
 }
 
 fn ends_12_signed(lo: u64, hi: u64) -> Ends
     ensures { λ r. ⌜ MovedEnds true 12 (number (record { lo = lo; hi = hi })) r ⌝ }
 {
-    let c = bc6_runs::one_region::read_pair(lo, hi, 1);
-    let r = c.red;
-    let g = c.green;
-    let b = c.blue;
-    let red = moved_signed(r, 9, 11);
-    let green = moved_signed(g, 9, 11);
-    let blue = moved_signed(b, 9, 11);
-    Ends { red, green, blue }
+    let Channels { red, green, blue } = read_pair(lo, hi, 1);
+    Ends {
+        red: moved_signed(red, 9, 11),
+        green: moved_signed(green, 9, 11),
+        blue: moved_signed(blue, 9, 11),
+    }
 }
 
 fn ends_13_signed(lo: u64, hi: u64) -> Ends
     ensures { λ r. ⌜ MovedEnds true 13 (number (record { lo = lo; hi = hi })) r ⌝ }
 {
-    let c = bc6_runs::one_region::read_pair(lo, hi, 2);
-    let r = c.red;
-    let g = c.green;
-    let b = c.blue;
-    let red = moved_signed(r, 8, 12);
-    let green = moved_signed(g, 8, 12);
-    let blue = moved_signed(b, 8, 12);
-    Ends { red, green, blue }
+    let Channels { red, green, blue } = read_pair(lo, hi, 2);
+    Ends {
+        red: moved_signed(red, 8, 12),
+        green: moved_signed(green, 8, 12),
+        blue: moved_signed(blue, 8, 12),
+    }
 }
 
 // In mode 14 the ends of both formats have the same sixteen bits.
 fn ends_14(lo: u64, hi: u64) -> Ends
     ensures { λ r. ⌜ SixteenEnds (number (record { lo = lo; hi = hi })) r ⌝ }
 {
-    let c = bc6_runs::one_region::read_pair(lo, hi, 6);
-    let r = c.red;
-    let g = c.green;
-    let b = c.blue;
-    let red = moved_16(r);
-    let green = moved_16(g);
-    let blue = moved_16(b);
-    Ends { red, green, blue }
+    let Channels { red, green, blue } = read_pair(lo, hi, 6);
+    Ends {
+        red: moved_16(red),
+        green: moved_16(green),
+        blue: moved_16(blue),
+    }
 }
 
 // The ends of an unsigned block, by the five bits that name its mode.

@@ -78,7 +78,7 @@ pub struct Turn {
 }
 
 // Turn k of a block of one region, by its indices.
-pub fn turn_one(word: u64, k: usize) -> Turn
+fn turn_one(word: u64, k: usize) -> Turn
     requires { ⌜ k < 8 ⌝ }
     ensures { λ r. ⌜ TurnOf oneSecond (oneWeight word) k r ⌝ }
 {
@@ -91,7 +91,7 @@ pub fn turn_one(word: u64, k: usize) -> Turn
 }
 
 // Turn k of a block of two regions, by their map and its indices.
-pub fn turn_two(word: u64, map: u16, k: usize) -> Turn
+fn turn_two(word: u64, map: u16, k: usize) -> Turn
     requires { ⌜ k < 8 ⌝ }
     ensures { λ r. ⌜ TurnOf (twoSecond map) (twoWeight word) k r ⌝ }
 {
@@ -132,7 +132,7 @@ fn point_signed(second: u16, a: u16, b: u16, c: u16, d: u16, w: u16) -> i32
 
 // A channel of a turn's pixels by its four ends, in unsigned format: the values go to `at` and 24 behind it. The ends go through 16 bits, so
 // that the compiler takes eight at a time.
-pub fn channel_unsigned(t: Turn, ends: [i32; 4], at: usize, out: &mut [u16])
+fn channel_unsigned(t: Turn, ends: [i32; 4], at: usize, out: &mut [u16])
     requires { ⌜ (t .w ≤ 64) × (t .w8 ≤ 64) × (at + 24 < length (now out)) ⌝ }
     ensures { λ _. ⌜ PairStored t ends at (now (out .entry)) (now (out .exit)) ⌝ }
 {
@@ -147,7 +147,7 @@ pub fn channel_unsigned(t: Turn, ends: [i32; 4], at: usize, out: &mut [u16])
 }
 
 // The same in signed format. It answers how many of the two values are minus infinity.
-pub fn channel_signed(t: Turn, ends: [i32; 4], at: usize, out: &mut [u16]) -> u16
+fn channel_signed(t: Turn, ends: [i32; 4], at: usize, out: &mut [u16]) -> u16
     requires { ⌜ (t .w ≤ 64) × (t .w8 ≤ 64) × (at + 24 < length (now out)) ⌝ }
     ensures { λ r. ⌜ PairCounted t ends at (now (out .entry)) r (now (out .exit)) ⌝ }
 {

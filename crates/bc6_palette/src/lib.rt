@@ -51,7 +51,7 @@ fn between(a: Colour, b: Colour, w: u16, signed: bool) -> [Half; 3]
 }
 
 // The sixteen colours between the ends of a block of one region.
-pub fn generate_palette_unquantized_one(
+fn generate_palette_unquantized_one(
     c1: Colour,
     c2: Colour,
     prec: u8,
@@ -71,7 +71,7 @@ pub fn generate_palette_unquantized_one(
 }
 
 // The eight colours between the ends of one of two regions.
-pub fn generate_palette_unquantized_two(
+fn generate_palette_unquantized_two(
     c1: Colour,
     c2: Colour,
     prec: u8,

@@ -24,7 +24,7 @@ impl Bc7Pixels {
 }
 
 // The place of the lowest one bit of byte 0, or 8: a one is put above the byte.
-pub fn mode_of(low: u64) -> u8
+fn mode_of(low: u64) -> u8
     ensures { λ r. ⌜ r ≡ modeIn low ⌝ }
 {
     u64::trailing_zeros(low % 0x100 + 0x100) as u8

@@ -47,7 +47,7 @@ fn index_at(word: u32, bits: u64, k: usize) -> u16
 }
 
 // (Two words of eight indexes, and two loops of eight turns: of that the compiler makes vector code.)
-pub fn weigh(x: Indexes) -> [u16; 16]
+fn weigh(x: Indexes) -> [u16; 16]
     requires { ⌜ (2 ≤ x .bits) × (x .bits ≤ 4) ⌝ }
     ensures { λ r. ⌜ Weighed x r ⌝ }
 {

@@ -15,7 +15,7 @@ pub fn u8_to_u16(byte: u8) -> u16
     byte as u16
 }
 
-pub fn u8_to_u32(byte: u8) -> u32
+fn u8_to_u32(byte: u8) -> u32
     ensures { λ r. ⌜ (r ≡ byte) × (r < 0x100) ⌝ }
 {
     byte as u32

@@ -59,7 +59,7 @@ fn write_first(fd: i32, text: &[u8], end: usize) -> bool
 }
 
 // Writes the first bytes of a text to standard output. False where a write fails.
-pub fn print(text: &[u8], end: usize) -> bool
+fn print(text: &[u8], end: usize) -> bool
     requires { ⌜ end ≤ length (now text) ⌝ }
 {
     write_first(STDOUT_FILENO, text, end)

@@ -85,7 +85,7 @@ pub fn link_records(store: &[u8], links: &mut [u16])
 }
 
 // Record n is record `earlier` once more.
-pub fn is_repeat(store: &[u8], n: usize, earlier: usize) -> bool
+fn is_repeat(store: &[u8], n: usize, earlier: usize) -> bool
     ensures { λ r. ⌜ r ≡ repeats (now (store .entry)) n earlier ⌝ }
 {
     let RecordReading::Record(again) = record_at(store, n) else {

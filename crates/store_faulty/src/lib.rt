@@ -106,7 +106,7 @@ pub fn mode_of(form: u8, store: &[u8], n: usize) -> usize
 }
 
 // Record n is not refused and has a reserved mode.
-pub fn is_damaged(form: u8, store: &[u8], n: usize) -> bool
+fn is_damaged(form: u8, store: &[u8], n: usize) -> bool
     ensures { λ r. ⌜ r ≡ isDamaged (formOf form) (now (store .entry)) n ⌝ }
 {
     if record_refusal(form, store, n) != Answer::DONE {

@@ -73,7 +73,7 @@ fn put_counts(text: &mut [u8], at: usize, records: usize, counts: FaultCounts) -
 }
 
 // What there is to say of a store, at the start of `text`; answers how many bytes it has.
-pub fn put_checking(text: &mut [u8], form: u8, store: &[u8]) -> usize
+fn put_checking(text: &mut [u8], form: u8, store: &[u8]) -> usize
     requires { ⌜ (mostRecords + 1) * 128 ≤ length (now text) ⌝ }
     ensures { λ r. ⌜ r ≤ length (now (text .exit)) ⌝ }
     ensures { λ r. ⌜ Written (now (text .entry)) 0 (checkingText form (now (store .entry))) r (now (text .exit)) ⌝ }

@@ -2,6 +2,8 @@
 //
 // The ends are worked out on i32, four of a channel in an array. Each format has a function of its own, and painters that it alone calls: the
 // compiler then works them out with the format known, and they never go through memory.
+#![tactic(auto)]
+
 ghost use Rattle.std.specs.Prelude.{◌≡◌, true, false, ◌++◌, ◌≤◌, length, drop, replicate};
 ghost use Rattle.bcn_util.specs.Stream.{number};
 ghost use Rattle.bc6h_spec.specs.Fields.{mode_in, fields_at};
@@ -18,7 +20,7 @@ use bcn_spec::{Answer, Block};
 use bcn_util::{BitStream, Indexes};
 
 // What a block of two regions says of its pixels: the map of the regions, and sixteen indices of three bits.
-#[derive(Drop)]
+#[derive(Clone, Copy)]
 struct Picks {
     map: u16,
     indices: u64,
@@ -101,7 +103,7 @@ pub fn show(mode: u8, lo: u64, hi: u64, signed: bool, out: &mut [u16]) -> u16
 }
 
 // What the pixels call answers.
-#[derive(Drop)]
+#[derive(Clone, Copy)]
 pub struct Pixels {
     pub answer: u8,
     pub mode: u8,

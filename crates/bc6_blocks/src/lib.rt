@@ -1,4 +1,6 @@
 // The pixels of a run of blocks of one format.
+#![tactic(auto)]
+
 ghost use Rattle.std.specs.Prelude.{◌≡◌, ◌*◌, ◌≤◌, length};
 ghost use Rattle.bc6_blocks.specs.Run.{RunWritten, RunPainted};
 
@@ -8,7 +10,7 @@ use bcn_spec::{Answer, Block};
 use bcn_util::BitStream;
 
 // What the call over a run of blocks answers.
-#[derive(Drop)]
+#[derive(Clone, Copy)]
 pub struct BlocksPixels {
     pub answer: u8,
     pub blocks: usize,

@@ -3,6 +3,8 @@
 //
 // Each mode has a function of its own in each format, so that its numbers are literals. What such a function promises is what its calls
 // promise, and no more: the prover finds it by itself, and one law over the modes makes of it what a block's ends are.
+#![tactic(auto)]
+
 ghost use Rattle.std.specs.Prelude.{true, false, ◌≤◌};
 ghost use Rattle.bcn_util.specs.Stream.{number};
 ghost use Rattle.bc6h_spec.specs.Fields.{mode_in};

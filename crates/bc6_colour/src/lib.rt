@@ -1,5 +1,7 @@
 // From a field record to colours of three numbers: the endpoints by sign extension and transform, and what they are unquantised to.
 // Each step is worked out first and chosen after, so that no jump depends on the data.
+#![tactic(auto)]
+
 ghost use Rattle.std.specs.Prelude.{◌≡◌, true, ◌+◌, ◌-◌, ◌^◌, ◌<◌, ◌≤◌, pos, nat_abs};
 ghost use Rattle.laws.specs.Ranges.{Below, Within, InBits};
 ghost use Rattle.bc6h_spec.specs.Fields.{Valid};
@@ -130,7 +132,7 @@ fn other_end(a: i32, field: u16, width: u8, bits: u8, moved: bool, signed: bool)
 }
 
 // A colour of three numbers, which may be below zero.
-#[derive(Drop)]
+#[derive(Clone, Copy)]
 pub struct Colour {
     pub r: i32,
     pub g: i32,

@@ -2,6 +2,8 @@
 // bc6_colour's, which serves the field record too.
 //
 // The bits of a mode come as literals, and each format has functions of its own: the compiler then works out four ends at once.
+#![tactic(auto)]
+
 ghost use Rattle.std.specs.Prelude.{◌≡◌, true, false, ◌^◌};
 ghost use Rattle.laws.specs.Ranges.{Below};
 ghost use Rattle.bc6_endpoints.specs.Ends.{end_at, end_of, Apart, Channel, ChannelEnds, StoredWhole, WholeEnds, Sixteen};
@@ -10,7 +12,7 @@ use bc6_colour::{transform_one, unquantize_narrow, unquantize_signed};
 use bc6_half::sign_extend;
 
 // A block's ends, unquantised: of two regions four a channel, of one region the first two.
-#[derive(Drop)]
+#[derive(Clone, Copy)]
 pub struct Ends {
     pub red: [i32; 4],
     pub green: [i32; 4],

@@ -1,4 +1,6 @@
 // From a block's bits to its fields.
+#![tactic(auto)]
+
 ghost use Rattle.std.specs.Prelude.{◌≡◌, ◌≤◌, length};
 ghost use Rattle.laws.specs.Made.{made};
 ghost use Rattle.bcn_util.specs.Stream.{number};
@@ -92,7 +94,7 @@ pub fn fields_of(block: &[u8], format: u8) -> Fields
 }
 
 // What the field call answers: a number, and the fields where that is `Answer::DONE`.
-#[derive(Drop)]
+#[derive(Clone, Copy)]
 pub struct FieldsRead {
     pub answer: u8,
     pub fields: Fields,

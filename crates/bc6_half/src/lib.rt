@@ -1,5 +1,7 @@
 // From numbers to half-floats: sign extension, magnitude, weights, interpolate, scale.
 // Each step is worked out first and chosen after, so that no jump depends on the data.
+#![tactic(auto)]
+
 ghost use Rattle.std.specs.Prelude.{◌≡◌, true, false, ◌^◌, ◌<◌, ◌≤◌, pos, nat_abs, get_or};
 ghost use Rattle.laws.specs.Pick.{pick};
 ghost use Rattle.laws.specs.Ranges.{Below, Within, InBits};
@@ -83,7 +85,7 @@ fn pattern_signed(u: u16) -> u16
 }
 
 // A pattern, and whether it is minus infinity.
-#[derive(Drop)]
+#[derive(Clone, Copy)]
 pub struct Half {
     pub pattern: u16,
     pub infinite: bool,

@@ -1,4 +1,6 @@
 // A face of blocks as rows of pixels, a pitch apart, with three values a pixel or, with alpha, four. Each block is decoded once.
+#![tactic(auto)]
+
 ghost use Rattle.std.specs.Prelude.{◌≡◌, true, false, ◌+◌, ◌*◌, ◌<◌, ◌≤◌, eqb, length};
 ghost use Rattle.std.proofs.lemmas.List.Edits.{sets};
 ghost use Rattle.bcn_spec.specs.Bits.{block_size};
@@ -11,7 +13,7 @@ use bc6::block_pixels;
 use bcn_spec::{Answer, Block};
 
 // What the calls over a face answer: how many values are minus infinity, 0 on a refusal.
-#[derive(Drop)]
+#[derive(Clone, Copy)]
 pub struct FacePixels {
     pub answer: u8,
     pub infinite: usize,

@@ -1,4 +1,6 @@
 // The mode of a block, and what it says of the endpoints.
+#![tactic(auto)]
+
 ghost use Rattle.std.specs.Prelude.{◌≡◌, ◌≤◌, ◌<◌};
 ghost use Rattle.bcn_util.specs.Stream.{number};
 ghost use Rattle.bc6h_spec.specs.Fields.{mode_in};
@@ -33,7 +35,7 @@ pub fn extract_mode(stream: BitStream) -> usize
 
 // What a mode says of its endpoints: the bits of the first, the bits of the others' red, green and blue, and whether the
 // others are stored as differences from the first.
-#[derive(Drop)]
+#[derive(Clone, Copy)]
 pub struct ModeBits {
     pub a0: u8,
     pub r: u8,

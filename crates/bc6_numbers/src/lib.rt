@@ -1,4 +1,6 @@
 // A field record as a run of numbers, and back: how C and the program run_write hold one.
+#![tactic(auto)]
+
 ghost use Rattle.std.specs.Prelude.{◌≡◌, ◌++◌, ◌<◌, ◌≤◌, length, drop};
 ghost use Rattle.laws.specs.Made.{made};
 ghost use Rattle.bc6_numbers.specs.Numbers.{number_count, number_at, numbers_of, byte_from, endpoint_from, index_from, fields_from};

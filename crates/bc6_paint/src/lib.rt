@@ -1,5 +1,7 @@
 // What a block's values are (specs), what its pixels have, and the values of a channel of two of them. A turn of the loops, which are in
 // `one_region` and `two_regions`, paints pixels k and k + 8. Names that end in 8 are of pixel k + 8.
+#![tactic(auto)]
+
 pub mod one_region;
 pub mod two_regions;
 
@@ -62,7 +64,7 @@ fn region_mask(map: u16, pixel: usize) -> u16
 }
 
 // What a turn's two pixels have: the mask of its region, and its weight.
-#[derive(Drop)]
+#[derive(Clone, Copy)]
 pub struct Turn {
     pub second: u16,
     pub second8: u16,

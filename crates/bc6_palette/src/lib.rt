@@ -1,5 +1,7 @@
 // The picture of a field record, as the document reads: the palettes between its endpoints, then each pixel's colour by its index, all of them
 // triples made, passed and returned by value. (Decoding a block builds no palette: bc6.)
+#![tactic(auto)]
+
 ghost use Rattle.std.specs.Prelude.{◌≡◌, true, false, ◌++◌, ◌<◌, ◌≤◌, pos, length, drop};
 ghost use Rattle.laws.specs.Made.{made};
 ghost use Rattle.laws.specs.Ranges.{InBits};

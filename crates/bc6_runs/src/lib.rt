@@ -1,5 +1,7 @@
 // The endpoints of a block, as they are stored: what decoding reads. The places are red, green and blue of the endpoints w, x, y and z, four
 // numbers a channel. Those of two regions are here, those of one region in `one_region`. The mode is read elsewhere.
+#![tactic(auto)]
+
 pub mod one_region;
 
 ghost use Rattle.std.specs.Prelude.{◌≡◌, ◌+◌, ◌/◌, ◌%◌, ◌^◌, T};
@@ -46,7 +48,7 @@ pub fn read_partition(stream: BitStream) -> u16
 }
 
 // Four numbers a channel, endpoint w the first. Beside each run below stand the bits that it has: gy[3:0] are the four lowest of green of y.
-#[derive(Drop)]
+#[derive(Clone, Copy)]
 pub struct Channels {
     pub red: [i32; 4],
     pub green: [i32; 4],

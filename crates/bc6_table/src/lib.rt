@@ -1,4 +1,6 @@
 // The bits before the indices, bit by bit, each put where the table of 1,080 codes says.
+#![tactic(auto)]
+
 pub mod destinations;
 
 ghost use Rattle.std.specs.Prelude.{◌≡◌, ◌*◌, ◌^◌, ◌<◌, ◌≤◌};

@@ -1,4 +1,6 @@
 // Which field records a block has.
+#![tactic(auto)]
+
 ghost use Rattle.std.specs.Prelude.{◌≡◌, ◌^◌, ◌<◌, ◌≤◌, ltb};
 ghost use Rattle.laws.specs.Every.{below};
 ghost use Rattle.bc6h_spec.specs.Layout.{own_width, width};

@@ -1,4 +1,6 @@
 // A block written from its fields: the way back of crate bc6_fields.
+#![tactic(auto)]
+
 ghost use Rattle.std.specs.Prelude.{◌≡◌, ◌/◌, ◌%◌, ◌<◌, ◌≤◌, length};
 ghost use Rattle.laws.specs.Bit.{bit, low_bytes};
 ghost use Rattle.laws.specs.Made.{made};

@@ -1,4 +1,5 @@
 // The plain types and numbers that the definitions of specs/ and the code share.
+#![tactic(auto)]
 
 ghost use Rattle.std.specs.Prelude.{◌≡◌};
 ghost use Rattle.bc6h_spec.specs.Fields.{no_fields};
@@ -6,7 +7,7 @@ ghost use Rattle.bc6h_spec.specs.Half.{highest_pattern};
 ghost use Rattle.bc6h_spec.specs.Picture.{value_count};
 
 // The fields of a block, as stored: endpoint e's channel c is endpoints[3 * e + c].
-#[derive(Drop)]
+#[derive(Clone, Copy)]
 pub struct Fields {
     pub format: u8,
     pub mode: u8,
@@ -32,7 +33,7 @@ impl Fields {
 }
 
 // The half-floats that a block shows.
-#[derive(Drop)]
+#[derive(Clone, Copy)]
 pub struct Picture {
     pub values: [u16; 48],
 }

@@ -1,4 +1,6 @@
 // The pixels call of BC7: a block as sixteen RGBA quadruples of bytes.
+#![tactic(auto)]
+
 ghost use Rattle.std.specs.Prelude.{◌≡◌};
 ghost use Rattle.bc7_spec.specs.Fields.{mode_in};
 ghost use Rattle.bc7.specs.Call.{Painted};
@@ -7,7 +9,7 @@ use bcn_spec::{Answer, Block};
 use bcn_util::BitStream;
 
 // What the call answers. The mode is the specification's, 0 to 7, or 8 for a reserved block.
-#[derive(Drop)]
+#[derive(Clone, Copy)]
 pub struct Bc7Pixels {
     pub answer: u8,
     pub mode: u8,

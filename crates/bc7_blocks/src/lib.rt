@@ -1,4 +1,6 @@
 // The pixels of a run of BC7 blocks.
+#![tactic(auto)]
+
 ghost use Rattle.std.specs.Prelude.{◌≡◌, ◌++◌, ◌*◌, ◌≤◌, length, drop};
 ghost use Rattle.bc7_blocks.specs.Run.{run_of, RunPainted};
 
@@ -6,7 +8,7 @@ use bc7::Bc7Pixels;
 use bcn_spec::{Answer, Block};
 
 // What the call over a run of blocks answers.
-#[derive(Drop)]
+#[derive(Clone, Copy)]
 pub struct Bc7BlocksPixels {
     pub answer: u8,
     pub blocks: usize,

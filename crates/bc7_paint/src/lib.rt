@@ -1,6 +1,8 @@
 // The 64 bytes of a block, each worked out from its endpoints and its weight: no palette.
 //
 // The endpoints stand one after the other, red, green, blue, alpha of each: channel c of endpoint e is ends[4 * e + c].
+#![tactic(auto)]
+
 ghost use Rattle.std.specs.Prelude.{◌≡◌, ◌++◌, ◌≤◌, ◌<◌, eqb, length, drop};
 ghost use Rattle.laws.specs.Pick.{pick};
 ghost use Rattle.laws.specs.Bit.{bit};

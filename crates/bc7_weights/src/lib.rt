@@ -1,4 +1,6 @@
 // The weights of a block's indexes, for every index width.
+#![tactic(auto)]
+
 ghost use Rattle.std.specs.Prelude.{◌≡◌, [], ◌∷◌, ◌*◌, ◌/◌, ◌%◌, ◌^◌, ◌≤◌, ◌<◌};
 ghost use Rattle.bcn_util.specs.Stream.{number};
 ghost use Rattle.bc7_spec.specs.Fields.{field_in};

@@ -1,10 +1,12 @@
 // What both formats share with the store and the files: the numbers that calls answer, and the size of a block.
+#![tactic(auto)]
+
 ghost use Rattle.std.specs.Prelude.{◌≡◌};
 ghost use Rattle.bcn_spec.specs.Answers.{answers};
 ghost use Rattle.bcn_spec.specs.Bits.{block_size};
 
 // What a call answers.
-#[derive(Drop)]
+#[derive(Clone, Copy)]
 pub struct Answer {
     pub number: u8,
 }
@@ -98,7 +100,7 @@ impl Answer {
 }
 
 // The bytes of a block.
-#[derive(Drop)]
+#[derive(Clone, Copy)]
 pub struct Block {
     pub bytes: [u8; 16],
 }

@@ -1,4 +1,6 @@
 // A block's bits, read from the lowest, and the indexes that end it.
+#![tactic(auto)]
+
 ghost use Rattle.std.specs.Prelude.{◌≡◌, [], ◌∷◌, ◌+◌, ◌-◌, ◌*◌, ◌/◌, ◌%◌, ◌^◌, ◌≤◌, ◌<◌, length};
 ghost use Rattle.laws.specs.Packed.{opened};
 ghost use Rattle.bcn_spec.specs.Bits.{number_of};
@@ -8,14 +10,14 @@ ghost use Rattle.bcn_util.specs.Indexed.{indexes_of, index_at};
 use raw_bytes::u64_at;
 
 // The bits of a block that are left: two words, moved as one.
-#[derive(Drop)]
+#[derive(Clone, Copy)]
 pub struct BitStream {
     pub lo: u64,
     pub hi: u64,
 }
 
 // Bits that were read, the first the lowest, and the stream shortened by them.
-#[derive(Drop)]
+#[derive(Clone, Copy)]
 pub struct Consumed {
     pub bits: u64,
     pub rest: BitStream,
@@ -75,7 +77,7 @@ impl BitStream {
 }
 
 // Sixteen indexes at full width in one word, pixel 0 lowest.
-#[derive(Drop)]
+#[derive(Clone, Copy)]
 pub struct Indexes {
     pub uncompressed: u64,
     pub bits: u64,

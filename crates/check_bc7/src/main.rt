@@ -1,5 +1,7 @@
 // Standard input is a run of BC7 blocks, sixteen bytes each. For each it writes 66 bytes: the answer, the mode, and 64 bytes, four for each
 // pixel, all zero on a refusal. A last piece below sixteen bytes goes to the call as it is, which answers 2.
+#![tactic(auto)]
+
 ghost use Rattle.std.specs.Prelude.{◌≡◌, ◌++◌, ◌*◌, ◌^◌, ◌<◌, ◌≤◌, length, drop};
 ghost use Rattle.laws.specs.Made.{made};
 ghost use Rattle.check_bc7.specs.Shown.{shown_byte, shown_of, shown_bytes, piece_count, PieceEnd, Decoded};
@@ -8,7 +10,7 @@ use bcn_spec::Block;
 use libc::{STDIN_FILENO, STDOUT_FILENO};
 
 // What the call says of a piece.
-#[derive(Drop)]
+#[derive(Clone, Copy)]
 struct Shown {
     answer: u8,
     mode: u8,

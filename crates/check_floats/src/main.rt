@@ -1,5 +1,7 @@
 // The 65,536 half-float patterns are 64 pages of 1,024. Standard input is page numbers, a byte each, at most 64; for each the floats of its
 // patterns go out in their order, four bytes each, low byte first. Of a float that is no number the bytes are those of 0x7FC00000.
+#![tactic(auto)]
+
 ghost use Rattle.std.specs.Prelude.{◌≡◌};
 ghost use Rattle.pfm_floats.specs.Half.{float_of};
 ghost use Rattle.check_floats.specs.Shown.{float_bits};

@@ -1,5 +1,7 @@
 // The pixels call at its limits: formats 0, 1, 2, 255, block lengths 15, 16, 17, outputs of 0, 47, 48, 49 and 100 values. A line has the
 // three, the answer and the mode, how many of a hundred values changed, and how many of those lie past the first 48.
+#![tactic(auto)]
+
 ghost use Rattle.std.specs.Prelude.{◌≤◌, length};
 
 use libc::STDOUT_FILENO;

@@ -1,6 +1,8 @@
 // Replays a fixed list of the Rust decoder's answers. Standard input is a run of entries, each a format, a block and what
 // the Rust answers: number, mode, count of minus infinities and 48 values, low byte first. Prints each entry that our call answers otherwise, and how
 // many agree.
+#![tactic(auto)]
+
 ghost use Rattle.std.specs.Prelude.{◌≡◌, ◌/◌, ◌<◌, length};
 ghost use Rattle.laws.specs.Every.{same};
 ghost use Rattle.bc6h_spec.specs.Picture.{value_count};

@@ -1,4 +1,5 @@
 // Prints what the record call, the block call and the twin list answer at their limits, for a store from standard input.
+#![tactic(auto)]
 
 ghost use Rattle.std.specs.Prelude.{◌+◌, ◌≤◌, ◌<◌, length};
 

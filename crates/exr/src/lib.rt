@@ -1,4 +1,5 @@
 // OpenEXR files: a picture of blocks as half-floats, scan lines from the top down, no compression.
+#![tactic(auto)]
 
 ghost use Rattle.std.specs.Prelude.{◌≡◌, ◌++◌, ◌<◌, ◌≤◌, ◌+◌, ◌*◌, length, drop};
 ghost use Rattle.std.proofs.lemmas.List.Edits.{sets};
@@ -13,7 +14,7 @@ use exr_header::{front_length, put_front, put_number};
 use pfm::{refusal_for, size_even};
 
 // What the writing call answers: the file's bytes, 0 on a refusal.
-#[derive(Drop)]
+#[derive(Clone, Copy)]
 pub struct ExrWritten {
     pub answer: u8,
     pub bytes: usize,

@@ -1,4 +1,5 @@
 // The front of an OpenEXR file: the header, and the table of where each scan line begins.
+#![tactic(auto)]
 
 ghost use Rattle.std.specs.Prelude.{◌≡◌, ◌≤◌, ◌+◌, length};
 ghost use Rattle.std.proofs.lemmas.List.Edits.{sets};

@@ -1,4 +1,5 @@
 // The values of a square picture, row by row from the top, as an OpenEXR file.
+#![tactic(auto)]
 
 ghost use Rattle.std.specs.Prelude.{◌+◌, ◌*◌, ◌<◌, ◌≤◌, length};
 ghost use Rattle.text.specs.Text.{Written};

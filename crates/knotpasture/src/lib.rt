@@ -1,4 +1,6 @@
 // The public calls for C and Rust, as include/knotpasture.h declares them. A slice is a pointer and a length.
+#![tactic(auto)]
+
 pub mod bc7_pixels;
 pub mod clean;
 pub mod fields;

@@ -1,4 +1,5 @@
 // A Portable Float Map of any size from 1 to 4,096, a row of blocks at a time.
+#![tactic(auto)]
 
 ghost use Rattle.std.specs.Prelude.{◌≡◌, ◌++◌, ◌≤◌, ◌*◌, length, drop};
 ghost use Rattle.bcn_spec.specs.Bits.{most_across};

@@ -1,4 +1,5 @@
 // Half-float patterns as 32-bit floats, each exact, and as bytes.
+#![tactic(auto)]
 
 ghost use Rattle.std.specs.Prelude.{◌≡◌, ◌≤◌, ◌+◌, length};
 ghost use Rattle.std.proofs.lemmas.List.Edits.{sets};
@@ -7,7 +8,7 @@ ghost use Rattle.pfm_floats.specs.Half.{float_of, rgb_of};
 ghost use Rattle.pfm_floats.specs.Bytes.{word_bytes, rgb_bytes, Numbers};
 
 // The three values of a pixel.
-#[derive(Drop)]
+#[derive(Clone, Copy)]
 pub struct Rgb {
     pub r: f32,
     pub g: f32,

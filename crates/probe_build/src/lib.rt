@@ -1,4 +1,5 @@
 // A probe built of the blocks of its six faces, and the edge of a probe by its store's length.
+#![tactic(auto)]
 
 ghost use Rattle.std.specs.Prelude.{◌≡◌, ◌+◌, ◌*◌, ◌%◌, ◌<◌, ◌≤◌, ◌++◌, length, drop, slice_index};
 ghost use Rattle.bcn_spec.specs.Bits.{block_size};
@@ -13,7 +14,7 @@ use probe_places::Place;
 use raw_bytes::u32_to_usize;
 
 // What the call answers: its number, and how many records were written.
-#[derive(Drop)]
+#[derive(Clone, Copy)]
 pub struct Built {
     pub answer: u8,
     pub records: usize,

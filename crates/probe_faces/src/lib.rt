@@ -1,4 +1,5 @@
 // A whole face of a probe: each of its blocks is decoded once, and the pixels go out row by row.
+#![tactic(auto)]
 
 ghost use Rattle.std.specs.Prelude.{◌≡◌, ◌++◌, ◌+◌, ◌*◌, ◌≤◌, ◌<◌, length, drop};
 ghost use Rattle.laws.specs.Made.{made, join};

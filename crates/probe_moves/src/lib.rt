@@ -1,4 +1,5 @@
 // The moves between the store of 24-byte records and the store of records with a place.
+#![tactic(auto)]
 
 ghost use Rattle.std.specs.Prelude.{◌≡◌, ◌++◌, ◌*◌, ◌≤◌, ◌<◌, length, drop};
 ghost use Rattle.store_records.specs.Store.{record_size, records_in, record_refusal};
@@ -11,7 +12,7 @@ use probe_places::{Fault, Place, place_at, place_record_refusal};
 use store_records::{Record, record_at, record_count};
 
 // What a move answers: its number, how many records were moved, and the number of the first faulty record where a record is why none was.
-#[derive(Drop)]
+#[derive(Clone, Copy)]
 pub struct Moved {
     pub answer: u8,
     pub records: usize,

@@ -1,4 +1,5 @@
 // A probe that is opened once: a table of its records by place, and its pixels by that table.
+#![tactic(auto)]
 
 ghost use Rattle.std.specs.Prelude.{◌≡◌, ◌++◌, ◌/◌, ◌<◌, ◌≤◌, length, drop};
 ghost use Rattle.probe_places.specs.Places.{face_count};

@@ -1,4 +1,5 @@
 // The store of 32-byte records, each with a place on a face: record by number, block of a record.
+#![tactic(auto)]
 
 ghost use Rattle.std.specs.Prelude.{◌≡◌, [], ◌∷◌, ◌<◌};
 ghost use Rattle.probe_places.specs.Faults.{no_fault, fault_alone};
@@ -9,7 +10,7 @@ use bcn_spec::{Answer, Block};
 use raw_bytes::u16_at;
 
 // Where a record stands: face 0 to 5, or 255 where it is not placed.
-#[derive(Drop)]
+#[derive(Clone, Copy)]
 pub struct Place {
     pub face: u8,
     pub column: u16,
@@ -63,7 +64,7 @@ impl Place {
     }
 }
 
-#[derive(Drop)]
+#[derive(Clone, Copy)]
 pub struct PlacedRecord {
     pub tile: u32,
     pub format: u8,
@@ -71,7 +72,7 @@ pub struct PlacedRecord {
 }
 
 // A record with its place, or the number of a refusal.
-#[derive(Drop)]
+#[derive(Clone, Copy)]
 pub enum PlacedReading {
     Record(PlacedRecord),
     Refused(u8),
@@ -90,7 +91,7 @@ impl PlacedReading {
 }
 
 // Why a store is refused, and the number of the record that is why; 0 where none is.
-#[derive(Drop)]
+#[derive(Clone, Copy)]
 pub struct Fault {
     pub answer: u8,
     pub faulty: usize,

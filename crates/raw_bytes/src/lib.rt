@@ -1,4 +1,5 @@
 // Bytes: wider numbers of them, numbers read from them with the lowest byte first, and bytes compared and copied.
+#![tactic(auto)]
 
 ghost use Rattle.std.specs.Prelude.{◌≡◌, ◌+◌, ◌/◌, ◌%◌, ◌≤◌, ◌<◌, length, drop};
 ghost use Rattle.std.proofs.Math.Seq.{paste};

@@ -1,4 +1,5 @@
 // Audits a store: reads it from standard input and writes its audit.
+#![tactic(auto)]
 
 ghost use Rattle.store_records.specs.Store.{store_limit};
 ghost use Rattle.text_audit.specs.Audit.{audit_of};

@@ -1,5 +1,7 @@
 // Standard input is a run of BC7 blocks, sixteen bytes each. For each it writes 64 bytes, four for each pixel. A batch of 1,024 blocks goes out at a time; a last
 // one that is not whole blocks writes nothing, so that a caller sees by the length that something is missing.
+#![tactic(auto)]
+
 ghost use Rattle.std.specs.Prelude.{◌*◌, ◌/◌, ◌≤◌, length};
 ghost use Rattle.run_bc7.specs.Batch.{Decoded};
 

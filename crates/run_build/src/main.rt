@@ -3,6 +3,7 @@
 //
 // The wish is the format in one byte, the edge and the first tile number in four each, the low byte first; then the blocks, face by face and
 // row by row.
+#![tactic(auto)]
 
 ghost use Rattle.text_build.specs.Output.{build_limit, build_output};
 ghost use Rattle.run_streams.specs.Output.{Outgoing};

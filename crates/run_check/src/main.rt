@@ -1,4 +1,5 @@
 // Names the faulty records of a store: reads one byte for the form and then the store from standard input, and writes what there is to say.
+#![tactic(auto)]
 
 ghost use Rattle.std.specs.Prelude.{◌+◌};
 ghost use Rattle.probe_places.specs.Places.{place_limit};

@@ -1,4 +1,5 @@
 // Cleans a store: reads it from standard input and writes what is told of the clean-up and behind it the records that stay.
+#![tactic(auto)]
 
 ghost use Rattle.store_records.specs.Store.{store_limit};
 ghost use Rattle.text_clean.specs.CleanText.{cleaning_output};

@@ -5,6 +5,8 @@
 // byte first. The number goes out, and where it is 0 the 148 bytes that stand before the blocks.
 //
 // Only the first bytes of the input are held, the others are counted: a file may have 22 MB, and a program has its stack alone.
+#![tactic(auto)]
+
 ghost use Rattle.std.specs.Prelude.{◌≡◌, ◌/◌, ◌%◌, ◌≤◌};
 ghost use Rattle.bcn_spec.specs.Bits.{size_limit};
 ghost use Rattle.run_dds.specs.Told.{report_of, told_of, one_told, first_told};

@@ -3,6 +3,8 @@
 // and the height. A Portable Float Map has the lowest row of blocks first, an OpenEXR file the highest.
 //
 // A wish that is not whole or not ours gets no answer, and a row of blocks that is not whole ends the file. One row of blocks is held at a time.
+#![tactic(auto)]
+
 ghost use Rattle.std.specs.Prelude.{◌≡◌, ◌≤◌, ◌<◌, ◌*◌, length};
 ghost use Rattle.bcn_spec.specs.Bits.{block_size};
 ghost use Rattle.dds.specs.Dds.{blocks_along};

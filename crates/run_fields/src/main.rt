@@ -1,6 +1,8 @@
 // Standard input is a run of 17-byte records: a format byte and the sixteen bytes of a block. For each it writes 45 bytes: the answer,
 // the format, the mode, twelve endpoints (two bytes each, low byte first), the partition, the pixels in region 1, sixteen indices, all
 // zero but the answer on a refusal. A last piece below 17 bytes goes to the call with the block bytes that it has.
+#![tactic(auto)]
+
 ghost use Rattle.std.specs.Prelude.{◌≡◌, ◌++◌, ◌+◌, ◌*◌, ◌/◌, ◌^◌, ◌<◌, ◌≤◌, length, drop};
 ghost use Rattle.laws.specs.Made.{made};
 ghost use Rattle.run_fields.specs.Record.{fields_byte};

@@ -1,4 +1,5 @@
 // Names the records of a store in which a value is minus infinity: reads the store from standard input and writes what there is to say.
+#![tactic(auto)]
 
 ghost use Rattle.store_records.specs.Store.{store_limit};
 ghost use Rattle.text_infinities.specs.Infinities.{infinities_text};

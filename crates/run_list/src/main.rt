@@ -1,5 +1,6 @@
 // Lists a store: reads it from standard input and writes its listing, a line a record and a last line with the counts, or the line of a
 // refused store. With the word --strict a store with a damaged record is refused.
+#![tactic(auto)]
 
 ghost use Rattle.std.specs.Prelude.{◌≡◌, ◌+◌, ◌*◌, ◌≤◌, length};
 ghost use Rattle.bcn_spec.specs.Answers.{done};

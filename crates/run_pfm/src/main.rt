@@ -1,5 +1,7 @@
 // Standard input is a DDS file of at most 64 by 64 pixels. A number goes out, one byte, and where it is 0 the picture as a Portable Float
 // Map.
+#![tactic(auto)]
+
 ghost use Rattle.std.specs.Prelude.{◌≡◌, ◌≤◌, length};
 ghost use Rattle.run_pfm.specs.Export.{size_small, Exported};
 

@@ -1,6 +1,8 @@
 // Standard input is a run of 17-byte records: a format byte and the sixteen bytes of a block. For each it writes 100 bytes: the answer,
 // the mode, the count of minus infinities and 48 values of two bytes each, low byte first, all zero on a refusal. A last piece below 17 bytes goes to the call with the
 // block bytes that it has.
+#![tactic(auto)]
+
 ghost use Rattle.std.specs.Prelude.{◌≡◌, ◌++◌, ◌+◌, ◌*◌, ◌/◌, ◌^◌, ◌<◌, ◌≤◌, length, drop};
 ghost use Rattle.laws.specs.Made.{made};
 ghost use Rattle.run_pixels.specs.Shown.{value_byte, shown_bytes, record_bytes};

@@ -1,5 +1,6 @@
 // Moves a store of 24-byte records to one of records with a place: reads it from standard input and writes the answer, a byte, and then the
 // moved store. Of a refused store the answer is all.
+#![tactic(auto)]
 
 ghost use Rattle.store_records.specs.Store.{store_limit};
 ghost use Rattle.text_moves.specs.Output.{placed_output};

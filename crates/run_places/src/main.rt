@@ -1,4 +1,5 @@
 // Lists a store of records with a place: reads one byte, 1 for the strict listing, and then the store from standard input, and writes its listing.
+#![tactic(auto)]
 
 ghost use Rattle.std.specs.Prelude.{◌+◌};
 ghost use Rattle.probe_places.specs.Places.{place_limit};

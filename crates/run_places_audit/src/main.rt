@@ -1,4 +1,5 @@
 // Audits a store of records with a place: reads it from standard input and writes its audit.
+#![tactic(auto)]
 
 ghost use Rattle.probe_places.specs.Places.{place_limit};
 ghost use Rattle.text_places_audit.specs.Audit.{audit_of};

@@ -3,6 +3,7 @@
 // Standard input has the kind, a byte: 0 to be told of an edge, 1 for a face as a Portable Float Map, 2 to be told of the edge that fits the
 // store, 3 for a face as an OpenEXR file; the edge and the face in four bytes each, low byte first; then the store.
 // A refusal is a line that begins `store refused`. Each block is shown in the format of its own record.
+#![tactic(auto)]
 
 ghost use Rattle.text_probe.specs.Output.{question_limit, probe_output};
 ghost use Rattle.run_streams.specs.Output.{Outgoing};

@@ -2,6 +2,7 @@
 // store. Of a refused wish the answer is all.
 //
 // The wish is the record's number in four bytes, its face in one, its column and its row in two each, the low byte first; then the store.
+#![tactic(auto)]
 
 ghost use Rattle.text_moves.specs.Output.{wish_limit, wish_output};
 ghost use Rattle.run_streams.specs.Output.{Outgoing};

@@ -1,5 +1,6 @@
 // The way back from a clean-up: reads the cleaned store, with its length before it, and the receipt from standard input, and writes the
 // answer, one byte, and where that is 0 the store as it was.
+#![tactic(auto)]
 
 ghost use Rattle.text_restore.specs.Restoring.{longest_input, restoring_output};
 ghost use Rattle.run_streams.specs.Output.{Outgoing};

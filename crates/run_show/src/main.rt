@@ -1,6 +1,7 @@
 // Standard input is a field record as 32 numbers of two bytes, low byte first, in the order of bc6_numbers. It writes 97 bytes: the answer of
 // `fields_pixels`, and the 48 values that the record shows, two bytes each, low byte first, all zero on a refusal. Input of another length
 // holds no record.
+#![tactic(auto)]
 
 ghost use Rattle.std.specs.Prelude.{◌≡◌, ◌++◌, ◌<◌, ◌≤◌, length, drop};
 ghost use Rattle.laws.specs.Made.{made};

@@ -3,6 +3,7 @@
 // A program has no status of its own. One that could not read its input writes nothing to standard output and a line to standard error;
 // one that could not write its text tells that too. The text of a store always ends with its closing line, so that a caller sees
 // from the text itself whether it is whole.
+#![tactic(auto)]
 
 ghost use Rattle.std.specs.Prelude.{◌≤◌, ◌≡◌, length, take};
 ghost use Rattle.run_streams.specs.Input.{Fits};
@@ -11,7 +12,7 @@ use libc::{STDERR_FILENO, STDIN_FILENO, STDOUT_FILENO};
 use store_records::Record;
 
 // The bytes of an input that ended or filled its buffer; or a read of it failed.
-#[derive(Drop)]
+#[derive(Clone, Copy)]
 pub enum Input {
     Whole(usize),
     Failed,

@@ -1,5 +1,6 @@
 // Moves a store of records with a place back to one of 24-byte records: reads it from standard input and writes the answer, a byte, and
 // then the moved store. Of a refused store the answer is all.
+#![tactic(auto)]
 
 ghost use Rattle.probe_places.specs.Places.{place_limit};
 ghost use Rattle.text_moves.specs.Output.{unplaced_output};

@@ -1,6 +1,8 @@
 // Standard input is a run of 44-byte field records, what run_fields writes after its answers: the format, the mode, twelve endpoints
 // (two bytes each, low byte first), the partition, the pixels in region 1, sixteen indices. For each it writes 17 bytes: the answer and
 // the block, zeros on a refusal. A last piece below 44 bytes is no record, and refused as an invalid one.
+#![tactic(auto)]
+
 ghost use Rattle.std.specs.Prelude.{◌≡◌, ◌++◌, ◌+◌, ◌*◌, ◌/◌, ◌^◌, ◌<◌, ◌≤◌, length, drop};
 ghost use Rattle.laws.specs.Made.{made};
 ghost use Rattle.bc6_numbers.specs.Numbers.{number_count};

@@ -1,5 +1,6 @@
 // A clean-up of a store: the records that stay, in order and byte for byte. A record goes exactly when it is an earlier one that stays
 // once more: neither refused nor reserved, of the same format, with the same sixteen block bytes. Nothing is decoded.
+#![tactic(auto)]
 
 ghost use Rattle.std.specs.Prelude.{◌≡◌, ◌+◌, ◌*◌, ◌≤◌, ◌<◌, length};
 ghost use Rattle.std.proofs.Math.Seq.{paste};
@@ -16,7 +17,7 @@ use store_scratch::{mixed_on, mode_at};
 use store_spec::TwinList;
 
 // Done, with how many records stay and how many are removed; or a refusal's number.
-#[derive(Drop)]
+#[derive(Clone, Copy)]
 pub struct Cleaned {
     pub answer: u8,
     pub kept: usize,

@@ -1,4 +1,5 @@
 // What the clean-up may rely on: a twin that is covered is a copy, byte for byte, of the first record that it equals.
+#![tactic(auto)]
 
 ghost use Rattle.std.specs.Prelude.{◌≡◌};
 ghost use Rattle.store_covered.specs.CleanUp.{covered_pair, covered, by_demand_3};

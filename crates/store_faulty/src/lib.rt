@@ -1,4 +1,5 @@
 // Which records of a store are faulty, and why: refused by the record call, or damaged. For both forms of a record, told by one byte.
+#![tactic(auto)]
 
 ghost use Rattle.std.specs.Prelude.{◌≡◌, ◌≤◌, ◌<◌, length};
 ghost use Rattle.laws.specs.Pick.{pick};
@@ -127,7 +128,7 @@ pub fn one_if(test: bool) -> usize
     if test { 1 } else { 0 }
 }
 
-#[derive(Drop)]
+#[derive(Clone, Copy)]
 pub struct FaultCounts {
     pub refused: usize,
     pub damaged: usize,

@@ -1,4 +1,5 @@
 // The mark of each record of a store, by what scratch space keeps of the records.
+#![tactic(auto)]
 
 ghost use Rattle.std.specs.Prelude.{◌≡◌, ◌++◌, ◌*◌, ◌≤◌, ◌<◌, length, drop};
 ghost use Rattle.laws.specs.Every.{same};

@@ -1,5 +1,6 @@
 // A clean-up that loses nothing: beside the cleaned store it writes a receipt. An entry of it has the number of a removed record, the number
 // of the record that stays for it, and the removed record's tile.
+#![tactic(auto)]
 
 ghost use Rattle.std.specs.Prelude.{◌≡◌, ◌+◌, ◌*◌, ◌≤◌, ◌<◌, length};
 ghost use Rattle.std.proofs.Math.Seq.{paste};
@@ -14,7 +15,7 @@ use store_records::{Record, record_count};
 use store_spec::TwinList;
 
 // An entry without its tile: the number of a removed record, and of the record that stays for it.
-#[derive(Drop)]
+#[derive(Clone, Copy)]
 pub struct Entry {
     pub number: usize,
     pub stays: usize,

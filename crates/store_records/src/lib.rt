@@ -1,4 +1,5 @@
 // The store of 24-byte records: record by number, block of a record, tile of a record.
+#![tactic(auto)]
 
 ghost use Rattle.std.specs.Prelude.{◌≡◌, [], ◌∷◌};
 ghost use Rattle.store_records.specs.Store.{record_size, head_size, store_limit, records_in, tile_at, reading_number, part_at, record_refusal, RecordRead};
@@ -6,14 +7,14 @@ ghost use Rattle.store_records.specs.Store.{record_size, head_size, store_limit,
 use bcn_spec::{Answer, Block};
 use raw_bytes::u32_at;
 
-#[derive(Drop)]
+#[derive(Clone, Copy)]
 pub struct Record {
     pub tile: u32,
     pub format: u8,
 }
 
 // A record, or the number of a refusal.
-#[derive(Drop)]
+#[derive(Clone, Copy)]
 pub enum RecordReading {
     Record(Record),
     Refused(u8),

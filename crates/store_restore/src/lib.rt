@@ -1,4 +1,5 @@
 // Undoes a clean-up: the store as it was, from the cleaned store and the receipt.
+#![tactic(auto)]
 
 ghost use Rattle.std.specs.Prelude.{◌≡◌, ◌<◌, eqb, ltb};
 ghost use Rattle.laws.specs.Pick.{both};
@@ -13,7 +14,7 @@ use store_records::{Record, record_count};
 use store_spec::TwinList;
 
 // Done, with how many records were restored; or a refusal's number.
-#[derive(Drop)]
+#[derive(Clone, Copy)]
 pub struct Restored {
     pub answer: u8,
     pub records: usize,

@@ -1,5 +1,6 @@
 // What is kept of the records while a twin list is made, in scratch space: first a fingerprint a record, by which the search passes most
 // records by, and behind those the pictures.
+#![tactic(auto)]
 
 ghost use Rattle.std.specs.Prelude.{◌≡◌, ◌++◌, ◌+◌, ◌*◌, ◌≤◌, ◌<◌, length, drop};
 ghost use Rattle.laws.specs.Made.{made};

@@ -1,4 +1,5 @@
 // The plain types and numbers that the definitions of twins and the code share.
+#![tactic(auto)]
 
 ghost use Rattle.std.specs.Prelude.{◌≡◌};
 ghost use Rattle.store_spec.specs.Twins.{marks, refusal};
@@ -7,7 +8,7 @@ use bc6h_spec::Picture;
 use store_records::Record;
 
 // What a record is marked with.
-#[derive(Drop)]
+#[derive(Clone, Copy)]
 pub struct Mark {
     pub number: u8,
 }
@@ -28,7 +29,7 @@ impl Mark {
 }
 
 // Done, with how many records are kept, are twins and are refused; or a refusal's number.
-#[derive(Drop)]
+#[derive(Clone, Copy)]
 pub struct TwinList {
     pub answer: u8,
     pub kept: usize,

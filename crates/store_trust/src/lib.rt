@@ -1,5 +1,7 @@
 // Whether a block may be trusted: whether it meets by itself what the copies theorem asks, so that no other such block of its
 // format, mode and partition shows its picture.
+#![tactic(auto)]
+
 ghost use Rattle.std.specs.Prelude.{◌≡◌, true, false, ◌+◌, ◌<◌, ◌≤◌, length};
 ghost use Rattle.laws.specs.Pick.{both};
 ghost use Rattle.laws.specs.Ranges.{InBits};

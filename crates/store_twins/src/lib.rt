@@ -1,5 +1,6 @@
 // The twin list: which records of a store hold the same picture, in the same format, as an earlier one. Each record is decoded once. The strict
 // list refuses a store with a damaged record, one that is not refused and has a reserved mode.
+#![tactic(auto)]
 
 ghost use Rattle.std.specs.Prelude.{◌≡◌, ◌++◌, ◌*◌, ◌≤◌, length, drop};
 ghost use Rattle.bc6h_spec.specs.Picture.{value_count};

@@ -1,4 +1,5 @@
 // A text that is built in a lent buffer: each call writes from `at` on and answers where the text then ends.
+#![tactic(auto)]
 
 ghost use Rattle.std.specs.Prelude.{◌≡◌, ◌++◌, ◌+◌, ◌≤◌, ◌%◌, length};
 ghost use Rattle.text.specs.Text.{decimal, hex_digit, hex, field, refusal_line, Written};

@@ -1,5 +1,6 @@
 // The audit of a store as text: a line that names the columns, a line for each twin with its verdict, and a last line with the counts; or
 // the line of a refused store.
+#![tactic(auto)]
 
 ghost use Rattle.std.specs.Prelude.{◌≡◌, ◌++◌, ◌+◌, ◌*◌, ◌≤◌, ltb, length};
 ghost use Rattle.laws.specs.Pick.{pick};
@@ -23,7 +24,7 @@ const LINE: usize = 128;
 pub const ROOM: usize = (TwinList::RECORDS + 3) * LINE;
 
 // What is told of a twin: the record that stays, whether the twin is its copy, and whether the copies theorem covers the two.
-#[derive(Drop)]
+#[derive(Clone, Copy)]
 pub struct Finding {
     pub stays: usize,
     pub copy: bool,

@@ -1,4 +1,5 @@
 // What the program run_build writes of its wish: the answer, a byte, and then the probe.
+#![tactic(auto)]
 
 ghost use Rattle.std.specs.Prelude.{◌≡◌, ◌+◌, ◌≤◌, length};
 ghost use Rattle.text.specs.Text.{Written};

@@ -1,5 +1,6 @@
 // What there is to say of the faulty records of a store, as text: a line a record and a last line with the counts, or the line of a
 // refused store.
+#![tactic(auto)]
 
 ghost use Rattle.std.specs.Prelude.{◌+◌, ◌*◌, ◌≤◌, ◌<◌, length};
 ghost use Rattle.text.specs.Text.{Written};

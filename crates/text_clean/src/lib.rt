@@ -1,5 +1,6 @@
 // A clean-up as one run of bytes: a line for each record that is removed, its number and tile and those of the record that stays for it, a
 // last line with the counts, and the cleaned store; or the line of a refused store alone.
+#![tactic(auto)]
 
 ghost use Rattle.std.specs.Prelude.{◌≡◌, ◌+◌, ◌*◌, ◌≤◌, length};
 ghost use Rattle.store_records.specs.Store.{records_in, store_limit, most_records};

@@ -1,5 +1,6 @@
 // The records of a store in which a value is minus infinity, as text: a line a record and a last line with the counts, or the line of a
 // refused store.
+#![tactic(auto)]
 
 ghost use Rattle.std.specs.Prelude.{◌≡◌, ◌++◌, ◌+◌, ◌*◌, ◌≤◌, length};
 ghost use Rattle.laws.specs.First.{first_below};
@@ -38,7 +39,7 @@ fn first_infinite(values: &[u16]) -> usize
 }
 
 // How many values of a record are minus infinity, and the first of them.
-#[derive(Drop)]
+#[derive(Clone, Copy)]
 pub struct Finding {
     pub infinite: usize,
     pub first: usize,

@@ -1,4 +1,5 @@
 // The lines of a store's listing: a line a record, and the line with the counts.
+#![tactic(auto)]
 
 ghost use Rattle.std.specs.Prelude.{◌≡◌, ◌+◌, ◌*◌, ◌≤◌, length};
 ghost use Rattle.store_records.specs.Store.{records_in, format_of, Unrefused};

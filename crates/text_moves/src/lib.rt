@@ -1,4 +1,5 @@
 // What the programs run_place, run_unplace and run_put write of what they read: the answer, a byte, and then the moved store.
+#![tactic(auto)]
 
 ghost use Rattle.std.specs.Prelude.{◌≡◌, ◌+◌, ◌≤◌, length};
 ghost use Rattle.store_records.specs.Store.{store_limit};

@@ -1,4 +1,5 @@
 // The listing of a store of records with a place, as text: a line a record and a last line with the counts, or the line of a refused store.
+#![tactic(auto)]
 
 ghost use Rattle.std.specs.Prelude.{◌≡◌, ◌+◌, ◌*◌, ◌≤◌, ◌<◌, length};
 ghost use Rattle.store_records.specs.Store.{most_records};
@@ -27,7 +28,7 @@ const STRICT: u8 = 1;
 pub const INPUT: usize = 1 + Place::STORE + 1;
 
 // How many records are placed, how many are not, and how many are refused.
-#[derive(Drop)]
+#[derive(Clone, Copy)]
 pub struct PlaceCounts {
     pub placed: usize,
     pub unplaced: usize,

@@ -1,5 +1,6 @@
 // The audit of a store of records with a place, as text: a line that names the columns, a line for each copy with its place and that of the
 // first record of the same format and bytes, and a last line with the counts; or the line of a refused store. Nothing is decoded.
+#![tactic(auto)]
 
 ghost use Rattle.std.specs.Prelude.{◌≡◌, ◌++◌, ◌+◌, ◌*◌, ◌≤◌, ◌<◌, length};
 ghost use Rattle.store_records.specs.Store.{most_records};

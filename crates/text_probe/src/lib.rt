@@ -1,5 +1,6 @@
 // What the program run_probe writes of its question: whether a store is a probe of an edge, as a line; or a face of it as a Portable
 // Float Map or an OpenEXR file, each block in the format of its own record.
+#![tactic(auto)]
 
 ghost use Rattle.std.specs.Prelude.{◌≡◌, ◌+◌, ◌*◌, ◌<◌, ◌≤◌, length};
 ghost use Rattle.probe.specs.Probe.{of_record};

@@ -1,5 +1,6 @@
 // The way back as one run of bytes. The input is the length of the cleaned store, its bytes, and the receipt; the output is the answer in
 // one byte, and where that is 0 the restored store.
+#![tactic(auto)]
 
 ghost use Rattle.std.specs.Prelude.{◌≡◌, ◌+◌, ◌≤◌, ◌<◌, length};
 ghost use Rattle.store_records.specs.Store.{store_limit};

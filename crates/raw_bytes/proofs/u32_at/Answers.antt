@@ -1,0 +1,6 @@
+use mathlib.Core.Path.{◌∙◌}
+use Rattle.raw_bytes.proofs.Bytes.{four_bytes}
+use Rattle.raw_bytes.proofs.u32_at.Goals as goal
+
+pub returns : goal.returns
+returns c = (cc) ∙ four_bytes _ _

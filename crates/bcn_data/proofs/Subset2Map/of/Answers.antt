@@ -1,5 +1,4 @@
 -- `Subset2Map::of` meets its contract: the number of a row, taken apart. Assumes nothing.
-use borrow.Author.Rules.{rules}
 use mathlib.Core.Path.{◌≡◌}
 use Prim.Native.Nat.{ℕ, ◌/◌, ◌%◌, ◌<◌}
 use native.Mathlib.Omega.{arith}
@@ -7,8 +6,7 @@ use Rattle.bcn_spec.specs.Regions.{map_of, fixup_of}
 use Rattle.bcn_spec.proofs.Partitions.{rule}
 use Rattle.bcn_data.specs.Subsets.{packed_row}
 use Rattle.bcn_data.proofs.Arms.{row_is}
-use Rattle.bcn_data.proofs.Subset2Map.of.Statement.{statement}
-use Rattle.bcn_data.proofs.Subset2Map.of.Tie as tie
+use Rattle.bcn_data.proofs.Subset2Map.of.Goals as goal
 
 module _ (partition row : ℕ) (h : partition < 32) (e : row ≡ packed_row partition) where
   low : row % 65536 ≡ map_of partition
@@ -22,14 +20,11 @@ module _ (partition row : ℕ) (h : partition < 32) (e : row ≡ packed_row part
   small : row / 65536 < 256
   small = let r = (rule partition h).fixup_fits in omega (arith, high)
 
-cast-t6 : tie.Need-overflow-cast-t6
-cast-t6 c = record { fits = small _ _ c.before.requires (row_is c.packed-row.ensures) }
+pub overflow_cast-result-2 : goal.overflow_cast-result-2
+overflow_cast-result-2 c = record { fits = small _ _ c.requires (row_is c.packed_row-row.ensures) }
 
-returns : tie.Need-returns
+pub returns : goal.returns
 returns c =
-    let p = c.before.requires in
-    let e = row_is c.packed-row.ensures in
+    let p = c.requires in
+    let e = row_is c.packed_row-row.ensures in
     λ i. record { subset_indexes = low _ _ p e i; fixup_index_2 = high _ _ p e i }
-
-pub of_spec : {M : Type 1} → statement M
-of_spec = tie.close (tie.spec (λ c κs. search rules) (λ c. search rules) cast-t6 returns)

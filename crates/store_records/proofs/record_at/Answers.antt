@@ -1,0 +1,28 @@
+use borrow.Author.Rules.{rules}
+use Rattle.store_records.proofs.Refusals as checks
+use Rattle.store_records.proofs.Readings as laws
+use Rattle.store_records.proofs.record_at.Goals as goal
+
+pub returns-then-store-gt-STORE : goal.returns-then-store-gt-STORE
+returns-then-store-gt-STORE c = laws.read_refused _ _ 4 (checks.long _ _ (search rules))
+
+pub returns-then-store-ne0 : goal.returns-then-store-ne0
+returns-then-store-ne0 c = laws.read_refused _ _ 5 (checks.uneven _ _ (search rules) (search rules))
+
+pub returns-then-n-record_count : goal.returns-then-n-record_count
+returns-then-n-record_count c = laws.read_refused _ _ 7 (checks.past _ _ (search rules) (search rules) (search rules))
+
+pub returns-then-format-gt1 : goal.returns-then-format-gt1
+returns-then-format-gt1 c = laws.read_refused _ _ 0 (checks.strange _ _ (search rules) (search rules) (search rules) (search rules))
+
+pub returns-then-store-at-ne0 : goal.returns-then-store-at-ne0
+returns-then-store-at-ne0 c = laws.read_refused _ _ 6 (checks.spare_5 _ _ (search rules) (search rules) (search rules) (search rules) (search rules))
+
+pub returns-then-store-at-ne0-2 : goal.returns-then-store-at-ne0-2
+returns-then-store-at-ne0-2 c = laws.read_refused _ _ 6 (checks.spare_6 _ _ (search rules) (search rules) (search rules) (search rules) (search rules) (search rules))
+
+pub returns-then-store-at-ne0-3 : goal.returns-then-store-at-ne0-3
+returns-then-store-at-ne0-3 c = laws.read_refused _ _ 6 (checks.spare_7 _ _ (search rules) (search rules) (search rules) (search rules) (search rules) (search rules) (search rules))
+
+pub returns : goal.returns
+returns c = laws.read_record _ _ _ (checks.good _ _ (search rules) (search rules) (search rules) (search rules) (search rules) (search rules) (search rules)) c.tile_at.ensures

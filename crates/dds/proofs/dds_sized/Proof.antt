@@ -1,8 +1,0 @@
--- `dds::dds_sized` meets its contract. Assumes nothing.
-use borrow.Author.Rules.{rules}
-use Rattle.dds.proofs.Reading.{sized_one}
-use Rattle.dds.proofs.dds_sized.Statement.{statement}
-use Rattle.dds.proofs.dds_sized.Tie as tie
-
-pub dds-sized-spec : {M : Type 1} → statement M
-dds-sized-spec = tie.close (tie.spec (λ c κs. search rules) (λ c. sized_one c.Sized-of.ensures))

@@ -47,7 +47,7 @@ overflow_add-v c =
     let v_fits : v < 2 ^ w = mod-lt _ (pow_pos w) in
     let q_fits : q < 2 = mod-lt _ (lit< tt) in
     let sum_is : (raw * 2 ^ d) % 2 ^ 32 + q * d ≡ v * 2 ^ d + q * d = ap (λ (x : ℕ). (x * 2 ^ d) % 2 ^ 32 + q * d) v_is
-      ∙ ap (λ (x : ℕ). x + q * d) (moved w d v (omega (arith, narrow)) v_fits) in
+    ∙ ap (λ (x : ℕ). x + q * d) (moved w d v (omega (arith, narrow)) v_fits) in
     let sum_fits : (raw * 2 ^ d) % 2 ^ 32 + q * d < 2 ^ (w + d) = subst (λ (x : ℕ). x < 2 ^ (w + d)) (sym sum_is) (with_p w d v q c.requires.1.p_bit v_fits q_fits) in
     record { fits = lt_of_lt_of_le sum_fits (pow_mono {i = w + d} {j = 32} (omega (arith, narrow))) }
 
@@ -65,7 +65,7 @@ widened-requires c =
     let v_fits : v < 2 ^ w = mod-lt _ (pow_pos w) in
     let q_fits : q < 2 = mod-lt _ (lit< tt) in
     let sum_is : (raw * 2 ^ d) % 2 ^ 32 + q * d ≡ v * 2 ^ d + q * d = ap (λ (x : ℕ). (x * 2 ^ d) % 2 ^ 32 + q * d) v_is
-      ∙ ap (λ (x : ℕ). x + q * d) (moved w d v (omega (arith, narrow)) v_fits) in
+    ∙ ap (λ (x : ℕ). x + q * d) (moved w d v (omega (arith, narrow)) v_fits) in
     let sum_fits : (raw * 2 ^ d) % 2 ^ 32 + q * d < 2 ^ (w + d) = subst (λ (x : ℕ). x < 2 ^ (w + d)) (sym sum_is) (with_p w d v q c.requires.1.p_bit v_fits q_fits) in
     (at_least, narrow, sum_fits)
 
@@ -82,8 +82,7 @@ returns c =
     let v_is : raw ≡ v = ap (λ (x : ℕ). c.args.run / 2 ^ (w * c.args.e) % x) shift in
     let v_fits : v < 2 ^ w = mod-lt _ (pow_pos w) in
     let sum_is : (raw * 2 ^ d) % 2 ^ 32 + q * d ≡ v * 2 ^ d + q * d = ap (λ (x : ℕ). (x * 2 ^ d) % 2 ^ 32 + q * d) v_is
-      ∙ ap (λ (x : ℕ). x + q * d) (moved w d v (omega (arith, narrow)) v_fits) in
-    (
+    ∙ ap (λ (x : ℕ). x + q * d) (moved w d v (omega (arith, narrow)) v_fits) in (
       c.widened.ensures.0 ∙ ap (widened (w + d)) sum_is
           ∙ sym (ap (λ (t : Bool). pick t opaque (widened (w + d) (v * 2 ^ d + q * d))) (ne_eqb w 0 c.if-w-eq0.false)),
       c.widened.ensures.1,

@@ -24,8 +24,7 @@ paint_pixel-requires-in-loop-k c =
     let k : ℕ = c.loop-k.k in
     let out : List ℕ = c.loop-k.out in
     let pixel : ℕ → ℕ → ℕ = λ n. solo_at c.args.ends c.args.rotation (get_or c.args.colours n 0) (get_or c.args.alphas n 0) in
-    let room : 64 ≤ length out = omega (arith, c.requires.room, c.loop-k.invariant.1.long) in
-    (
+    let room : 64 ≤ length out = omega (arith, c.requires.room, c.loop-k.invariant.1.long) in (
       omega arith,
       c.requires.colour_weights.small _,
       c.requires.alpha_weights.small _,
@@ -38,8 +37,7 @@ pub loop-k-preserved : goal.loop-k-preserved
 loop-k-preserved c =
     let k : ℕ = c.loop-k.k in
     let pixel : ℕ → ℕ → ℕ = λ n. solo_at c.args.ends c.args.rotation (get_or c.args.colours n 0) (get_or c.args.alphas n 0) in
-    let bytes : (n j : ℕ) → j < 4 → pixel n j ≡ shade_byte c.args.ends 0 0 c.args.rotation c.args.colours c.args.alphas (4 * n + j) = λ n. solo_byte _ _ _ _ n in
-    (
+    let bytes : (n j : ℕ) → j < 4 → pixel n j ≡ shade_byte c.args.ends 0 0 c.args.rotation c.args.colours c.args.alphas (4 * n + j) = λ n. solo_byte _ _ _ _ n in (
       search rules,
       turn_painted c.loop-k.invariant.1 c.requires.room (pixel k) (pixel (k + 8)) _ _ c.paint_pixel.ensures c.paint_pixel-in-loop-k.ensures (omega arith)
           (bytes k) (bytes (k + 8)),

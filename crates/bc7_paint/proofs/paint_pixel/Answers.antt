@@ -32,8 +32,8 @@ returns c =
     let second : c.select_byte-2.result ≡ f (turned rotation 1) = c.select_byte-2.ensures ∙ ap₂ (λ (p q : ℕ). pick (eqb rotation 2) p q) alpha green ∙ green_turned f rotation c.requires.3 in
     let third : c.select_byte-3.result ≡ f (turned rotation 2) = c.select_byte-3.ensures ∙ ap₂ (λ (p q : ℕ). pick (eqb rotation 3) p q) alpha blue ∙ blue_turned f rotation c.requires.3 in
     let last : c.fourth.result ≡ f (turned rotation 3) = c.fourth.ensures
-      ∙ ap₂ (λ (p q : ℕ). turned_to rotation p q c.shade-b.result c.shade-a.result) red green
-      ∙ ap₂ (λ (p q : ℕ). turned_to rotation (f 0) (f 1) p q) blue alpha
-      ∙ alpha_turned f rotation c.requires.3 in
+    ∙ ap₂ (λ (p q : ℕ). turned_to rotation p q c.shade-b.result c.shade-a.result) red green
+    ∙ ap₂ (λ (p q : ℕ). turned_to rotation (f 0) (f 1) p q) blue alpha
+    ∙ alpha_turned f rotation c.requires.3 in
     let k = c.args.k in
     λ i. set (set (set (set c.args.out.now (4 * k) (first i)) (4 * k + 1) (second i)) (4 * k + 2) (third i)) (4 * k + 3) (last i)

@@ -85,12 +85,12 @@ loop-p-preserved c =
     let p : ℕ = c.loop-p.p in
     let f : ℕ → ℕ = shade_byte c.args.ends c.args.ones c.args.twos 0 c.args.weights c.args.weights in
     let of_k : (j i s : ℕ) → s ≡ shade_at c.args.ends j (region_by c.in_region-one_k.result c.in_region-two_k.result) (get_or c.args.weights (2 * p) 0) → j < 4 → 4 * (2 * p) + j ≡ i → s ≡ f i = λ j i s e. let n = add-zero (2 * p) in
-      shown _ _ _ _ (2 * p) j i s _ _ e
-      (marked_left _ _ (2 * p) c.loop-p.invariant.1 0 (2 * p) n _ c.in_region-one_k.ensures)
-      (marked_left _ _ (2 * p) c.loop-p.invariant.2 0 (2 * p) n _ c.in_region-two_k.ensures) in
+    shown _ _ _ _ (2 * p) j i s _ _ e
+    (marked_left _ _ (2 * p) c.loop-p.invariant.1 0 (2 * p) n _ c.in_region-one_k.ensures)
+    (marked_left _ _ (2 * p) c.loop-p.invariant.2 0 (2 * p) n _ c.in_region-two_k.ensures) in
     let of_l : (j i s : ℕ) → s ≡ shade_at c.args.ends j (region_by c.in_region-one_l.result c.in_region-two_l.result) (get_or c.args.weights (2 * p + 1) 0) → j < 4 → 4 * (2 * p + 1) + j ≡ i → s ≡ f i = λ j i s e. shown _ _ _ _ (2 * p + 1) j i s _ _ e
-      (marked_left _ _ (2 * p) c.loop-p.invariant.1 1 (2 * p + 1) refl _ c.in_region-one_l.ensures)
-      (marked_left _ _ (2 * p) c.loop-p.invariant.2 1 (2 * p + 1) refl _ c.in_region-two_l.ensures) in
+    (marked_left _ _ (2 * p) c.loop-p.invariant.1 1 (2 * p + 1) refl _ c.in_region-one_l.ensures)
+    (marked_left _ _ (2 * p) c.loop-p.invariant.2 1 (2 * p + 1) refl _ c.in_region-two_l.ensures) in
     let n = p in
     let l = c.loop-p in
     let room = c.requires.room in

@@ -17,12 +17,12 @@ left : (c : Left-loop-first)
 left c =
     let l = c.loop-first in
     elim c.loop-first-test.branch [
-      else-loop-first-test w ↦ (
+      | else-loop-first-test w ↦ (
         search rules,
         ap length w.digits-is ∙ l.invariant.1,
         digit_end _ l.digits l.first l.rest (omega arith) l.invariant.2 ∙ sym (ap₂ (λ (k : ℕ) (t : List ℕ). drop k t) w.first-is w.digits-is),
       )
-    | then-loop-first-test+then-rest-eq0 w ↦ (
+      | then-loop-first-test+then-rest-eq0 w ↦ (
         search rules,
         ap length w.digits-is ∙ simp length-set l.invariant.1,
         digit_last _ l.digits l.first l.rest _ (search rules) (search rules) l.invariant.2 refl w.if-rest-eq0.true ∙ sym (ap₂ (λ (k : ℕ) (t : List ℕ). drop k t) w.first-is w.digits-is),

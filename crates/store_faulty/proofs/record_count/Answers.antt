@@ -1,0 +1,9 @@
+use native.Mathlib.Omega.{arith}
+use Rattle.store_faulty.proofs.Forms.{size_some}
+use Rattle.store_faulty.proofs.record_count.Goals as goal
+
+pub nonzero_div-result : goal.nonzero_div-result
+nonzero_div-result c = omega (arith, size_some c.args.form)
+
+pub returns : goal.returns
+returns c = rw c.record_size.ensures

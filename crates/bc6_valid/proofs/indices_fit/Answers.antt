@@ -1,0 +1,32 @@
+-- `bc6_valid::indices_fit` meets its contract: one pixel a turn. Assumes nothing.
+use borrow.Author.Rules.{rules}
+use mathlib.Core.Path.{◌≡◌, ◌∙◌, refl, sym}
+use mathlib.Core.Bool.{true}
+use Prim.Native.Nat.{◌-◌}
+use Rattle.bc6_valid.specs.Validity.{index_fits}
+use Rattle.laws.proofs.Below.{below_more, below_fails, below_upto}
+use Rattle.bc6_valid.proofs.Sizes.{size_narrow}
+use Rattle.bc6_valid.proofs.Verdict.{index_tested}
+use Rattle.bc6_valid.proofs.indices_fit.Goals as goal
+
+tested : (c : tie.After-fits2 invariant-loop decreases-loop) → c.fits2.result ≡ index_fits c.before.before.before.before.before.before.args.fields c.before.before.before.loop.pixel
+tested c = index_tested c.before.before.before.before.before.before.args.fields _ c.before.before.before.before.before.second-fixup.ensures c.before.stored-bits.ensures c.fits2.ensures
+
+pub loop-pixel-init : goal.loop-pixel-init
+loop-pixel-init c = (search rules, refl)
+
+pub fits-requires : goal.fits-requires
+fits-requires c = size_narrow _ _ _ c.stored_bits.ensures
+
+pub returns-then-not-fits : goal.returns-then-not-fits
+returns-then-not-fits c = below_fails (index_fits c.args.fields) 16 c.loop-pixel.pixel (sym (tested c.before) ∙ c.if-not-fits.true) (search rules)
+
+pub loop-pixel-preserved : goal.loop-pixel-preserved
+loop-pixel-preserved c =
+    (
+  search rules,
+  below_more (index_fits c.args.fields) c.loop-pixel.pixel c.loop-pixel.invariant.1 (sym (tested c.before) ∙ c.if-not-fits.false),
+)
+
+pub returns : goal.returns
+returns c = below_upto (index_fits c.args.fields) 16 c.loop-pixel.pixel c.loop-pixel.invariant.1 (search rules) (search rules)

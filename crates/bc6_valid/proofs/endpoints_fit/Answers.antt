@@ -9,9 +9,6 @@ use Rattle.bc6_valid.proofs.Sizes.{narrow}
 use Rattle.bc6_valid.proofs.Verdict.{end_tested}
 use Rattle.bc6_valid.proofs.endpoints_fit.Goals as goal
 
-tested : (c : tie.After-fits2 invariant-loop decreases-loop) → c.fits2.result ≡ endpoint_fits c.before.before.before.before.before.before.args.fields c.before.before.before.loop.place
-tested c = end_tested c.before.before.before.before.before.before.args.fields _ c.before.place-bits.ensures c.fits2.ensures
-
 pub loop-place-init : goal.loop-place-init
 loop-place-init c = (search rules, refl)
 
@@ -19,13 +16,13 @@ pub fits-requires : goal.fits-requires
 fits-requires c = narrow _ _ (search rules) (search rules) (search rules) c.place_bits.ensures
 
 pub returns-then-not-fits : goal.returns-then-not-fits
-returns-then-not-fits c = below_fails (endpoint_fits c.args.fields) 12 c.loop-place.place (sym (tested c.before) ∙ c.if-not-fits.true) (search rules)
+returns-then-not-fits c = below_fails (endpoint_fits c.args.fields) 12 c.loop-place.place (sym (end_tested c.args.fields _ c.place_bits.ensures c.fits.ensures) ∙ c.if-not-fits.true) (search rules)
 
 pub loop-place-preserved : goal.loop-place-preserved
 loop-place-preserved c =
     (
   search rules,
-  below_more (endpoint_fits c.args.fields) c.loop-place.place c.loop-place.invariant.1 (sym (tested c.before) ∙ c.if-not-fits.false),
+  below_more (endpoint_fits c.args.fields) c.loop-place.place c.loop-place.invariant.1 (sym (end_tested c.args.fields _ c.place_bits.ensures c.fits.ensures) ∙ c.if-not-fits.false),
 )
 
 pub returns : goal.returns

@@ -9,9 +9,6 @@ use Rattle.bc6_valid.proofs.Sizes.{size_narrow}
 use Rattle.bc6_valid.proofs.Verdict.{index_tested}
 use Rattle.bc6_valid.proofs.indices_fit.Goals as goal
 
-tested : (c : tie.After-fits2 invariant-loop decreases-loop) → c.fits2.result ≡ index_fits c.before.before.before.before.before.before.args.fields c.before.before.before.loop.pixel
-tested c = index_tested c.before.before.before.before.before.before.args.fields _ c.before.before.before.before.before.second-fixup.ensures c.before.stored-bits.ensures c.fits2.ensures
-
 pub loop-pixel-init : goal.loop-pixel-init
 loop-pixel-init c = (search rules, refl)
 
@@ -19,13 +16,13 @@ pub fits-requires : goal.fits-requires
 fits-requires c = size_narrow _ _ _ c.stored_bits.ensures
 
 pub returns-then-not-fits : goal.returns-then-not-fits
-returns-then-not-fits c = below_fails (index_fits c.args.fields) 16 c.loop-pixel.pixel (sym (tested c.before) ∙ c.if-not-fits.true) (search rules)
+returns-then-not-fits c = below_fails (index_fits c.args.fields) 16 c.loop-pixel.pixel (sym (index_tested c.args.fields _ c.second_fixup-fixup.ensures c.stored_bits.ensures c.fits.ensures) ∙ c.if-not-fits.true) (search rules)
 
 pub loop-pixel-preserved : goal.loop-pixel-preserved
 loop-pixel-preserved c =
     (
   search rules,
-  below_more (index_fits c.args.fields) c.loop-pixel.pixel c.loop-pixel.invariant.1 (sym (tested c.before) ∙ c.if-not-fits.false),
+  below_more (index_fits c.args.fields) c.loop-pixel.pixel c.loop-pixel.invariant.1 (sym (index_tested c.args.fields _ c.second_fixup-fixup.ensures c.stored_bits.ensures c.fits.ensures) ∙ c.if-not-fits.false),
 )
 
 pub returns : goal.returns

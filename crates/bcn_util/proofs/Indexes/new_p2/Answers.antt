@@ -9,8 +9,7 @@ pub decompress_single_index-first-requires : goal.decompress_single_index-first-
 decompress_single_index-first-requires c = (search rules, search rules, search rules, short (read_fits _ _ _ c.consume_bits-read.ensures.next) (search rules))
 
 pub decompress_single_index-requires : goal.decompress_single_index-requires
-decompress_single_index-requires c =
-    (
+decompress_single_index-requires c = (
   search rules,
   search rules,
   search rules,

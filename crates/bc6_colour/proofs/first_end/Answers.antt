@@ -1,0 +1,27 @@
+-- `bc6_colour::first_end` meets its contract: by the format. Assumes nothing.
+use mathlib.Core.Path.{sym, ap, subst, ◌∙◌}
+use mathlib.Core.Bool.{Bool}
+use native.Mathlib.Omega.{arith}
+use Prim.Native.Nat.{◌^◌}
+use lib.IntN.{ℤ, nat_abs}
+use Rattle.laws.specs.Ranges.{Below}
+use Rattle.bc6h_spec.specs.Half.{sign_extend}
+use Rattle.bc6h_spec.specs.Picture.{first_end}
+use Rattle.laws.proofs.Num.{widened, read}
+use Rattle.bc6_colour.proofs.first_end.Goals as goal
+
+pub sign_extend-requires : goal.sign_extend-requires
+sign_extend-requires c = (c.requires.0, omega arith, subst (Below (2 ^ c.args.bits)) (sym (widened c.ranges.field.fits)) (record { nonneg = tt; below = c.requires.2 }))
+
+pub returns-then-signed : goal.returns-then-signed
+unfolding first_end
+returns-then-signed c =
+    read c.sign_extend.type_inv c.sign_extend.ensures
+    ∙ ap (λ (z : ℤ). sign_extend c.args.bits (nat_abs z)) (widened c.ranges.field.fits)
+    ∙ sym (ap (λ (t : Bool). first_end t c.args.bits c.args.field) c.if-signed.true)
+
+pub returns-else-signed : goal.returns-else-signed
+unfolding first_end
+returns-else-signed c =
+    widened c.ranges.field.fits
+    ∙ sym (ap (λ (t : Bool). first_end t c.args.bits c.args.field) c.if-signed.false)

@@ -68,10 +68,10 @@ overflow_add-result c =
     let t_is : t.z ≡ pos (31 * nat_abs x / 32) = ap (λ (z : ℤ). shr_z (z *ℤ pos 31) 32) told ∙ shrunk (nat_abs x) in
     let size : nat_abs t.v ≡ 31 * nat_abs x / 32 = u16_is t t_is in
     let sum_is : c.if-x-ltminus1.sign + nat_abs t.v ≡ finish_s x =
-      elim c.if-x-ltminus1.branch [
-          then-x-ltminus1 w ↦ low_sum x size (below number w.if-x-ltminus1.true) w.sign-is
-        | else-x-ltminus1 w ↦ high_sum x size (below number w.if-x-ltminus1.false) w.sign-is
-      ] in
+    elim c.if-x-ltminus1.branch [
+      | then-x-ltminus1 w ↦ low_sum x size (below number w.if-x-ltminus1.true) w.sign-is
+      | else-x-ltminus1 w ↦ high_sum x size (below number w.if-x-ltminus1.false) w.sign-is
+    ] in
     record { fits = rw sum_is (finish_lt x inside) }
 
 pub returns : goal.returns
@@ -86,8 +86,8 @@ returns c =
     let t_is : t.z ≡ pos (31 * nat_abs x / 32) = ap (λ (z : ℤ). shr_z (z *ℤ pos 31) 32) told ∙ shrunk (nat_abs x) in
     let size : nat_abs t.v ≡ 31 * nat_abs x / 32 = u16_is t t_is in
     let sum_is : c.if-x-ltminus1.sign + nat_abs t.v ≡ finish_s x =
-      elim c.if-x-ltminus1.branch [
-          then-x-ltminus1 w ↦ low_sum x size (below number w.if-x-ltminus1.true) w.sign-is
-        | else-x-ltminus1 w ↦ high_sum x size (below number w.if-x-ltminus1.false) w.sign-is
-      ] in
+    elim c.if-x-ltminus1.branch [
+      | then-x-ltminus1 w ↦ low_sum x size (below number w.if-x-ltminus1.true) w.sign-is
+      | else-x-ltminus1 w ↦ high_sum x size (below number w.if-x-ltminus1.false) w.sign-is
+    ] in
     sum_is

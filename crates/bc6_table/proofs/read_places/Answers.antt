@@ -25,7 +25,7 @@ small : {bit : ℕ} (n : ℕ) → bit ≡ n % 2 → bit < 2
 small n e = subst (λ (x : ℕ). x < 2) (sym e) (mod-lt _ (lit< tt))
 
 module _ {mode whole start count rest k : ℕ} {values : List ℕ} (w : Walked mode whole start count values rest k) (h : k < count)
-         {code bit put : ℕ} (e : code ≡ get_or layout.table (start + k) 0) (b : bit ≡ rest % 2) (q : put ≡ bit * 2 ^ (code % 16)) where
+    {code bit put : ℕ} (e : code ≡ get_or layout.table (start + k) 0) (b : bit ≡ rest % 2) (q : put ≡ bit * 2 ^ (code % 16)) where
   put_is : put ≡ rest % 2 * 2 ^ (code % 16)
   put_is = q ∙ ap (λ (x : ℕ). x * 2 ^ (code % 16)) b
 
@@ -66,10 +66,11 @@ pub bounds-values-place-in-loop-k : goal.bounds-values-place-in-loop-k
 bounds-values-place-in-loop-k c = walked_place c.loop-k.invariant.1 c.loop-k-test.true (listed _ c.loop-k.invariant.2)
 
 pub loop-k-preserved : goal.loop-k-preserved
-loop-k-preserved c =
-    (search rules,
-    next c.loop-k.invariant.1 c.loop-k-test.true (listed _ c.loop-k.invariant.2) c.consume_bits-read.ensures.next c.bit_at.ensures c.consume_bits-read.ensures.left,
-    c.loop-k.invariant.2)
+loop-k-preserved c = (
+  search rules,
+  next c.loop-k.invariant.1 c.loop-k-test.true (listed _ c.loop-k.invariant.2) c.consume_bits-read.ensures.next c.bit_at.ensures c.consume_bits-read.ensures.left,
+  c.loop-k.invariant.2,
+)
 
 pub returns : goal.returns
 returns c = walked_done c.loop-k.invariant.1 c.loop-k.invariant.0 c.loop-k-test.false

@@ -19,8 +19,7 @@ pub returns-then-not-fits : goal.returns-then-not-fits
 returns-then-not-fits c = below_fails (endpoint_fits c.args.fields) 12 c.loop-place.place (sym (end_tested c.args.fields _ c.place_bits.ensures c.fits.ensures) ∙ c.if-not-fits.true) (search rules)
 
 pub loop-place-preserved : goal.loop-place-preserved
-loop-place-preserved c =
-    (
+loop-place-preserved c = (
   search rules,
   below_more (endpoint_fits c.args.fields) c.loop-place.place c.loop-place.invariant.1 (sym (end_tested c.args.fields _ c.place_bits.ensures c.fits.ensures) ∙ c.if-not-fits.false),
 )

@@ -19,8 +19,7 @@ pub returns-then-not-fits : goal.returns-then-not-fits
 returns-then-not-fits c = below_fails (index_fits c.args.fields) 16 c.loop-pixel.pixel (sym (index_tested c.args.fields _ c.second_fixup-fixup.ensures c.stored_bits.ensures c.fits.ensures) ∙ c.if-not-fits.true) (search rules)
 
 pub loop-pixel-preserved : goal.loop-pixel-preserved
-loop-pixel-preserved c =
-    (
+loop-pixel-preserved c = (
   search rules,
   below_more (index_fits c.args.fields) c.loop-pixel.pixel c.loop-pixel.invariant.1 (sym (index_tested c.args.fields _ c.second_fixup-fixup.ensures c.stored_bits.ensures c.fits.ensures) ∙ c.if-not-fits.false),
 )

@@ -22,8 +22,7 @@ known signed {moved = m} bits width a field e = ap (λ (t : Bool). pick t (trans
 
 pub transform_one-requires : goal.transform_one-requires
 transform_one-requires c =
-    let told : to_z w32 (of_z w32 c.delta_of-d.result) ≡ delta c.args.signed c.args.moved c.args.width c.args.field = read c.delta_of-d.type_inv c.delta_of-d.ensures in
-    (
+    let told : to_z w32 (of_z w32 c.delta_of-d.result) ≡ delta c.args.signed c.args.moved c.args.width c.args.field = read c.delta_of-d.type_inv c.delta_of-d.ensures in (
       c.requires.0.0,
       c.requires.0.1,
       (

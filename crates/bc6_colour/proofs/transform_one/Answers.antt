@@ -23,8 +23,7 @@ sign_extend-requires c =
     let sum : Num = add (arg 65536 c.ranges.a c.requires.2.0.inside) (arg 65536 c.ranges.d c.requires.2.1.inside) in
     let low : to_z w32 (of_z w32 c.keep_bits-sum.result) ≡ pos (keep c.args.bits (c.args.a +ℤ c.args.d)) = to_z-of_z w32 c.keep_bits-sum.result (record { sfits = c.keep_bits-sum.type_inv })
     ∙ c.keep_bits-sum.ensures
-    ∙ ap (λ (z : ℤ). pos (keep c.args.bits z)) (kept sum tt).is in
-    (
+    ∙ ap (λ (z : ℤ). pos (keep c.args.bits z)) (kept sum tt).is in (
       c.requires.0,
       omega (arith, c.requires.1),
       subst (Below (2 ^ c.args.bits)) (sym low) (record { nonneg = tt; below = keep_lt c.args.bits (c.args.a +ℤ c.args.d) }),

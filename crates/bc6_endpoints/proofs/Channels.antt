@@ -46,7 +46,7 @@ module _ {p w : ℕ} {base x : ℤ} (a : Apart p w base x) where
   wide_p = bits_16 p (omega (arith, a.narrow.most))
 
   wide_w : 2 ^ w ≤ 65536
-  wide_w = bits_16 w (omega (arith, a.narrow.most, a.narrow.own_val))
+  wide_w = bits_16 w (omega (arith, a.narrow.most, a.narrow.own))
 
   pub base_back : to_z w32 (of_z w32 base) ≡ base
   base_back = back a.whole wide_p
@@ -55,7 +55,7 @@ module _ {p w : ℕ} {base x : ℤ} (a : Apart p w base x) where
   field_back = back a.few wide_w
 
   pub extend_asks : (0 < w) × (w ≤ 31) × Below (2 ^ w) (to_z w32 (of_z w32 x))
-  extend_asks = (a.narrow.some, omega (arith, a.narrow.most, a.narrow.own_val), handed a.few wide_w)
+  extend_asks = (a.narrow.some, omega (arith, a.narrow.most, a.narrow.own), handed a.few wide_w)
 
   module _ (d : ℤ) (ok : mag d < 2147483648) (told : d ≡ sign_extend w (nat_abs (to_z w32 (of_z w32 x)))) where
     pub difference : to_z w32 (of_z w32 d) ≡ sign_extend w (nat_abs x)
@@ -64,12 +64,12 @@ module _ {p w : ℕ} {base x : ℤ} (a : Apart p w base x) where
     pub transform_asks : (0 < p) × (p ≤ 16) × (Within 65536 (to_z w32 (of_z w32 base)) × Within 65536 (to_z w32 (of_z w32 d)))
     unfolding delta
     transform_asks = (
-      omega (arith, a.narrow.some, a.narrow.own_val),
+      omega (arith, a.narrow.some, a.narrow.own),
       omega (arith, a.narrow.most),
       (
         subst (Within 65536) (sym base_back) (record { inside = omega (arith, a.whole.below, wide_p) }),
         subst (Within 65536) (sym difference)
-            (delta_within true true w (nat_abs x) a.narrow.some (omega (arith, a.narrow.most, a.narrow.own_val)) (size a.few)),
+            (delta_within true true w (nat_abs x) a.narrow.some (omega (arith, a.narrow.most, a.narrow.own)) (size a.few)),
       ),
     )
 
@@ -78,7 +78,7 @@ module _ {p w : ℕ} {base x : ℤ} (a : Apart p w base x) where
       moved = read fine (sum ∙ (λ i. transform s p (base_back i) (difference i)))
 
       pub inside : InBits s p (to_z w32 (of_z w32 t))
-      inside = subst (InBits s p) (sym moved) (transformed_in s p base (sign_extend w (nat_abs x)) (omega (arith, a.narrow.some, a.narrow.own_val)))
+      inside = subst (InBits s p) (sym moved) (transformed_in s p base (sign_extend w (nat_abs x)) (omega (arith, a.narrow.some, a.narrow.own)))
 
       pub end_is : (r : ℤ) → mag r < 2147483648 → r ≡ unquantized s p (to_z w32 (of_z w32 t)) → to_z w32 (of_z w32 r) ≡ end_of s p w base x
       unfolding end_of
@@ -102,7 +102,7 @@ module _ {p w : ℕ} {n : List ℤ} (k : Channel p w n) where
   few_p = bits_16 p (omega (arith, k.narrow.most))
 
   few_w : 2 ^ w ≤ 65536
-  few_w = bits_16 w (omega (arith, k.narrow.most, k.narrow.own_val))
+  few_w = bits_16 w (omega (arith, k.narrow.most, k.narrow.own))
 
   base_is : to_z w32 (of_z w32 (end_at n 0)) ≡ pos (stored_in n 0)
   base_is = back k.first few_p ∙ whole_number k.first
@@ -121,7 +121,7 @@ module _ {p w : ℕ} {n : List ℤ} (k : Channel p w n) where
     first_done r e = e ∙ ap (λ (z : ℤ). end_of s p w z (pos 0)) base_is ∙ unmoved s p w (stored_in n 0) (size k.first)
 
     other_done : (e : ℕ) → 1 ≤ e → e < 4 → (r : ℤ) → r ≡ end_of s p w (to_z w32 (of_z w32 (end_at n 0))) (to_z w32 (of_z w32 (end_at n e))) → r ≡ moved_of s p w (stored_in n 0) (stored_in n e)
-    other_done e l h r q = q ∙ (λ i. end_of s p w (base_is i) (other_is e l h i)) ∙ moved_is p w (stored_in n e) k.narrow.own_val s (stored_in n 0)
+    other_done e l h r q = q ∙ (λ i. end_of s p w (base_is i) (other_is e l h i)) ∙ moved_is p w (stored_in n e) k.narrow.own s (stored_in n 0)
 
     pub moved_done : {a b c d : ℤ} → a ≡ end_of s p w (to_z w32 (of_z w32 (end_at n 0))) (pos 0)
         → b ≡ end_of s p w (to_z w32 (of_z w32 (end_at n 0))) (to_z w32 (of_z w32 (end_at n 1)))

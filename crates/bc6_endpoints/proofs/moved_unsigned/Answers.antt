@@ -1,0 +1,23 @@
+-- `bc6_endpoints::moved_unsigned` meets its contract: four ends. Assumes nothing.
+use mathlib.Core.Bool.{false}
+use lib.Dec.{lit<, lit≤}
+use Rattle.laws.proofs.Num.{read}
+use Rattle.bc6_endpoints.proofs.Channels.{first_asks, other_asks, moved_done}
+use Rattle.bc6_endpoints.proofs.moved_unsigned.Goals as goal
+
+pub end_unsigned-requires : goal.end_unsigned-requires
+end_unsigned-requires c = first_asks c.requires
+
+pub end_unsigned-requires-2 : goal.end_unsigned-requires-2
+end_unsigned-requires-2 c = other_asks c.requires 1 (lit≤ tt) (lit< tt)
+
+pub end_unsigned-requires-3 : goal.end_unsigned-requires-3
+end_unsigned-requires-3 c = other_asks c.requires 2 (lit≤ tt) (lit< tt)
+
+pub end_unsigned-requires-4 : goal.end_unsigned-requires-4
+end_unsigned-requires-4 c = other_asks c.requires 3 (lit≤ tt) (lit< tt)
+
+pub returns : goal.returns
+returns c =
+    moved_done c.requires false (read c.end_unsigned.type_inv c.end_unsigned.ensures) (read c.end_unsigned-2.type_inv c.end_unsigned-2.ensures)
+    (read c.end_unsigned-3.type_inv c.end_unsigned-3.ensures) (read c.end_unsigned-4.type_inv c.end_unsigned-4.ensures)

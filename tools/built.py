@@ -49,7 +49,9 @@ def states(program, crates):
     """The lines of PROGRAM.seen, as things are now, for a program that stands on these crates."""
     paths = [*kit_files(), "crates.txt", f"target/built/{program}", f"target/built/{program}.stamp"]
     for crate in crates:
-        for folder, _, files in os.walk(os.path.join(ROOT, "crates", crate)):
+        for folder, folders, files in os.walk(os.path.join(ROOT, "crates", crate)):
+            # the kit writes there, whatever it is asked
+            folders[:] = [name for name in folders if name != "out"]
             paths += [os.path.relpath(folder, ROOT), *(os.path.relpath(os.path.join(folder, name), ROOT) for name in files)]
     return "".join(f"{state(os.path.join(ROOT, path))}\t{path}\n" for path in paths)
 

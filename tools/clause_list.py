@@ -3,7 +3,7 @@
 A heading is a comment that begins with clauses, `-- S-12: ..` or `-- S-3, S-17 to S-20: ..`. In specs/ it covers every definition below it, up to the
 next heading; a comment without a clause in between belongs to one definition alone and ends nothing. `-- Serves every clause.` heads files of
 general definitions, which are below every clause. In proofs/ a heading names the lemma directly below it, and as a file's first line the file;
-every lemma `one-outcome` is S-79's.
+every lemma `one_outcome` is S-79's.
 A test names its clauses in a sentence of a comment, `Holds S-40 to S-46.`
 """
 import re
@@ -88,9 +88,9 @@ def proved(root):
                 lemma = re.match(r"\s*(?:abbrev |unfoldable )?(?:pub )?(?:record )?([^\s:({]+) ", below)
                 name = None if number == 0 or not lemma or lemma[1] in ("use", "module", "mod") else lemma[1]
                 cited.append((path.parts[-3], path.stem, name, expanded(begins[1])))
-            if re.match(r"\s*pub one-outcome :", line):
-                cited.append((path.parts[-3], path.stem, "one-outcome", [79]))
-            whole = re.match(r"pub ([\w'-]+) : (?:[\w·.-]+\.)?([A-Z]\w*)$", line)
+            if re.match(r"\s*pub one_outcome :", line):
+                cited.append((path.parts[-3], path.stem, "one_outcome", [79]))
+            whole = re.match(r"pub ([\w'-]+) : (?:[\w.-]+\.)?([A-Z]\w*)$", line)
             if whole:
                 typed.setdefault((path.parts[-3], whole[2]), whole[1])
     return cited, typed
@@ -114,9 +114,9 @@ def contracts(root):
     for path, text in sources.items():
         crate = path.relative_to(root / "crates").parts[0]
         known = {}
-        for of, file, names in re.findall(r"^ghost use Rattle·(\w+)(?:·specs)?\.specs\.(\w+)\.\{([^}]*)\}", text, re.M):
+        for of, file, names in re.findall(r"^ghost use Rattle\.(\w+)\.specs\.(\w+)\.\{([^}]*)\}", text, re.M):
             known.update({name.strip(): (of, file, name.strip()) for name in names.split(",")})
-        aliases = {alias: (of, file) for of, file, alias in re.findall(r"^ghost use Rattle·(\w+)(?:·specs)?\.specs\.(\w+) as ([\w-]+);", text, re.M)}
+        aliases = {alias: (of, file) for of, file, alias in re.findall(r"^ghost use Rattle\.(\w+)\.specs\.(\w+) as ([\w-]+);", text, re.M)}
         for name, contract in re.findall(r"^\s*pub (?:extern \"C\" )?fn (\w+)\((.*?)^\s*\{$", text, re.M | re.S):
             if everywhere.count(name) > 1 and not re.search(rf"\b{crate}::{name}\b", exports):
                 continue
@@ -132,9 +132,9 @@ def statements(root):
     for path in pages(root, "specs"):
         text, here = path.read_text(), (path.parts[-3], path.stem)
         known, aliases = {}, {}
-        for of, file, names in re.findall(r"^use Rattle·(\w+)(?:·specs)?\.specs\.(\w+)\.\{([^}]*)\}", text, re.M):
+        for of, file, names in re.findall(r"^use Rattle\.(\w+)\.specs\.(\w+)\.\{([^}]*)\}", text, re.M):
             known.update({name.strip(): (of, file, name.strip()) for name in names.split(",")})
-        for of, file, alias in re.findall(r"^use Rattle·(\w+)(?:·specs)?\.specs\.(\w+) as ([\w-]+)", text, re.M):
+        for of, file, alias in re.findall(r"^use Rattle\.(\w+)\.specs\.(\w+) as ([\w-]+)", text, re.M):
             aliases[alias] = of, file
         lines = text.splitlines()
         known.update({name: (*here, name) for name in map(declared, lines) if name})
@@ -156,7 +156,7 @@ def statements(root):
 def refusing(root):
     """The calls that demand 1 has a line for."""
     text = (root / "crates/demands/specs/Silence.antt").read_text()
-    return [line.replace("-", "_") for line in re.findall(r"^  pub ([a-z0-9-]+) : .*Silent", text, re.M)]
+    return re.findall(r"^  pub ([a-z0-9_]+) : .*Silent", text, re.M)
 
 
 def tests(root):
@@ -180,7 +180,7 @@ def cited(root):
     for top in ("crates", "tests", "tools", "commands", "include", "docs", "python", "rust", "web"):
         for path in sorted((root / top).rglob("*")):
             # tests/documents plants clauses that are not there
-            if not path.is_file() or {"target", "__pycache__", "history", "documents"} & set(path.parts) or path.suffix in (".svg", ".png", ".wasm"):
+            if not path.is_file() or {"target", "out", "__pycache__", "history", "documents"} & set(path.parts) or path.suffix in (".svg", ".png", ".wasm"):
                 continue
             try:
                 text = path.read_text()

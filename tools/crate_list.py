@@ -1,4 +1,5 @@
-"""The crates of a repository's crates.txt, what each stands on, and an order in which each comes after that."""
+"""The crates of a repository's crates.txt, what each stands on, an order in which each comes after that, and their files."""
+import os
 
 
 def needs(root):
@@ -7,7 +8,8 @@ def needs(root):
     for line in (root / "crates.txt").read_text().splitlines():
         name, colon, rest = line.split("#")[0].partition(":")
         if colon:
-            found[name.strip()] = rest.split()
+            # a static library is listed as `NAME staticlib: ..`
+            found[name.split()[0]] = rest.split()
     return found
 
 
@@ -24,3 +26,12 @@ def in_order(crates, table):
     for crate in crates:
         visit(crate)
     return order
+
+
+def files(folder):
+    """Every file of a crate's folder, in order, but what the kit wrote below out/."""
+    found = []
+    for here, folders, names in os.walk(folder):
+        folders[:] = sorted(name for name in folders if name != "out" or here != str(folder))
+        found += [os.path.join(here, name) for name in sorted(names)]
+    return sorted(found)

@@ -56,7 +56,7 @@ float_name = 102 ∷ 108 ∷ 111 ∷ 97 ∷ 116 ∷ 0 ∷ []
 abbrev pub one : List ℕ
 one = 0 ∷ 0 ∷ 128 ∷ 63 ∷ []
 
--- `line_order`, which is the type's name too; 0: from the least y on
+-- `lineOrder`, which is the type's name too; 0: from the least y on
 abbrev pub order_name : List ℕ
 order_name = 108 ∷ 105 ∷ 110 ∷ 101 ∷ 79 ∷ 114 ∷ 100 ∷ 101 ∷ 114 ∷ 0 ∷ []
 

@@ -88,13 +88,7 @@ fn print_limits(rt: &(impl Print + Eprint), text: &mut [u8], store: &[u8], marks
     print_at(rt, text, store, marks, count);
 }
 
-fn print_at(
-    rt: &(impl Print + Eprint),
-    text: &mut [u8],
-    store: &[u8],
-    marks: &mut [u8],
-    n: usize,
-)
+fn print_at(rt: &(impl Print + Eprint), text: &mut [u8], store: &[u8], marks: &mut [u8], n: usize)
     requires { 256 ≤ length text.old }
 {
     print_record(rt, text, store, n);

@@ -12,13 +12,7 @@ use run_streams::{Input, first_bytes, read_input, write_text};
 use text_build::{BUILT, WISH, put_build};
 
 // What goes out is the definition of what was read.
-fn write_built(
-    rt: &(impl Print + Eprint),
-    input: &[u8],
-    size: usize,
-    out: &[u8],
-    end: usize,
-)
+fn write_built(rt: &(impl Print + Eprint), input: &[u8], size: usize, out: &[u8], end: usize)
     requires { Outgoing build_output build_limit input.now size out.now end }
 {
     write_text(rt, out, end);

@@ -9,13 +9,7 @@ use run_streams::{Input, STORE_INPUT, first_bytes, read_input, write_text};
 use text_clean::put_cleaning;
 
 // What goes out is the definition of what was read.
-fn write_cleaning(
-    rt: &(impl Print + Eprint),
-    input: &[u8],
-    size: usize,
-    out: &[u8],
-    end: usize,
-)
+fn write_cleaning(rt: &(impl Print + Eprint), input: &[u8], size: usize, out: &[u8], end: usize)
     requires { Outgoing cleaning_output store_limit input.now size out.now end }
 {
     write_text(rt, out, end);

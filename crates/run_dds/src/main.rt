@@ -126,13 +126,7 @@ fn tell_file(rt: &(impl Input + Print), first_level: bool) -> io::Result<()> {
 }
 
 // The number, and where it is 0 the header.
-fn grant_wish(
-    rt: &impl Print,
-    format: u8,
-    width: u32,
-    height: u32,
-    size: usize,
-) -> io::Result<()> {
+fn grant_wish(rt: &impl Print, format: u8, width: u32, height: u32, size: usize) -> io::Result<()> {
     let mut header = [0u8; DdsRead::HEADER];
     let answer = [dds::dds_header(size, format, width, height, &mut header)];
     rt.write_all(&answer)?;

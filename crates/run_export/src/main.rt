@@ -167,7 +167,13 @@ fn export_bands(
     Ok(())
 }
 
-fn export(rt: &(impl Input + Print), kind: u8, format: u8, width: u32, height: u32) -> io::Result<()>
+fn export(
+    rt: &(impl Input + Print),
+    kind: u8,
+    format: u8,
+    width: u32,
+    height: u32,
+) -> io::Result<()>
     requires { WishOurs kind format width height }
 {
     let mut band = [0u8; BAND];
@@ -175,7 +181,9 @@ fn export(rt: &(impl Input + Print), kind: u8, format: u8, width: u32, height: u
     let mut out = [0u8; ROOM];
     let end = put_start(kind, format, width, height, &mut out);
     write_start(rt, kind, width, height, &out, end)?;
-    export_bands(rt, kind, format, width, height, &mut band, &mut lines, &mut out)
+    export_bands(
+        rt, kind, format, width, height, &mut band, &mut lines, &mut out,
+    )
 }
 
 fn main(rt: HostRuntime) -> io::Result<()> {

@@ -9,13 +9,7 @@ use run_streams::{Input, STORE_INPUT, first_bytes, read_input, write_text};
 use text_infinities::put_infinities;
 
 // What goes out is the definition of what was read.
-fn write_infinities(
-    rt: &(impl Print + Eprint),
-    input: &[u8],
-    size: usize,
-    text: &[u8],
-    end: usize,
-)
+fn write_infinities(rt: &(impl Print + Eprint), input: &[u8], size: usize, text: &[u8], end: usize)
     requires { Outgoing infinities_text store_limit input.now size text.now end }
 {
     write_text(rt, text, end);

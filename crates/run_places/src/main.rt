@@ -10,13 +10,7 @@ use run_streams::{Input, first_bytes, read_input, write_text};
 use text_places::put_input;
 
 // What goes out is the definition of what was read.
-fn write_listing(
-    rt: &(impl Print + Eprint),
-    input: &[u8],
-    size: usize,
-    text: &[u8],
-    end: usize,
-)
+fn write_listing(rt: &(impl Print + Eprint), input: &[u8], size: usize, text: &[u8], end: usize)
     requires { Outgoing listing_of (1 + place_limit) input.now size text.now end }
 {
     write_text(rt, text, end);

@@ -9,13 +9,7 @@ use run_streams::{Input, first_bytes, read_input, write_text};
 use text_places_audit::put_places_audit;
 
 // What goes out is the definition of what was read.
-fn write_audit(
-    rt: &(impl Print + Eprint),
-    input: &[u8],
-    size: usize,
-    text: &[u8],
-    end: usize,
-)
+fn write_audit(rt: &(impl Print + Eprint), input: &[u8], size: usize, text: &[u8], end: usize)
     requires { Outgoing audit_of place_limit input.now size text.now end }
 {
     write_text(rt, text, end);

@@ -11,13 +11,7 @@ use run_streams::{Input, first_bytes, read_input, write_text};
 use text_moves::{PLACED, WISH, put_wish};
 
 // What goes out is the definition of what was read.
-fn write_put(
-    rt: &(impl Print + Eprint),
-    input: &[u8],
-    size: usize,
-    out: &[u8],
-    end: usize,
-)
+fn write_put(rt: &(impl Print + Eprint), input: &[u8], size: usize, out: &[u8], end: usize)
     requires { Outgoing wish_output wish_limit input.now size out.now end }
 {
     write_text(rt, out, end);

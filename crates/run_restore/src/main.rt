@@ -9,13 +9,7 @@ use run_streams::{Input, first_bytes, read_input, write_text};
 use text_restore::put_restoring;
 
 // What goes out is the definition of what was read.
-fn write_restoring(
-    rt: &(impl Print + Eprint),
-    input: &[u8],
-    size: usize,
-    out: &[u8],
-    end: usize,
-)
+fn write_restoring(rt: &(impl Print + Eprint), input: &[u8], size: usize, out: &[u8], end: usize)
     requires { Outgoing restoring_output longest_input input.now size out.now end }
 {
     write_text(rt, out, end);

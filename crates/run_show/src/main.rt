@@ -70,13 +70,7 @@ fn show(input: &[u8], out: &mut [u8])
 }
 
 // What goes out is the definition of what was read.
-fn write_picture(
-    rt: &(impl Print + Eprint),
-    input: &[u8],
-    size: usize,
-    out: &[u8],
-    end: usize,
-)
+fn write_picture(rt: &(impl Print + Eprint), input: &[u8], size: usize, out: &[u8], end: usize)
     requires { Outgoing picture_bytes input_size input.now size out.now end }
 {
     write_text(rt, out, end);

@@ -14,13 +14,7 @@ use text_moves::{UNPLACED, put_unplaced};
 const ROOM: usize = Place::STORE + 1;
 
 // What goes out is the definition of what was read.
-fn write_unplaced(
-    rt: &(impl Print + Eprint),
-    input: &[u8],
-    size: usize,
-    out: &[u8],
-    end: usize,
-)
+fn write_unplaced(rt: &(impl Print + Eprint), input: &[u8], size: usize, out: &[u8], end: usize)
     requires { Outgoing unplaced_output place_limit input.now size out.now end }
 {
     write_text(rt, out, end);

@@ -154,12 +154,13 @@ def run_into(name, pieces, out, size):
     finally:
         for stream in left:
             os.close(stream)
-    hold_status(name, status, last)
     there = os.fstat(out).st_size
-    if there != size:
-        # A program has no status of its own: where it could not write, this write says why.
+    if status in (0, 1) and there != size:
+        # A program's status is 1 where it could not read or write, whatever the reason: where it could not write, this write says why.
         os.lseek(out, 0, os.SEEK_END)
         write_all(out, bytes(max(1, min(size - there, 1 << 20))))
+    hold_status(name, status, last)
+    if there != size:
         raise Trouble(f"the program {name} did not end its output, {there:,} of {size:,} bytes{told_last(last)}")
 
 

@@ -7,7 +7,8 @@ ghost use Rattle.laws.specs.Made.{made};
 ghost use Rattle.check_bc7.specs.Shown.{shown_byte, shown_of, shown_bytes, piece_count, PieceEnd, Decoded};
 
 use bcn_spec::Block;
-use libc::{STDIN_FILENO, STDOUT_FILENO};
+use run_streams::read_full;
+use std::io;
 
 // What the call says of a piece.
 #[derive(Clone, Copy)]
@@ -92,25 +93,28 @@ fn decode_pieces(input: &[u8], out: &mut [u8]) -> usize
 }
 
 // The same, written in one go.
-fn write_batch(input: &[u8], out: &mut [u8]) -> bool
+fn write_batch(rt: &impl Print, input: &[u8], out: &mut [u8]) -> io::Result<()>
     requires { 66 * piece_count (length input.now) ≤ length out.old }
 {
     let done = decode_pieces(input, out);
-    io::write_all(STDOUT_FILENO, &out[..done])
+    rt.write_all(&out[..done])
 }
 
 // Reads 1,024 blocks, writes what they show, and answers whether to go on.
-fn decode_some() -> bool {
+fn decode_some(rt: &(impl Input + Print)) -> io::Result<bool> {
     let mut input = [0u8; 16384];
     let mut out = [0u8; 67584];
-    let got = io::read_full(STDIN_FILENO, &mut input);
-    write_batch(&input[..got], &mut out) && got == 16384
+    let got = read_full(&mut rt.reader(), &mut input)?;
+    write_batch(rt, &input[..got], &mut out)?;
+    Ok(got == 16384)
 }
 
-// A proved loop has to end, and nothing says that the input does: the turns count down from a number that no run uses up.
-fn main() {
-    let mut turns = u64::MAX;
-    while turns > 0 && decode_some() {
-        turns -= 1;
+// A proved loop has to end, and nothing says that the input does: the turns count up to a number that no run reaches.
+fn main(rt: HostRuntime) -> io::Result<()> {
+    for _ in 0..u64::MAX {
+        if !decode_some(&rt)? {
+            break;
+        }
     }
+    Ok(())
 }

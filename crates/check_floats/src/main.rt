@@ -6,8 +6,9 @@ ghost use Rattle.std.specs.Prelude.{◌≡◌};
 ghost use Rattle.pfm_floats.specs.Half.{float_of};
 ghost use Rattle.check_floats.specs.Shown.{float_bits};
 
-use libc::{STDIN_FILENO, STDOUT_FILENO};
 use pfm_floats::float_of;
+use run_streams::read_full;
+use std::io;
 
 // What is written of a float that is no number, which has no bits of its own.
 const NONE: u32 = 0x7FC00000;
@@ -29,7 +30,7 @@ fn bits_of(half: u16) -> u32
     f32::to_bits(value)
 }
 
-fn write_page(page: u8) {
+fn write_page(rt: &impl Print, page: u8) -> io::Result<()> {
     let first = PAGE * (page as usize % PAGES);
     let mut bytes = [0u8; BYTES];
     for k in 0..PAGE {
@@ -39,13 +40,14 @@ fn write_page(page: u8) {
         bytes[4 * k + 2] = (word / 65536 % 256) as u8;
         bytes[4 * k + 3] = (word / 16777216) as u8;
     }
-    io::write_all(STDOUT_FILENO, &bytes);
+    rt.write_all(&bytes)
 }
 
-fn main() {
+fn main(rt: HostRuntime) -> io::Result<()> {
     let mut pages = [0u8; PAGES];
-    let got = io::read_full(STDIN_FILENO, &mut pages);
+    let got = read_full(&mut rt.reader(), &mut pages)?;
     for k in 0..got {
-        write_page(pages[k]);
+        write_page(&rt, pages[k])?;
     }
+    Ok(())
 }

@@ -4,14 +4,13 @@
 
 ghost use Rattle.std.specs.Prelude.{◌≤◌, length};
 
-use libc::STDOUT_FILENO;
+use std::io;
 
 // What every lent value is before the call. No block shows it: its magnitude is above the highest pattern.
 const UNTOUCHED: u16 = 0xFFFF;
 
-fn print_next(n: u64) {
-    io::write_all(STDOUT_FILENO, b" ");
-    io::print_decimal(STDOUT_FILENO, n);
+fn print_next(rt: &impl Print, n: u64) -> io::Result<()> {
+    print!(rt; " {n}")
 }
 
 // How many values from `from` on are not as they were lent.
@@ -27,48 +26,55 @@ fn changed(values: &[u16], from: usize) -> usize {
     count
 }
 
-fn print_call(block: &[u8], format: u8, size: usize, values: &mut [u16], room: usize)
+fn print_call(
+    rt: &impl Print,
+    block: &[u8],
+    format: u8,
+    size: usize,
+    values: &mut [u16],
+    room: usize,
+) -> io::Result<()>
     requires { (size ≤ length block.now) × (room ≤ length values.old) }
 {
     let shown = bc6::block_pixels(&block[..size], format, &mut values[..room]);
-    io::print_decimal(STDOUT_FILENO, format as u64);
-    print_next(size as u64);
-    print_next(room as u64);
-    print_next(shown.answer as u64);
-    print_next(shown.mode as u64);
-    print_next(changed(values, 0) as u64);
-    print_next(changed(values, 48) as u64);
-    io::write_all(STDOUT_FILENO, b"\n");
+    print!(rt; "{format}")?;
+    print_next(rt, size as u64)?;
+    print_next(rt, room as u64)?;
+    print_next(rt, shown.answer as u64)?;
+    print_next(rt, shown.mode as u64)?;
+    print_next(rt, changed(values, 0) as u64)?;
+    print_next(rt, changed(values, 48) as u64)?;
+    println!(rt; "")
 }
 
 // B5 (S-28) and a byte more, with a hundred values to write to.
-fn print_limit(format: u8, size: usize, room: usize)
+fn print_limit(rt: &impl Print, format: u8, size: usize, room: usize) -> io::Result<()>
     requires { (size ≤ 17) × (room ≤ 100) }
 {
     let block = [0x0Bu8, 0, 0, 0, 0, 0x08, 0, 0, 0, 0, 0, 0, 0, 0, 0, 0, 0];
     let mut values = [UNTOUCHED; 100];
-    print_call(&block, format, size, &mut values, room);
+    print_call(rt, &block, format, size, &mut values, room)
 }
 
-fn print_rooms(format: u8, size: usize)
+fn print_rooms(rt: &impl Print, format: u8, size: usize) -> io::Result<()>
     requires { size ≤ 17 }
 {
-    print_limit(format, size, 0);
-    print_limit(format, size, 47);
-    print_limit(format, size, 48);
-    print_limit(format, size, 49);
-    print_limit(format, size, 100);
+    print_limit(rt, format, size, 0)?;
+    print_limit(rt, format, size, 47)?;
+    print_limit(rt, format, size, 48)?;
+    print_limit(rt, format, size, 49)?;
+    print_limit(rt, format, size, 100)
 }
 
-fn print_sizes(format: u8) {
-    print_rooms(format, 15);
-    print_rooms(format, 16);
-    print_rooms(format, 17);
+fn print_sizes(rt: &impl Print, format: u8) -> io::Result<()> {
+    print_rooms(rt, format, 15)?;
+    print_rooms(rt, format, 16)?;
+    print_rooms(rt, format, 17)
 }
 
-fn main() {
-    print_sizes(0);
-    print_sizes(1);
-    print_sizes(2);
-    print_sizes(255);
+fn main(rt: HostRuntime) -> io::Result<()> {
+    print_sizes(&rt, 0)?;
+    print_sizes(&rt, 1)?;
+    print_sizes(&rt, 2)?;
+    print_sizes(&rt, 255)
 }

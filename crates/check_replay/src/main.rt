@@ -3,13 +3,14 @@
 // many agree.
 #![tactic(auto)]
 
-ghost use Rattle.std.specs.Prelude.{◌≡◌, ◌/◌, ◌<◌, length};
+ghost use Rattle.std.specs.Prelude.{◌≡◌, ◌/◌, ◌<◌, IfOk, length};
 ghost use Rattle.laws.specs.Every.{same};
 ghost use Rattle.bc6h_spec.specs.Picture.{value_count};
 ghost use Rattle.check_replay.specs.Entries.{replay_size, entry_value, values_in, infinite_in, agrees, count_at, agreeing};
 
-use libc::{STDIN_FILENO, STDOUT_FILENO};
 use raw_bytes::u16_at;
+use run_streams::read_full;
+use std::io;
 
 // An entry's bytes, and where its parts begin.
 const SIZE: usize = 117;
@@ -72,56 +73,56 @@ fn agrees(entry: &[u8]) -> bool
     same_values(&values, &entry[VALUES..SIZE])
 }
 
-fn print_word(word: &[u8]) {
-    io::write_all(STDOUT_FILENO, word);
+fn print_word(rt: &impl Print, word: &[u8]) -> io::Result<()> {
+    rt.write_all(word)
 }
 
-fn print_number(number: usize) {
-    io::print_decimal(STDOUT_FILENO, number as u64);
+fn print_number(rt: &impl Print, number: usize) -> io::Result<()> {
+    print!(rt; "{number}")
 }
 
-fn print_difference(entry: usize) {
-    print_word(b"entry ");
-    print_number(entry);
-    print_word(b" differs\n");
+fn print_difference(rt: &impl Print, entry: usize) -> io::Result<()> {
+    print_word(rt, b"entry ")?;
+    print_number(rt, entry)?;
+    print_word(rt, b" differs\n")
 }
 
-fn print_counts(agreeing: usize, entries: usize) {
-    print_number(agreeing);
-    print_word(b" of ");
-    print_number(entries);
-    print_word(b" agree\n");
+fn print_counts(rt: &impl Print, agreeing: usize, entries: usize) -> io::Result<()> {
+    print_number(rt, agreeing)?;
+    print_word(rt, b" of ")?;
+    print_number(rt, entries)?;
+    print_word(rt, b" agree\n")
 }
 
 // 1 where entry n of the list agrees; else 0, and the entry's number is printed.
-fn replay_one(list: &[u8], n: usize) -> usize
+fn replay_one(rt: &impl Print, list: &[u8], n: usize) -> io::Result<usize>
     requires { n < length list.now / replay_size }
-    ensures { result ≡ count_at list.now n }
+    ensures { IfOk result (λ count. count ≡ count_at list.now n) }
 {
     let start = n * SIZE;
     let end = start + SIZE;
     if agrees(&list[start..end]) {
-        return 1;
+        return Ok(1);
     }
-    print_difference(n);
-    0
+    print_difference(rt, n)?;
+    Ok(0)
 }
 
 // How many entries of the list agree.
-fn replay(list: &[u8]) -> usize
-    ensures { result ≡ agreeing list.now (length list.now / replay_size) }
+fn replay(rt: &impl Print, list: &[u8]) -> io::Result<usize>
+    ensures { IfOk result (λ count. count ≡ agreeing list.now (length list.now / replay_size)) }
 {
     let entries = list.len() / SIZE;
     let mut count: usize = 0;
     for n in 0..entries {
-        count += replay_one(list, n);
+        count += replay_one(rt, list, n)?;
     }
-    count
+    Ok(count)
 }
 
-fn main() {
+fn main(rt: HostRuntime) -> io::Result<()> {
     let mut list = [0u8; 471040];
-    let n = io::read_full(STDIN_FILENO, &mut list);
+    let n = read_full(&mut rt.reader(), &mut list)?;
     let entries = &list[..n];
-    print_counts(replay(entries), entries.len() / SIZE);
+    print_counts(&rt, replay(&rt, entries)?, entries.len() / SIZE)
 }

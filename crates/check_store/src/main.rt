@@ -19,14 +19,14 @@ const INPUT: usize = RECORDS * Record::SIZE + 1;
 const UNTOUCHED: u8 = 9;
 
 // What is answered for record n.
-fn print_record(text: &mut [u8], store: &[u8], n: usize)
+fn print_record(rt: &(impl Print + Eprint), text: &mut [u8], store: &[u8], n: usize)
     requires { 256 ≤ length text.old }
 {
     let mut end = put_count(text, 0, b"record ", n as u64);
     end = put_count(text, end, b" answer ", record_at(store, n).number() as u64);
     end = put_count(text, end, b" block ", record_block(store, n).len() as u64);
     end = put(text, end, b"\n");
-    write_text(text, end);
+    write_text(rt, text, end);
 }
 
 fn put_list(text: &mut [u8], at: usize, list: TwinList) -> usize
@@ -57,7 +57,13 @@ fn list_lent(store: &[u8], marks: &mut [u8], lent: usize) -> TwinList
 }
 
 // What the twin list answers where so many marks are lent, and what the first mark and the one after those lent then are.
-fn print_list(text: &mut [u8], store: &[u8], marks: &mut [u8], lent: usize)
+fn print_list(
+    rt: &(impl Print + Eprint),
+    text: &mut [u8],
+    store: &[u8],
+    marks: &mut [u8],
+    lent: usize,
+)
     requires { 256 ≤ length text.old }
 {
     if lent >= marks.len() {
@@ -67,34 +73,34 @@ fn print_list(text: &mut [u8], store: &[u8], marks: &mut [u8], lent: usize)
     let mut end = put_count(text, 0, b"marks ", lent as u64);
     end = put_list(text, end, list);
     end = put_marks(text, end, marks, lent);
-    write_text(text, end);
+    write_text(rt, text, end);
 }
 
-fn print_limits(text: &mut [u8], store: &[u8], marks: &mut [u8])
+fn print_limits(rt: &(impl Print + Eprint), text: &mut [u8], store: &[u8], marks: &mut [u8])
     requires { 256 ≤ length text.old }
 {
     let count = record_count(store);
     if count == 0 {
-        print_at(text, store, marks, 0);
+        print_at(rt, text, store, marks, 0);
         return;
     }
-    print_at(text, store, marks, count - 1);
-    print_at(text, store, marks, count);
+    print_at(rt, text, store, marks, count - 1);
+    print_at(rt, text, store, marks, count);
 }
 
-fn print_at(text: &mut [u8], store: &[u8], marks: &mut [u8], n: usize)
+fn print_at(rt: &(impl Print + Eprint), text: &mut [u8], store: &[u8], marks: &mut [u8], n: usize)
     requires { 256 ≤ length text.old }
 {
-    print_record(text, store, n);
-    print_list(text, store, marks, n);
+    print_record(rt, text, store, n);
+    print_list(rt, text, store, marks, n);
 }
 
-fn main() {
+fn main(rt: HostRuntime) {
     let mut input = [0u8; INPUT];
-    let Input::Whole(size) = read_input(&mut input) else {
+    let Input::Whole(size) = read_input(&rt, &mut input) else {
         return;
     };
     let mut marks = [UNTOUCHED; RECORDS];
     let mut text = [0u8; 256];
-    print_limits(&mut text, first_bytes(&input, size), &mut marks);
+    print_limits(&rt, &mut text, first_bytes(&input, size), &mut marks);
 }

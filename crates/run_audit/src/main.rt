@@ -9,18 +9,18 @@ use run_streams::{Input, STORE_INPUT, first_bytes, read_input, write_text};
 use text_audit::put_audit;
 
 // What goes out is the definition of what was read.
-fn write_audit(input: &[u8], size: usize, text: &[u8], end: usize)
+fn write_audit(rt: &(impl Print + Eprint), input: &[u8], size: usize, text: &[u8], end: usize)
     requires { Outgoing audit_of store_limit input.now size text.now end }
 {
-    write_text(text, end);
+    write_text(rt, text, end);
 }
 
-fn main() {
+fn main(rt: HostRuntime) {
     let mut input = [0u8; STORE_INPUT];
-    let Input::Whole(size) = read_input(&mut input) else {
+    let Input::Whole(size) = read_input(&rt, &mut input) else {
         return;
     };
     let mut text = [0u8; text_audit::ROOM];
     let end = put_audit(&mut text, first_bytes(&input, size));
-    write_audit(&input, size, &text, end);
+    write_audit(&rt, &input, size, &text, end);
 }

@@ -12,18 +12,18 @@ use run_streams::{Input, first_bytes, read_input, write_text};
 use text_build::{BUILT, WISH, put_build};
 
 // What goes out is the definition of what was read.
-fn write_built(input: &[u8], size: usize, out: &[u8], end: usize)
+fn write_built(rt: &(impl Print + Eprint), input: &[u8], size: usize, out: &[u8], end: usize)
     requires { Outgoing build_output build_limit input.now size out.now end }
 {
-    write_text(out, end);
+    write_text(rt, out, end);
 }
 
-fn main() {
+fn main(rt: HostRuntime) {
     let mut input = [0u8; WISH];
-    let Input::Whole(size) = read_input(&mut input) else {
+    let Input::Whole(size) = read_input(&rt, &mut input) else {
         return;
     };
     let mut out = [0u8; BUILT];
     let end = put_build(first_bytes(&input, size), &mut out);
-    write_built(&input, size, &out, end);
+    write_built(&rt, &input, size, &out, end);
 }

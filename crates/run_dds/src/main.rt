@@ -7,14 +7,17 @@
 // Only the first bytes of the input are held, the others are counted: a file may have 22 MB, and a program has its stack alone.
 #![tactic(auto)]
 
-ghost use Rattle.std.specs.Prelude.{◌≡◌, ◌/◌, ◌%◌, ◌≤◌};
+ghost use Rattle.std.specs.Prelude.{◌≡◌, ◌/◌, ◌%◌, ◌≤◌, IfOk};
 ghost use Rattle.bcn_spec.specs.Bits.{size_limit};
 ghost use Rattle.run_dds.specs.Told.{report_of, told_of, one_told, first_told};
 
 use bcn_spec::Answer;
 use dds::DdsRead;
-use libc::{STDIN_FILENO, STDOUT_FILENO};
 use raw_bytes::{same_bytes, u32_at};
+use run_streams::read_full;
+use std::env::Env;
+use std::io;
+use std::io::Read;
 
 // The most bytes that blocks have, those of 13 levels.
 const MOST: usize = 22369648;
@@ -88,72 +91,79 @@ fn report_first(head: &[u8], size: usize) -> [u8; 6]
     ))
 }
 
-fn read_some() -> usize
-    ensures { result ≤ 65536 }
+fn read_some(reader: &mut impl Read) -> io::Result<usize>
+    ensures { IfOk result (λ n. n ≤ 65536) }
 {
-    let mut buffer = io::large_buffer();
-    io::read_full(STDIN_FILENO, &mut buffer)
+    let mut buffer = [0u8; 65536];
+    read_full(reader, &mut buffer)
 }
 
 // How many bytes of the input are left; of more than blocks may have it is enough to know that they are more.
-fn count_rest() -> usize
-    ensures { result ≤ 22435184 }
+fn count_rest(reader: &mut impl Read) -> io::Result<usize>
+    ensures { IfOk result (λ n. n ≤ 22435184) }
 {
     let mut count: usize = 0;
     while count <= MOST {
-        let got = read_some();
+        let got = read_some(reader)?;
         if got == 0 {
             break;
         }
         count += got;
     }
-    count
+    Ok(count)
 }
 
-fn tell_file(first_level: bool) {
+fn tell_file(rt: &(impl Input + Print), first_level: bool) -> io::Result<()> {
+    let mut reader = rt.reader();
     let mut head = [0u8; DdsRead::HEADER];
-    let got = io::read_full(STDIN_FILENO, &mut head);
-    let size = got + count_rest();
+    let got = read_full(&mut reader, &mut head)?;
+    let size = got + count_rest(&mut reader)?;
     if first_level {
-        io::write_all(STDOUT_FILENO, &report_first(&head[..got], size));
+        rt.write_all(&report_first(&head[..got], size))
     } else {
-        io::write_all(STDOUT_FILENO, &report(&head[..got], size));
+        rt.write_all(&report(&head[..got], size))
     }
 }
 
 // The number, and where it is 0 the header.
-fn grant_wish(format: u8, width: u32, height: u32, size: usize) {
+fn grant_wish(rt: &impl Print, format: u8, width: u32, height: u32, size: usize) -> io::Result<()> {
     let mut header = [0u8; DdsRead::HEADER];
     let answer = [dds::dds_header(size, format, width, height, &mut header)];
-    io::write_all(STDOUT_FILENO, &answer);
+    rt.write_all(&answer)?;
     if answer[0] == Answer::DONE {
-        io::write_all(STDOUT_FILENO, &header);
+        rt.write_all(&header)?;
     }
+    Ok(())
 }
 
 // A wish that is not whole gets no answer.
-fn make_file() {
+fn make_file(rt: &(impl Input + Print)) -> io::Result<()> {
+    let mut reader = rt.reader();
     let mut wish = [0u8; WISH];
-    let got = io::read_full(STDIN_FILENO, &mut wish);
-    if got == WISH {
-        grant_wish(wish[0], u32_at(&wish, 1), u32_at(&wish, 5), count_rest());
+    let got = read_full(&mut reader, &mut wish)?;
+    if got != WISH {
+        return Ok(());
     }
+    let size = count_rest(&mut reader)?;
+    grant_wish(rt, wish[0], u32_at(&wish, 1), u32_at(&wish, 5), size)
 }
 
 // Whether the program's first word is this one.
-fn is_word(expected: &[u8]) -> bool {
+fn is_word(rt: &impl Env, expected: &[u8]) -> bool {
     let mut word = [0u8; WORD];
-    let size = os::arg(1, &mut word);
+    let Ok(size) = rt.arg(1, &mut word) else {
+        return false;
+    };
     if size != expected.len() {
         return false;
     }
     same_bytes(&word[..size], expected, size)
 }
 
-fn main() {
-    if is_word(b"--make") {
-        make_file();
+fn main(rt: HostRuntime) -> io::Result<()> {
+    if is_word(&rt, b"--make") {
+        make_file(&rt)
     } else {
-        tell_file(is_word(b"--first-level"));
+        tell_file(&rt, is_word(&rt, b"--first-level"))
     }
 }

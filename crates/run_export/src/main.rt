@@ -15,10 +15,11 @@ use bcn_spec::Block;
 use dds::{blocks_along, size_ours};
 use exr_bands::put_lines;
 use exr_header::put_front;
-use libc::{STDIN_FILENO, STDOUT_FILENO};
 use pfm_bands::put_rows;
 use pfm_header::put_header;
 use raw_bytes::u32_at;
+use run_streams::read_full;
+use std::io;
 
 // The bytes of a wish.
 const WISH: usize = 10;
@@ -90,14 +91,22 @@ fn put_piece(
 }
 
 // What goes out first is what stands before the rows of blocks.
-fn write_start(kind: u8, width: u32, height: u32, out: &[u8], end: usize) -> bool
+fn write_start(
+    rt: &impl Print,
+    kind: u8,
+    width: u32,
+    height: u32,
+    out: &[u8],
+    end: usize,
+) -> io::Result<()>
     requires { Says (front_for kind width height) out.now end }
 {
-    io::write_all(STDOUT_FILENO, &out[..end])
+    rt.write_all(&out[..end])
 }
 
 // What goes out then is the piece of the row of blocks that was read.
 fn write_piece(
+    rt: &impl Print,
     kind: u8,
     format: u8,
     width: u32,
@@ -106,14 +115,15 @@ fn write_piece(
     band: &[u8],
     out: &[u8],
     end: usize,
-) -> bool
+) -> io::Result<()>
     requires { Says (piece_for kind format width height n band.now) out.now end }
 {
-    io::write_all(STDOUT_FILENO, &out[..end])
+    rt.write_all(&out[..end])
 }
 
 // Reads the row of blocks of turn n and writes its piece; answers whether to go on.
 fn export_band(
+    rt: &(impl Input + Print),
     kind: u8,
     format: u8,
     width: u32,
@@ -122,19 +132,21 @@ fn export_band(
     band: &mut [u8],
     lines: &mut [u8],
     out: &mut [u8],
-) -> bool
+) -> io::Result<bool>
     requires wish_ours { WishOurs kind format width height × (n < blocks_along height) }
     requires in_bounds { (16384 ≤ length band.old) × (196608 ≤ length lines.old) × (196608 ≤ length out.old) }
 {
     let size = Block::SIZE * blocks_along(width);
-    if io::read_full(STDIN_FILENO, &mut band[..size]) != size {
-        return false;
+    if read_full(&mut rt.reader(), &mut band[..size])? != size {
+        return Ok(false);
     }
     let end = put_piece(kind, format, width, height, n, &band[..size], lines, out);
-    write_piece(kind, format, width, height, n, &band[..size], out, end)
+    write_piece(rt, kind, format, width, height, n, &band[..size], out, end)?;
+    Ok(true)
 }
 
 fn export_bands(
+    rt: &(impl Input + Print),
     kind: u8,
     format: u8,
     width: u32,
@@ -142,38 +154,47 @@ fn export_bands(
     band: &mut [u8],
     lines: &mut [u8],
     out: &mut [u8],
-)
+) -> io::Result<()>
     requires wish_ours { WishOurs kind format width height }
     requires in_bounds { (16384 ≤ length band.old) × (196608 ≤ length lines.old) × (196608 ≤ length out.old) }
 {
     let down = blocks_along(height);
     for n in 0..down {
-        if !export_band(kind, format, width, height, n, band, lines, out) {
+        if !export_band(rt, kind, format, width, height, n, band, lines, out)? {
             break;
         }
     }
+    Ok(())
 }
 
-fn export(kind: u8, format: u8, width: u32, height: u32)
+fn export(
+    rt: &(impl Input + Print),
+    kind: u8,
+    format: u8,
+    width: u32,
+    height: u32,
+) -> io::Result<()>
     requires { WishOurs kind format width height }
 {
     let mut band = [0u8; BAND];
     let mut lines = [0u8; ROOM];
     let mut out = [0u8; ROOM];
     let end = put_start(kind, format, width, height, &mut out);
-    if write_start(kind, width, height, &out, end) {
-        export_bands(kind, format, width, height, &mut band, &mut lines, &mut out);
-    }
+    write_start(rt, kind, width, height, &out, end)?;
+    export_bands(
+        rt, kind, format, width, height, &mut band, &mut lines, &mut out,
+    )
 }
 
-fn main() {
+fn main(rt: HostRuntime) -> io::Result<()> {
     let mut wish = [0u8; WISH];
-    let got = io::read_full(STDIN_FILENO, &mut wish);
+    let got = read_full(&mut rt.reader(), &mut wish)?;
     let width = u32_at(&wish, 2);
     let height = u32_at(&wish, 6);
     if got == WISH {
         if is_ours(wish[0], wish[1], width, height) {
-            export(wish[0], wish[1], width, height);
+            return export(&rt, wish[0], wish[1], width, height);
         }
     }
+    Ok(())
 }

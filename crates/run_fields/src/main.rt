@@ -8,8 +8,9 @@ ghost use Rattle.laws.specs.Made.{made};
 ghost use Rattle.run_fields.specs.Record.{fields_byte};
 
 use bc6_fields::FieldsRead;
-use libc::{STDIN_FILENO, STDOUT_FILENO};
 use raw_bytes::low_or_high;
+use run_streams::read_full;
+use std::io;
 
 // What is read, what is written for it, and how many are read at a time.
 const INPUT_SIZE: usize = 17;
@@ -91,25 +92,28 @@ fn write_records(input: &[u8], out: &mut [u8]) -> usize
 }
 
 // The same, written in one go.
-fn write_batch(input: &[u8], out: &mut [u8]) -> bool
+fn write_batch(rt: &impl Print, input: &[u8], out: &mut [u8]) -> io::Result<()>
     requires { 45 * ((length input.now + 16) / 17) ≤ length out.old }
 {
     let done = write_records(input, out);
-    io::write_all(STDOUT_FILENO, &out[..done])
+    rt.write_all(&out[..done])
 }
 
 // Reads a batch of records, writes their fields, and answers whether to go on.
-fn extract_some() -> bool {
+fn extract_some(rt: &(impl Input + Print)) -> io::Result<bool> {
     let mut input = [0u8; INPUT_SIZE * BATCH];
     let mut out = [0u8; RECORD_SIZE * BATCH];
-    let got = io::read_full(STDIN_FILENO, &mut input);
-    write_batch(&input[..got], &mut out) && got == INPUT_SIZE * BATCH
+    let got = read_full(&mut rt.reader(), &mut input)?;
+    write_batch(rt, &input[..got], &mut out)?;
+    Ok(got == INPUT_SIZE * BATCH)
 }
 
-// A proved loop has to end, and nothing says that the input does: the turns count down from a number that no run uses up.
-fn main() {
-    let mut turns = u64::MAX;
-    while turns > 0 && extract_some() {
-        turns -= 1;
+// A proved loop has to end, and nothing says that the input does: the turns count up to a number that no run reaches.
+fn main(rt: HostRuntime) -> io::Result<()> {
+    for _ in 0..u64::MAX {
+        if !extract_some(&rt)? {
+            break;
+        }
     }
+    Ok(())
 }

@@ -13,6 +13,8 @@ ghost use Rattle.run_list.specs.Listing.{listing_refusal, listing_of};
 use bcn_spec::Answer;
 use raw_bytes::same_bytes;
 use run_streams::{Input, STORE_INPUT, first_bytes, read_input, tell, write_text};
+use std::env::Env;
+use std::io::Stderr;
 use store_records::record_count;
 use store_spec::TwinList;
 use store_twins::{first_damaged, strict_twin_list, twin_list};
@@ -50,9 +52,12 @@ fn put_listing(text: &mut [u8], store: &[u8], strict: bool) -> usize
     put_counts(text, end, list)
 }
 
-fn is_strict() -> bool {
+// Whether the program's first word is --strict.
+fn is_strict(rt: &impl Env) -> bool {
     let mut word = [0u8; 8];
-    let size = os::arg(1, &mut word);
+    let Ok(size) = rt.arg(1, &mut word) else {
+        return false;
+    };
     if size != 8 {
         return false;
     }
@@ -60,7 +65,7 @@ fn is_strict() -> bool {
 }
 
 // Which record is the first damaged one, on standard error.
-fn tell_damaged(store: &[u8]) {
+fn tell_damaged(stderr: &Stderr, store: &[u8]) {
     let first = first_damaged(store);
     if first >= record_count(store) {
         return;
@@ -68,27 +73,34 @@ fn tell_damaged(store: &[u8]) {
     let mut text = [0u8; 64];
     let mut end = put_count(&mut text, 0, b"first damaged record ", first as u64);
     end = put(&mut text, end, b"\n");
-    tell(&text, end);
+    let _ = tell(stderr, &text, end);
 }
 
 // What goes out is the definition of what was read.
-fn write_listing(input: &[u8], size: usize, text: &[u8], end: usize, strict: bool)
+fn write_listing(
+    rt: &(impl Print + Eprint),
+    input: &[u8],
+    size: usize,
+    text: &[u8],
+    end: usize,
+    strict: bool,
+)
     requires { Outgoing (listing_of strict) store_limit input.now size text.now end }
 {
-    write_text(text, end);
+    write_text(rt, text, end);
 }
 
-fn main() {
+fn main(rt: HostRuntime) {
     let mut input = [0u8; STORE_INPUT];
-    let Input::Whole(size) = read_input(&mut input) else {
+    let Input::Whole(size) = read_input(&rt, &mut input) else {
         return;
     };
     let mut text = [0u8; ROOM];
-    let strict = is_strict();
+    let strict = is_strict(&rt);
     let store = first_bytes(&input, size);
     let end = put_listing(&mut text, store, strict);
-    write_listing(&input, size, &text, end, strict);
+    write_listing(&rt, &input, size, &text, end, strict);
     if strict {
-        tell_damaged(store);
+        tell_damaged(&rt.stderr(), store);
     }
 }

@@ -7,8 +7,9 @@ ghost use Rattle.run_pfm.specs.Export.{size_small, Exported};
 
 use bcn_spec::Answer;
 use dds::{dds_blocks, dds_head, dds_read};
-use libc::{STDIN_FILENO, STDOUT_FILENO};
 use pfm::{PfmWritten, pfm_write};
+use run_streams::read_full;
+use std::io;
 
 // The most pixels on a side.
 const LIMIT: u32 = 64;
@@ -43,18 +44,18 @@ fn export(file: &[u8], out: &mut [u8]) -> PfmWritten
     pfm_write(dds_blocks(file), read.format, read.width, read.height, out)
 }
 
-fn tell(written: PfmWritten, out: &[u8])
+fn tell(rt: &impl Print, written: PfmWritten, out: &[u8]) -> io::Result<()>
     requires { written.length ≤ length out.now }
 {
     let number = [written.answer];
-    io::write_all(STDOUT_FILENO, &number);
-    io::write_all(STDOUT_FILENO, &out[..written.length]);
+    rt.write_all(&number)?;
+    rt.write_all(&out[..written.length])
 }
 
-fn main() {
+fn main(rt: HostRuntime) -> io::Result<()> {
     let mut file = [0u8; MOST];
-    let got = io::read_full(STDIN_FILENO, &mut file);
+    let got = read_full(&mut rt.reader(), &mut file)?;
     let mut out = [0u8; ROOM];
     let written = export(&file[..got], &mut out);
-    tell(written, &out);
+    tell(&rt, written, &out)
 }

@@ -8,8 +8,9 @@ ghost use Rattle.laws.specs.Made.{made};
 ghost use Rattle.run_pixels.specs.Shown.{value_byte, shown_bytes, record_bytes};
 
 use bc6::Pixels;
-use libc::{STDIN_FILENO, STDOUT_FILENO};
 use raw_bytes::{high_byte, low_byte};
+use run_streams::read_full;
+use std::io;
 
 // The bytes of what is read, and of what is written for it.
 const SIZE: usize = 17;
@@ -78,25 +79,28 @@ fn decode_records(input: &[u8], out: &mut [u8]) -> usize
 }
 
 // The same, written in one go.
-fn write_batch(input: &[u8], out: &mut [u8]) -> bool
+fn write_batch(rt: &impl Print, input: &[u8], out: &mut [u8]) -> io::Result<()>
     requires { 100 * ((length input.now + 16) / 17) ≤ length out.old }
 {
     let done = decode_records(input, out);
-    io::write_all(STDOUT_FILENO, &out[..done])
+    rt.write_all(&out[..done])
 }
 
 // Reads 1,024 records, writes what they show, and answers whether to go on.
-fn decode_some() -> bool {
+fn decode_some(rt: &(impl Input + Print)) -> io::Result<bool> {
     let mut input = [0u8; 17408];
     let mut out = [0u8; 102400];
-    let got = io::read_full(STDIN_FILENO, &mut input);
-    write_batch(&input[..got], &mut out) && got == 17408
+    let got = read_full(&mut rt.reader(), &mut input)?;
+    write_batch(rt, &input[..got], &mut out)?;
+    Ok(got == 17408)
 }
 
-// A proved loop has to end, and nothing says that the input does: the turns count down from a number that no run uses up.
-fn main() {
-    let mut turns = u64::MAX;
-    while turns > 0 && decode_some() {
-        turns -= 1;
+// A proved loop has to end, and nothing says that the input does: the turns count up to a number that no run reaches.
+fn main(rt: HostRuntime) -> io::Result<()> {
+    for _ in 0..u64::MAX {
+        if !decode_some(&rt)? {
+            break;
+        }
     }
+    Ok(())
 }

@@ -10,18 +10,18 @@ use run_streams::{Input, first_bytes, read_input, write_text};
 use text_places::put_input;
 
 // What goes out is the definition of what was read.
-fn write_listing(input: &[u8], size: usize, text: &[u8], end: usize)
+fn write_listing(rt: &(impl Print + Eprint), input: &[u8], size: usize, text: &[u8], end: usize)
     requires { Outgoing listing_of (1 + place_limit) input.now size text.now end }
 {
-    write_text(text, end);
+    write_text(rt, text, end);
 }
 
-fn main() {
+fn main(rt: HostRuntime) {
     let mut input = [0u8; text_places::INPUT];
-    let Input::Whole(size) = read_input(&mut input) else {
+    let Input::Whole(size) = read_input(&rt, &mut input) else {
         return;
     };
     let mut text = [0u8; text_places::ROOM];
     let end = put_input(&mut text, first_bytes(&input, size));
-    write_listing(&input, size, &text, end);
+    write_listing(&rt, &input, size, &text, end);
 }

@@ -12,18 +12,18 @@ use run_streams::{Input, first_bytes, read_input, write_text};
 use text_probe::{ANSWER, QUESTION, put_probe};
 
 // What goes out is the definition of what was read.
-fn write_probe(input: &[u8], size: usize, out: &[u8], end: usize)
+fn write_probe(rt: &(impl Print + Eprint), input: &[u8], size: usize, out: &[u8], end: usize)
     requires { Outgoing probe_output question_limit input.now size out.now end }
 {
-    write_text(out, end);
+    write_text(rt, out, end);
 }
 
-fn main() {
+fn main(rt: HostRuntime) {
     let mut input = [0u8; QUESTION];
-    let Input::Whole(size) = read_input(&mut input) else {
+    let Input::Whole(size) = read_input(&rt, &mut input) else {
         return;
     };
     let mut out = [0u8; ANSWER];
     let end = put_probe(first_bytes(&input, size), &mut out);
-    write_probe(&input, size, &out, end);
+    write_probe(&rt, &input, size, &out, end);
 }

@@ -11,18 +11,18 @@ use run_streams::{Input, first_bytes, read_input, write_text};
 use text_moves::{PLACED, WISH, put_wish};
 
 // What goes out is the definition of what was read.
-fn write_put(input: &[u8], size: usize, out: &[u8], end: usize)
+fn write_put(rt: &(impl Print + Eprint), input: &[u8], size: usize, out: &[u8], end: usize)
     requires { Outgoing wish_output wish_limit input.now size out.now end }
 {
-    write_text(out, end);
+    write_text(rt, out, end);
 }
 
-fn main() {
+fn main(rt: HostRuntime) {
     let mut input = [0u8; WISH];
-    let Input::Whole(size) = read_input(&mut input) else {
+    let Input::Whole(size) = read_input(&rt, &mut input) else {
         return;
     };
     let mut out = [0u8; PLACED];
     let end = put_wish(first_bytes(&input, size), &mut out);
-    write_put(&input, size, &out, end);
+    write_put(&rt, &input, size, &out, end);
 }

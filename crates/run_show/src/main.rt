@@ -70,19 +70,19 @@ fn show(input: &[u8], out: &mut [u8])
 }
 
 // What goes out is the definition of what was read.
-fn write_picture(input: &[u8], size: usize, out: &[u8], end: usize)
+fn write_picture(rt: &(impl Print + Eprint), input: &[u8], size: usize, out: &[u8], end: usize)
     requires { Outgoing picture_bytes input_size input.now size out.now end }
 {
-    write_text(out, end);
+    write_text(rt, out, end);
 }
 
 // One byte more than a record is read, so that a longer input is told from it.
-fn main() {
+fn main(rt: HostRuntime) {
     let mut input = [0u8; INPUT_SIZE + 1];
-    let Input::Whole(size) = read_input(&mut input) else {
+    let Input::Whole(size) = read_input(&rt, &mut input) else {
         return;
     };
     let mut out = [0u8; OUTPUT_SIZE];
     show(first_bytes(&input, size), &mut out);
-    write_picture(&input, size, &out, OUTPUT_SIZE);
+    write_picture(&rt, &input, size, &out, OUTPUT_SIZE);
 }

@@ -1,14 +1,16 @@
-// What the programs over a store share: an input that is read whole or not at all, and a text that is written in one go.
+// What the programs share: an input that is read whole or not at all, and a text that is written in one go.
 //
-// A program has no status of its own. One that could not read its input writes nothing to standard output and a line to standard error;
-// one that could not write its text tells that too. The text of a store always ends with its closing line, so that a caller sees
+// A program over a store has no status of its own. One that could not read its input writes nothing to standard output and a line to standard
+// error; one that could not write its text tells that too. The text of a store always ends with its closing line, so that a caller sees
 // from the text itself whether it is whole.
 #![tactic(auto)]
 
 ghost use Rattle.std.specs.Prelude.{◌≤◌, ◌≡◌, length, take};
+ghost use Rattle.std.specs.Io.{ReadsAtMost};
 ghost use Rattle.run_streams.specs.Input.{Fits};
 
-use libc::{STDERR_FILENO, STDIN_FILENO, STDOUT_FILENO};
+use std::io;
+use std::io::{ErrorKind, Read, Stderr};
 use store_records::Record;
 
 // The bytes of an input that ended or filled its buffer; or a read of it failed.
@@ -21,24 +23,40 @@ pub enum Input {
 // The room for a store that is read, with one byte more than a store may have: enough to tell that one is too long.
 pub const STORE_INPUT: usize = Record::STORE + 1;
 
-// Reads standard input until it ends or the buffer is full. A read that fails is not the end of the input.
-pub fn read_input(buffer: &mut [u8]) -> Input
-    ensures { Fits result (length buffer.new) }
+// Reads until the input ends or the buffer is full, and answers how many bytes that is. A read that a signal cut off is made again; one that
+// failed is not the end of the input.
+pub fn read_full(reader: &mut impl Read, buffer: &mut [u8]) -> io::Result<usize>
+    ensures { ReadsAtMost result buffer.new }
 {
     let mut size: usize = 0;
-    while size < buffer.len() {
-        let got = libc::read(STDIN_FILENO, &mut buffer[size..]);
-        if got < 0 {
-            io::write_all(STDERR_FILENO, b"standard input could not be read\n");
-            return Input::Failed;
-        }
-        let more = io::count(got, &buffer[size..]);
-        if more == 0 {
+    for _ in 0..u64::MAX {
+        if size >= buffer.len() {
             break;
         }
-        size += more;
+        match reader.read(&mut buffer[size..]) {
+            Ok(0) => break,
+            Ok(more) => size += more,
+            Err(error) => {
+                if error.kind() != ErrorKind::Interrupted {
+                    return Err(error);
+                }
+            }
+        }
     }
-    Input::Whole(size)
+    Ok(size)
+}
+
+// Reads standard input until it ends or the buffer is full. A read that fails is not the end of the input.
+pub fn read_input(rt: &(impl io::Input + Eprint), buffer: &mut [u8]) -> Input
+    ensures { Fits result (length buffer.new) }
+{
+    match read_full(&mut rt.reader(), buffer) {
+        Ok(size) => Input::Whole(size),
+        Err(_) => {
+            let _ = rt.eprintln("standard input could not be read");
+            Input::Failed
+        }
+    }
 }
 
 // The first bytes of a buffer; all of it where it has no more.
@@ -51,31 +69,31 @@ pub fn first_bytes(buffer: &[u8], size: usize) -> &[u8]
     buffer
 }
 
-fn write_first(fd: i32, text: &[u8], end: usize) -> bool
+fn write_first(stream: &impl Print, text: &[u8], end: usize) -> io::Result<()>
     requires { end ≤ length text.now }
 {
-    io::write_all(fd, &text[..end])
+    stream.write_all(&text[..end])
 }
 
-// Writes the first bytes of a text to standard output. False where a write fails.
-fn print(text: &[u8], end: usize) -> bool
+// Writes the first bytes of a text to standard output.
+fn print(rt: &impl Print, text: &[u8], end: usize) -> io::Result<()>
     requires { end ≤ length text.now }
 {
-    write_first(STDOUT_FILENO, text, end)
+    write_first(rt, text, end)
 }
 
 // The same to standard error.
-pub fn tell(text: &[u8], end: usize) -> bool
+pub fn tell(stderr: &Stderr, text: &[u8], end: usize) -> io::Result<()>
     requires { end ≤ length text.now }
 {
-    write_first(STDERR_FILENO, text, end)
+    write_first(stderr, text, end)
 }
 
 // Writes the first bytes of a text to standard output, and tells where it could not.
-pub fn write_text(text: &[u8], end: usize)
+pub fn write_text(rt: &(impl Print + Eprint), text: &[u8], end: usize)
     requires { end ≤ length text.now }
 {
-    if !print(text, end) {
-        io::write_all(STDERR_FILENO, b"standard output could not be written\n");
+    if print(rt, text, end).is_err() {
+        let _ = rt.eprintln("standard output could not be written");
     }
 }

@@ -14,18 +14,18 @@ use text_moves::{UNPLACED, put_unplaced};
 const ROOM: usize = Place::STORE + 1;
 
 // What goes out is the definition of what was read.
-fn write_unplaced(input: &[u8], size: usize, out: &[u8], end: usize)
+fn write_unplaced(rt: &(impl Print + Eprint), input: &[u8], size: usize, out: &[u8], end: usize)
     requires { Outgoing unplaced_output place_limit input.now size out.now end }
 {
-    write_text(out, end);
+    write_text(rt, out, end);
 }
 
-fn main() {
+fn main(rt: HostRuntime) {
     let mut input = [0u8; ROOM];
-    let Input::Whole(size) = read_input(&mut input) else {
+    let Input::Whole(size) = read_input(&rt, &mut input) else {
         return;
     };
     let mut out = [0u8; UNPLACED];
     let end = put_unplaced(first_bytes(&input, size), &mut out);
-    write_unplaced(&input, size, &out, end);
+    write_unplaced(&rt, &input, size, &out, end);
 }

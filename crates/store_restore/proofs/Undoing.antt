@@ -55,8 +55,8 @@ module _ (store : List ℕ) where
       let g = at k h in
       ap (λ (e : ℕ). removed_number (receipt_of store) e) (sym g.place) ∙ number_told store g.number g.below g.goes_too
 
-  stays_at : (k : ℕ) (h : k < entries_in (receipt_of store)) → stays_at (receipt_of store) k ≡ first_of store (at k h).number
-  stays_at k h =
+  stays_at_lem : (k : ℕ) (h : k < entries_in (receipt_of store)) → stays_at (receipt_of store) k ≡ first_of store (at k h).number
+  stays_at_lem k h =
       let g = at k h in
       ap (λ (e : ℕ). stays_at (receipt_of store) e) (sym g.place) ∙ stays_told store g.number g.below g.goes_too
 
@@ -83,7 +83,7 @@ module _ (store : List ℕ) where
       record {
         least = least e h;
         inside = omega (arith, q, g.below);
-        before = omega (arith, q, stays_at e h, goes_first store g.number g.goes_too);
+        before = omega (arith, q, stays_at_lem e h, goes_first store g.number g.goes_too);
       }
 
   pub receipt_fits_lem : receipt_fits (receipt_of store) (records_in store) ≡ true

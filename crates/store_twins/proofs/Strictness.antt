@@ -43,9 +43,9 @@ module _ (store : List ℕ) (n : ℕ) where
       record { unrefused = eqb-true _ _ a.0; reserved = eqb-true _ _ a.1 }
 
 module _ (store : List ℕ) where
-  pub first_damaged : first_damaged store < records_in store → Damaged store (first_damaged store)
+  pub first_damaged_lem : first_damaged store < records_in store → Damaged store (first_damaged store)
   unfolding first_damaged
-  first_damaged h = damaged_means store _ (first_passes (damaged store) (records_in store) h)
+  first_damaged_lem h = damaged_means store _ (first_passes (damaged store) (records_in store) h)
 
   pub first_few : first_damaged store ≤ records_in store
   unfolding first_damaged
@@ -182,7 +182,7 @@ module _ {store lent after : List ℕ} {r : TwinList} (d : StrictlyListed store 
             absurd (omega (arith, sym (strict_refusal_lem store lent k q) ∙ strict_12))
 
     pub told_damaged : {first : ℕ} → first ≡ first_damaged store → Damaged store first
-    told_damaged e = rw e (first_damaged store some_damaged)
+    told_damaged e = rw e (first_damaged_lem store some_damaged)
 
     pub told_first : {first : ℕ} → first ≡ first_damaged store → (n : ℕ) → Damaged store n → first ≤ n
     told_first e n b = rw e (no_earlier store n b)

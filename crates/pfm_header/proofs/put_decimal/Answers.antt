@@ -14,56 +14,43 @@ bounds-out-at c =
 pub returns-then-n-lt10 : goal.returns-then-n-lt10
 returns-then-n-lt10 c = text.one c.args.out.now c.args.at c.args.n c.digit.result c.if-n-lt10.true c.digit.ensures
 
-pub bounds-out-at-then-n-lt100 : goal.bounds-out-at-then-n-lt100
-bounds-out-at-then-n-lt100 c =
-    let two-places : 2 ≡ places c.args.n = text.places_2 _ c.if-n-lt10.false c.if-n-lt100.true in
-    let q = two-places in omega arith
-
-pub bounds-out-at-then-n-lt100-2 : goal.bounds-out-at-then-n-lt100-2
-bounds-out-at-then-n-lt100-2 c =
-    let two-places : 2 ≡ places c.args.n = text.places_2 _ c.if-n-lt10.false c.if-n-lt100.true in
-    let q = two-places in simp length-set (omega arith)
-
-pub returns-then-n-lt100 : goal.returns-then-n-lt100
-returns-then-n-lt100 c = text.two c.args.out.now c.args.at c.args.n c.digit-then-n-lt100.result c.digit-then-n-lt100-2.result c.if-n-lt10.false c.if-n-lt100.true c.digit-then-n-lt100.ensures c.digit-then-n-lt100-2.ensures
-
 pub bounds-out-at-then-n-lt1000 : goal.bounds-out-at-then-n-lt1000
 bounds-out-at-then-n-lt1000 c =
-    let three-places : 3 ≡ places c.args.n = text.places_3 _ c.if-n-lt10.false c.if-n-lt100.false c.if-n-lt1000.true in
+    let three-places : 3 ≡ places c.args.n = text.places_3 _ c.if-n-lt10.false (omega arith) c.if-n-lt1000.true in
     let q = three-places in omega arith
 
 pub bounds-out-at-then-n-lt1000-2 : goal.bounds-out-at-then-n-lt1000-2
 bounds-out-at-then-n-lt1000-2 c =
-    let three-places : 3 ≡ places c.args.n = text.places_3 _ c.if-n-lt10.false c.if-n-lt100.false c.if-n-lt1000.true in
+    let three-places : 3 ≡ places c.args.n = text.places_3 _ c.if-n-lt10.false (omega arith) c.if-n-lt1000.true in
     let q = three-places in simp length-set (omega arith)
 
 pub bounds-out-at-then-n-lt1000-3 : goal.bounds-out-at-then-n-lt1000-3
 bounds-out-at-then-n-lt1000-3 c =
-    let three-places : 3 ≡ places c.args.n = text.places_3 _ c.if-n-lt10.false c.if-n-lt100.false c.if-n-lt1000.true in
+    let three-places : 3 ≡ places c.args.n = text.places_3 _ c.if-n-lt10.false (omega arith) c.if-n-lt1000.true in
     let q = three-places in simp length-set (omega arith)
 
 pub returns-then-n-lt1000 : goal.returns-then-n-lt1000
-returns-then-n-lt1000 c = text.three c.args.out.now c.args.at c.args.n c.digit-then-n-lt1000.result c.digit-then-n-lt1000-2.result c.digit-then-n-lt1000-3.result c.if-n-lt10.false c.if-n-lt100.false c.if-n-lt1000.true c.digit-then-n-lt1000.ensures c.digit-then-n-lt1000-2.ensures c.digit-then-n-lt1000-3.ensures
+returns-then-n-lt1000 c = text.three c.args.out.now c.args.at c.args.n c.digit-then-n-lt1000.result c.digit-then-n-lt1000-2.result c.digit-then-n-lt1000-3.result c.if-n-lt10.false (omega arith) c.if-n-lt1000.true c.digit-then-n-lt1000.ensures c.digit-then-n-lt1000-2.ensures c.digit-then-n-lt1000-3.ensures
 
 pub bounds-out-at-2 : goal.bounds-out-at-2
 bounds-out-at-2 c =
-    let four-places : 4 ≡ places c.args.n = text.places_4 _ c.if-n-lt10.false c.if-n-lt100.false c.if-n-lt1000.false in
+    let four-places : 4 ≡ places c.args.n = text.places_4 _ c.if-n-lt10.false (omega arith) c.if-n-lt1000.false in
     let q = four-places in omega arith
 
 pub bounds-out-at-3 : goal.bounds-out-at-3
 bounds-out-at-3 c =
-    let four-places : 4 ≡ places c.args.n = text.places_4 _ c.if-n-lt10.false c.if-n-lt100.false c.if-n-lt1000.false in
+    let four-places : 4 ≡ places c.args.n = text.places_4 _ c.if-n-lt10.false (omega arith) c.if-n-lt1000.false in
     let q = four-places in simp length-set (omega arith)
 
 pub bounds-out-at-4 : goal.bounds-out-at-4
 bounds-out-at-4 c =
-    let four-places : 4 ≡ places c.args.n = text.places_4 _ c.if-n-lt10.false c.if-n-lt100.false c.if-n-lt1000.false in
+    let four-places : 4 ≡ places c.args.n = text.places_4 _ c.if-n-lt10.false (omega arith) c.if-n-lt1000.false in
     let q = four-places in simp length-set (omega arith)
 
 pub bounds-out-at-5 : goal.bounds-out-at-5
 bounds-out-at-5 c =
-    let four-places : 4 ≡ places c.args.n = text.places_4 _ c.if-n-lt10.false c.if-n-lt100.false c.if-n-lt1000.false in
+    let four-places : 4 ≡ places c.args.n = text.places_4 _ c.if-n-lt10.false (omega arith) c.if-n-lt1000.false in
     let q = four-places in simp length-set (omega arith)
 
 pub returns : goal.returns
-returns c = text.four c.args.out.now c.args.at c.args.n c.digit-2.result c.digit-3.result c.digit-4.result c.digit-5.result c.if-n-lt10.false c.if-n-lt100.false c.if-n-lt1000.false c.requires.0 c.digit-2.ensures c.digit-3.ensures c.digit-4.ensures c.digit-5.ensures
+returns c = text.four c.args.out.now c.args.at c.args.n c.digit-2.result c.digit-3.result c.digit-4.result c.digit-5.result c.if-n-lt10.false (omega arith) c.if-n-lt1000.false c.requires.0 c.digit-2.ensures c.digit-3.ensures c.digit-4.ensures c.digit-5.ensures

@@ -1,0 +1,15 @@
+use mathlib.Core.Path.{◌≡◌}
+use Prim.Native.Nat.{◌*◌, ◌≤◌, ◌-◌}
+use lib.ListN.{length}
+use Rattle.text.specs.Text.{Written}
+use Rattle.store_faulty.specs.Faulty.{form_of}
+use Rattle.text_check.specs.Checking.{check_lines}
+use Rattle.text.proofs.Lines as all
+use Rattle.text_check.proofs.Lines as lines
+use Rattle.text_check.proofs.put_faults.Given as goal
+
+abbrev pub invariant-loop-n : goal.invariant-loop-n
+invariant-loop-n l = (l.n ≤ l.count) × (length l.text ≡ length l.initial.text) × (l.end ≤ l.n * 128) × Written l.initial.text 0 (check_lines (form_of l.form) l.store l.n) l.end l.text
+
+abbrev pub decreases-loop-n : goal.decreases-loop-n
+decreases-loop-n l = l.count - l.n

@@ -12,12 +12,11 @@ loop-n-init c = (search rules, count_none _ c.args.marks.now, search rules)
 pub loop-n-preserved : goal.loop-n-preserved
 loop-n-preserved c =
     let i = c.loop-n in
-    let l = c.args.marks.now in
-    (
+    let l = c.args.marks.now in (
       search rules,
       elim c.if-marks-n.branch [
-        then-marks-n w ↦ w.count-is ∙ count_hit _ l i.n (omega arith) _ i.invariant.1 w.if-marks-n.true
-      | else-marks-n w ↦ w.count-is ∙ count_miss _ l i.n (omega arith) _ i.invariant.1 w.if-marks-n.false
+        | then-marks-n w ↦ w.count-is ∙ count_hit _ l i.n (omega arith) _ i.invariant.1 w.if-marks-n.true
+        | else-marks-n w ↦ w.count-is ∙ count_miss _ l i.n (omega arith) _ i.invariant.1 w.if-marks-n.false
       ],
       elim c.if-marks-n.branch [ then-marks-n w ↦ omega arith | else-marks-n w ↦ omega arith ],
     )

@@ -51,8 +51,8 @@ loop-n-preserved c =
     let u = unrefused c.record_at.ensures c.in-Record.is in
     let s = c.search.invariant in
     let m : c.search-test.mark ≡ mark_at c.args.store.now c.loop-n.n = elim c.search-test.branch [
-      else-search-test w ↦ w.mark-is ∙ s.1 ∙ mark_kept _ _ u (unfound _ _ _ s.0 w.search-test.false s.2)
-    | then-search-test+else-scratch-earlier+then-kept_alike w ↦ w.mark-is ∙ mark_twin _ _ u (found _ _ _ s.2 w.search-test.true (sym w.kept_alike.ensures ∙ w.if-kept_alike.true))
+      | else-search-test w ↦ w.mark-is ∙ s.1 ∙ mark_kept _ _ u (unfound _ _ _ s.0 w.search-test.false s.2)
+      | then-search-test+else-scratch-earlier+then-kept_alike w ↦ w.mark-is ∙ mark_twin _ _ u (found _ _ _ s.2 w.search-test.true (sym w.kept_alike.ensures ∙ w.if-kept_alike.true))
     ] in
     (search rules, made_store _ _ _ _ _ _ i.1 refl m (search rules), simp length-set i.2)
 

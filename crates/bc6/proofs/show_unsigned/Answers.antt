@@ -1,0 +1,16 @@
+-- `bc6::show_unsigned` meets its contract: the parts, joined, by the number of regions. Assumes nothing.
+use mathlib.Core.Path.{refl}
+use mathlib.Core.Bool.{false}
+use lib.Dec.{lit≤}
+use Rattle.bc6.proofs.Codes.{words_two, words_one}
+use Rattle.bc6.proofs.Link.{two_painted, one_written, same_picks, same_indices}
+use Rattle.bc6.proofs.show_unsigned.Goals as goal
+
+pub unsigned_ends-ends-requires : goal.unsigned_ends-ends-requires
+unsigned_ends-ends-requires c = c.requires.0
+
+pub returns-then-lo-ne3 : goal.returns-then-lo-ne3
+returns-then-lo-ne3 c = two_painted false 0 _ (lit≤ tt) c.requires.0 c.unsigned_ends-ends.ensures (words_two _ _ c.if-lo-ne3.true) _ (same_picks c.of-stream.ensures c.two_picks-picks.ensures) c.paint_two_unsigned.ensures
+
+pub returns : goal.returns
+returns c = one_written false 0 _ (lit≤ tt) c.requires.0 c.unsigned_ends-ends.ensures (words_one _ _ c.if-lo-ne3.false) _ (same_indices c.of-stream.ensures c.one_indices.ensures) refl c.paint_one_unsigned.ensures

@@ -1,0 +1,12 @@
+use mathlib.Core.Path.{◌≡◌}
+use Prim.Native.Nat.{◌≤◌, ◌-◌}
+use Rattle.laws.specs.First.{first_below}
+use Rattle.store_clean.specs.Clean.{repeats}
+use Rattle.store_clean.proofs.Repeating as laws
+use Rattle.store_clean.proofs.first_of.Given as goal
+
+abbrev pub invariant-loop-earlier : goal.invariant-loop-earlier
+invariant-loop-earlier l = (l.earlier ≤ l.n) × (first_below (repeats l.store l.n) l.earlier ≡ l.earlier)
+
+abbrev pub decreases-loop-earlier : goal.decreases-loop-earlier
+decreases-loop-earlier l = l.n - l.earlier

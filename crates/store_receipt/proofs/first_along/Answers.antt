@@ -1,0 +1,8 @@
+use Rattle.store_receipt.proofs.Walking.{stays_here, as_remembered}
+use Rattle.store_receipt.proofs.first_along.Goals as goal
+
+pub returns-then-earlier-n : goal.returns-then-earlier-n
+returns-then-earlier-n c = stays_here c.repeated_along-earlier.ensures c.if-earlier-n.true
+
+pub returns : goal.returns
+returns c = as_remembered c.repeated_along-earlier.ensures c.requires.known c.if-earlier-n.false c.u16_to_usize.ensures.0

@@ -89,4 +89,4 @@ module _ (signed : Bool) (blocks : List ℕ) where
   -- the 48 values of block n stand behind those of the blocks before it
   pub run_at_lem : (count n : ℕ) (rest : List ℕ) → n < count → take 48 (drop (48 * n) (run_of signed blocks count ++ rest)) ≡ shown_at signed blocks n
   unfolding run_of
-  run_at_lem = joined.run_at (shown_at signed blocks) 48 length_shown
+  run_at_lem = joined.run_at_lem (shown_at signed blocks) 48 length_shown

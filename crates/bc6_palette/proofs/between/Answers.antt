@@ -12,22 +12,17 @@ use Rattle.bc6h_spec.specs.Half.{interpolated, finished}
 use Rattle.bc6_half.specs.declared.Half.{Half}
 use Rattle.bc6_half.specs.Halves.{marked}
 use Rattle.bc6_palette.specs.Palettes.{blend_of}
-use Rattle.bc6_palette.proofs.between.Statement.{statement}
-use Rattle.bc6_palette.proofs.between.Tie as tie
+use Rattle.bc6_palette.proofs.between.Goals as goal
 
 -- the numbers that a callee is handed are read back from bits
 plain : (s : Bool) (w : ℕ) {a b : ℤ} {r : Half} → SFits w32 a → SFits w32 b
     → r ≡ marked (finished s (interpolated (to_z w32 (of_z w32 a)) (to_z w32 (of_z w32 b)) (pos w))) → r ≡ marked (finished s (interpolated a b (pos w)))
 plain s w {a} {b} f g e = e ∙ (λ i. marked (finished s (interpolated (to_z-of_z w32 a f i) (to_z-of_z w32 b g i) (pos w))))
 
-returns : tie.Need-returns
+pub returns : goal.returns
 unfolding blend_of
 returns c =
-    let s = c.before.before.before.before.before.before.before.before.before in
-    let x = plain s.args.signed s.args.w {a = s.args.a.r} {b = s.args.b.r} (search rules) (search rules) c.before.before.before.before.before.before.entry.ensures in
-    let y = plain s.args.signed s.args.w {a = s.args.a.g} {b = s.args.b.g} (search rules) (search rules) c.before.before.before.entry2.ensures in
-    let z = plain s.args.signed s.args.w {a = s.args.a.b} {b = s.args.b.b} (search rules) (search rules) c.entry3.ensures in
+    let x = plain c.args.signed c.args.w {a = c.args.a.r} {b = c.args.b.r} (search rules) (search rules) c.entry-red.ensures in
+    let y = plain c.args.signed c.args.w {a = c.args.a.g} {b = c.args.b.g} (search rules) (search rules) c.entry-green.ensures in
+    let z = plain c.args.signed c.args.w {a = c.args.a.b} {b = c.args.b.b} (search rules) (search rules) c.entry-blue.ensures in
     (λ i. x i ∷ y i ∷ z i ∷ [])
-
-pub between-spec : {M : Type 1} → statement M
-between-spec = tie.close (tie.spec (λ c κs. search rules) (λ c κs. search rules) (λ c κs. search rules) returns)

@@ -19,7 +19,7 @@ overflow_add-first c =
     let extra : ℕ = c.args.extra in
     let few : extra ≤ 6 = (pair_mode extra c.requires).few in
     let first_is : c.firsts.result + c.extra_bits.result ≡ three_of (λ k. ten (n / 2 ^ 5) k + extra_bits f extra k) = ap₂ (λ (x y : ℕ). x + y) (c.firsts.ensures ∙ first_tens c.args.lo c.args.hi) c.extra_bits.ensures
-      ∙ three_sum (ten (n / 2 ^ 5)) (extra_bits f extra) in
+    ∙ three_sum (ten (n / 2 ^ 5)) (extra_bits f extra) in
     record { fits = subst (λ (x : ℕ). x < 2 ^ 64) (sym first_is) (three_fits _ (with_ten f (n / 2 ^ 5) extra few)) }
 
 pub overflow_sub-second : goal.overflow_sub-second
@@ -47,6 +47,6 @@ returns c =
     let extra : ℕ = c.args.extra in
     let few : extra ≤ 6 = (pair_mode extra c.requires).few in
     let first_is : c.firsts.result + c.extra_bits.result ≡ three_of (λ k. ten (n / 2 ^ 5) k + extra_bits f extra k) = ap₂ (λ (x y : ℕ). x + y) (c.firsts.ensures ∙ first_tens c.args.lo c.args.hi) c.extra_bits.ensures
-      ∙ three_sum (ten (n / 2 ^ 5)) (extra_bits f extra) in
+    ∙ three_sum (ten (n / 2 ^ 5)) (extra_bits f extra) in
     pair_read n f extra c.seconds-f.ensures few _ _ first_is
     (kept_are f (10 - extra) (omega arith)) c.requires c.pair-red.ensures c.pair-green.ensures c.pair-blue.ensures

@@ -1,0 +1,14 @@
+use mathlib.Core.Path.{◌≡◌}
+use Prim.Native.Nat.{◌*◌, ◌≤◌, ◌-◌}
+use lib.ListN.{length}
+use Rattle.text.specs.Text.{Written}
+use Rattle.text_clean.specs.CleanText.{removed_lines}
+use Rattle.text.proofs.Lines as all
+use Rattle.text_clean.proofs.Lines as lines
+use Rattle.text_clean.proofs.put_lines.Given as goal
+
+abbrev pub invariant-loop-n : goal.invariant-loop-n
+invariant-loop-n l = (l.n ≤ l.count) × (length l.text ≡ length l.initial.text) × (l.end ≤ l.n * 128) × Written l.initial.text 0 (removed_lines l.store l.n) l.end l.text
+
+abbrev pub decreases-loop-n : goal.decreases-loop-n
+decreases-loop-n l = l.count - l.n

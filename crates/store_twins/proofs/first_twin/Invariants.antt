@@ -1,0 +1,11 @@
+use mathlib.Core.Path.{◌≡◌}
+use Prim.Native.Nat.{◌≤◌, ◌-◌}
+use Rattle.laws.specs.First.{first_below}
+use Rattle.store_spec.specs.Twins.{alike}
+use Rattle.store_twins.proofs.first_twin.Given as goal
+
+abbrev pub invariant-loop-earlier : goal.invariant-loop-earlier
+invariant-loop-earlier l = (l.earlier ≤ l.n) × (first_below (alike l.store l.n) l.earlier ≡ l.earlier)
+
+abbrev pub decreases-loop-earlier : goal.decreases-loop-earlier
+decreases-loop-earlier l = l.n - l.earlier

@@ -1,0 +1,13 @@
+use borrow.Author.Rules.{rules}
+use mathlib.Core.Path.{sym, ◌∙◌}
+use Rattle.store_spec.proofs.Marking.{holding_means, showing_none, shown_picture}
+use Rattle.store_twins.proofs.shows.Goals as goal
+
+pub returns-then-not-holds_picture : goal.returns-then-not-holds_picture
+returns-then-not-holds_picture c = sym (showing_none _ _ _ _ (sym c.holds_picture.ensures ∙ c.if-not-holds_picture.true))
+
+pub decode_record-requires : goal.decode_record-requires
+decode_record-requires c = let h = holding_means _ _ _ (sym c.holds_picture.ensures ∙ c.if-not-holds_picture.false) in record { unrefused = h.unrefused; format_value = sym h.of_format; value_count_in_bounds = search rules }
+
+pub returns : goal.returns
+returns c = shown_picture _ _ _ _ _ (sym c.holds_picture.ensures ∙ c.if-not-holds_picture.false) c.decode_record.ensures (search rules) c.same_picture.ensures

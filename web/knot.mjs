@@ -587,7 +587,6 @@ export class Program {
         bytes().set(word.subarray(0, unsigned(room)), to);
         return word.length <= unsigned(room) ? BigInt(word.length) : TOO_LONG;
       },
-      rattle_set_errno: () => {},
     } });
     memory = exports.memory;
     const status = exports.main();

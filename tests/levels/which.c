@@ -1,5 +1,5 @@
 /* Prints the file of the shared library that the loader took, and what a block shows by it: named maps|told, or opened maps|told LIBRARY
- * `maps` looks for the file in /proc/self/maps; `told` asks the loader, for the kit's emulator, which cannot read that file.
+ * `maps` looks for the file in /proc/self/maps; `told` asks the loader, for an emulator, which cannot read that file.
  * `named` asks for the shared library by its name; `opened`, which is compiled with OPENED, opens LIBRARY by its path, as Python does. */
 #include "knotpasture.h"
 

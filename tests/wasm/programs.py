@@ -2,7 +2,7 @@
 """Runs the proved programs over stores and writes what each printed, as JSON, for tests/wasm/programs.mjs: tests/wasm/programs.py COUNT SEED
 
 The stores are the samples, COUNT by chance with twins, copies, damaged and refused records, and those at the limits. On another processor than x86-64 a
-program runs under the kit's emulator, at a tenth of a second a run.
+program runs under an emulator, at a tenth of a second a run.
 """
 import base64
 import json

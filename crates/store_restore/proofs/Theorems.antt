@@ -34,7 +34,7 @@ module _ (store : List ℕ) (sized : Sized store) where
       let c = cleaned_sized store sized in
       let t = undoing.total_same store sized in
       checks.fine (cleaned_of store) (receipt_of store) room c.fits (omega (arith, t, sized.fits)) c.even
-      (rw t (undoing.receipt_fits store)) (omega (arith, t))
+      (rw t (undoing.receipt_fits_lem store)) (omega (arith, t))
 
   same_store : (room later : List ℕ) (s : Restored) → RestoredInto (cleaned_of store) (receipt_of store) room s later → length store ≤ length room
       → SameStore store room s later

@@ -1,7 +1,7 @@
 -- `bc7_blocks::paint_run` meets its contract: a turn paints the next block. Assumes nothing.
 use mathlib.Core.Path.{◌≡◌}
 use mathlib.Core.List.{◌++◌}
-use Prim.Native.Nat.{◌≤◌, ◌+◌, ◌-◌, ◌*◌}
+use Prim.Native.Nat.{◌≤◌, ◌-◌, ◌*◌}
 use lib.ListN.{length, drop}
 use Rattle.bc7_blocks.specs.Run.{run_of}
 use Rattle.bc7_blocks.proofs.paint_run.Given as goal

@@ -1,5 +1,4 @@
 -- `dds::dds_write` meets its contract. Assumes nothing.
-use mathlib.Core.Path.{sym, ◌∙◌}
 use native.Mathlib.Omega.{arith}
 use lib.ListN.{length}
 use Rattle.dds.proofs.Writing.{WriteKnown, write_known, told_done}

@@ -9,7 +9,6 @@ use lib.Dec.{lit<, lit≤}
 use lib.ListN.{get_or, set}
 use mir.Syntax.{w64}
 use mir.Val.{Fits}
-use Rattle.bcn_util.specs.Stream.{number}
 use Rattle.bc6h_spec.specs.Layout as layout
 use Rattle.bc6_table.proofs.Walk.{Walked, walked_first, walked_at, walked_place, walked_room, walked_next, walked_done}
 use Rattle.bc6_table.proofs.read_places.Goals as goal

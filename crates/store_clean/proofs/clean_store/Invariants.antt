@@ -1,5 +1,4 @@
 use Prim.Native.Nat.{◌-◌}
-use Rattle.store_clean.proofs.Cleaning as laws
 use Rattle.store_clean.proofs.Cleaning.{SoFar}
 use Rattle.store_clean.proofs.clean_store.Given as goal
 

@@ -2,7 +2,6 @@ use mathlib.Core.Path.{◌≡◌}
 use Prim.Native.Nat.{◌≤◌, ◌-◌}
 use Rattle.laws.specs.First.{first_below}
 use Rattle.store_clean.specs.Clean.{repeats}
-use Rattle.store_clean.proofs.Repeating as laws
 use Rattle.store_clean.proofs.first_of.Given as goal
 
 abbrev pub invariant-loop-earlier : goal.invariant-loop-earlier

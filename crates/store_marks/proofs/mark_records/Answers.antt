@@ -5,7 +5,7 @@ use lib.ListN.{length-set}
 use Rattle.laws.proofs.Rows.{made_none, made_store, made_upto}
 use Rattle.laws.proofs.Firsts.{first_none, first_more}
 use Rattle.store_records.proofs.Readings.{unrefused, format_is, refused}
-use Rattle.store_spec.specs.Twins.{marks_of, kept_mark, mark_at}
+use Rattle.store_spec.specs.Twins.{marks_of, mark_at}
 use Rattle.store_spec.proofs.Marking.{alike_other, unfound, found, mark_bad, mark_reserved, mark_twin, mark_kept}
 use mathlib.Core.Path.{◌≡◌}
 use Rattle.store_marks.proofs.mark_records.Goals as goal

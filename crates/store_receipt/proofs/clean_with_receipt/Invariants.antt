@@ -6,7 +6,6 @@ use Rattle.store_records.specs.Store.{records_in}
 use Rattle.store_clean.specs.Links.{Linked}
 use Rattle.store_receipt.specs.Receipt.{receipt_refusal}
 use Rattle.store_receipt.proofs.Telling.{Telling}
-use Rattle.store_receipt.proofs.Telling as laws
 use Rattle.store_receipt.proofs.clean_with_receipt.Given as goal
 
 abbrev pub invariant-loop-n : goal.invariant-loop-n

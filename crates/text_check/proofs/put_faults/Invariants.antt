@@ -4,8 +4,6 @@ use lib.ListN.{length}
 use Rattle.text.specs.Text.{Written}
 use Rattle.store_faulty.specs.Faulty.{form_of}
 use Rattle.text_check.specs.Checking.{check_lines}
-use Rattle.text.proofs.Lines as all
-use Rattle.text_check.proofs.Lines as lines
 use Rattle.text_check.proofs.put_faults.Given as goal
 
 abbrev pub invariant-loop-n : goal.invariant-loop-n

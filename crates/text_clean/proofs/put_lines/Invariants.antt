@@ -3,8 +3,6 @@ use Prim.Native.Nat.{◌*◌, ◌≤◌, ◌-◌}
 use lib.ListN.{length}
 use Rattle.text.specs.Text.{Written}
 use Rattle.text_clean.specs.CleanText.{removed_lines}
-use Rattle.text.proofs.Lines as all
-use Rattle.text_clean.proofs.Lines as lines
 use Rattle.text_clean.proofs.put_lines.Given as goal
 
 abbrev pub invariant-loop-n : goal.invariant-loop-n

@@ -5,7 +5,6 @@ use lib.ListN.{length}
 use Rattle.laws.specs.Every.{below}
 use Rattle.store_receipt.specs.Receipt.{entry_size}
 use Rattle.store_restore.specs.Restore.{least_at, entry_fits}
-use Rattle.store_restore.proofs.Fitting as laws
 use Rattle.store_restore.proofs.receipt_fits.Given as goal
 
 abbrev pub invariant-loop-e : goal.invariant-loop-e

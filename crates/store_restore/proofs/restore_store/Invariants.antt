@@ -4,7 +4,6 @@ use lib.ListN.{length}
 use Rattle.bcn_spec.specs.Answers.{done}
 use Rattle.store_restore.specs.Restore.{restore_refusal}
 use Rattle.store_restore.proofs.Restoring.{Back}
-use Rattle.store_restore.proofs.Restoring as laws
 use Rattle.store_restore.proofs.restore_store.Given as goal
 
 abbrev pub invariant-loop-n : goal.invariant-loop-n

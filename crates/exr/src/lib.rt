@@ -145,6 +145,7 @@ fn write_refusal(size: usize, format: u8, width: u32, height: u32, room: usize) 
 }
 
 // A picture of blocks in row order as an OpenEXR file.
+#[tactic(auto, using(crate::proofs::Calls::told_refused))]
 pub fn exr_write(blocks: &[u8], width: u32, height: u32, format: u8, out: &mut [u8]) -> ExrWritten
     ensures { PictureWritten blocks.now format width height out.old result out.new }
 {

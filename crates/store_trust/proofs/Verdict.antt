@@ -156,8 +156,8 @@ module _ (format : ℕ) (block : List ℕ) where
     -- where no check refuses, the palettes decide
     module _ (palettes : List ℕ) (shown : palettes ≡ pixels_of (is_signed format) (ramped (leb f.mode 10) block)) (sixteen : length block ≡ 16)
         (byte : (k : ℕ) → get_or block k 0 < 256) (known : format ≤ 1) (from : f.mode ≡ 0 → ⊥) (to : f.mode ≤ 13) where
-      is_block : IsBlock block
-      is_block = record { sixteen = sixteen; byte = byte }
+      is_block_lem : IsBlock block
+      is_block_lem = record { sixteen = sixteen; byte = byte }
 
       covered : mode_covered (mode_of block) ≡ true
       covered = rw (le-leb 1 (mode_of block) (omega (arith, mode-is))) (le-leb (mode_of block) 13 (omega (arith, mode-is)))
@@ -174,9 +174,9 @@ module _ (format : ℕ) (block : List ℕ) where
           subst (λ (n : ℕ). all_pass f palettes ≡ below (region_trusted (is_signed format) (fields_of n block)) (regions (fields_of n block).mode)) as_told
           (ap (λ (g : Fields). all_pass g palettes) f_again
           ∙ cases (leb (fields_of again block).mode 10)
-          (λ t. two_passes (is_signed format) block is_block palettes (omega (arith, mode-is, fields_mode again block)) (leb→le _ _ (holds t))
+          (λ t. two_passes (is_signed format) block is_block_lem palettes (omega (arith, mode-is, fields_mode again block)) (leb→le _ _ (holds t))
           (shown_at ∙ ap (λ (u : Bool). pixels_of (is_signed format) (pick u (ramped_two block) (ramped_one block))) t))
-          (λ t. one_passes (is_signed format) block is_block palettes (leb-false _ _ t)
+          (λ t. one_passes (is_signed format) block is_block_lem palettes (leb-false _ _ t)
           (shown_at ∙ ap (λ (u : Bool). pixels_of (is_signed format) (pick u (ramped_two block) (ramped_one block))) t)))
         where
           f_again : f ≡ fields_of again block
@@ -189,7 +189,7 @@ module _ (format : ℕ) (block : List ℕ) where
       unfolding trusted fields_trusted
       decided a r q z p =
           p ∙ passes_is
-          ∙ rw (le-leb format 1 known, is_true (is_block block) (block_complete block is_block), covered, sym (q ∙ ambiguous_is) ∙ z)
+          ∙ rw (le-leb format 1 known, is_true (is_block block) (block_complete block is_block_lem), covered, sym (q ∙ ambiguous_is) ∙ z)
 
 -- one verdict for a block
 pub one_outcome : (format : ℕ) (block : List ℕ) {r s : Bool} → r ≡ trusted format block → s ≡ trusted format block → r ≡ s

@@ -10,6 +10,7 @@ tools/gate.py keep SUM        after `rt ci` has passed: notes in target/gate wha
 tools/capture-module builds over its libraries, so that neither proves them again. A library counts while its kept sum is that of the note, and only
 where the kit's other commands did not put one of their own in its place.
 """
+import functools
 import hashlib
 import os
 import pathlib
@@ -72,8 +73,9 @@ def keep(before):
     NOTE.write_text("\n".join(lines) + "\n")
 
 
+@functools.lru_cache(maxsize=None)
 def noted():
-    """The note's lines, where it is of the sources as they are; else none."""
+    """The note's lines, where it is of the sources as they were when first asked for; else none."""
     try:
         lines = NOTE.read_text().splitlines()
     except OSError:

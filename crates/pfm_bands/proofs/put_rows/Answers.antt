@@ -10,7 +10,7 @@ use Rattle.pfm_bands.proofs.put_rows.Goals as goal
 
 pub returns : goal.returns
 returns c =
-    let s = c.before.args in
+    let s = c.args in
     let across = (s.width + 3) / 4 in
     record {
       count = refl;

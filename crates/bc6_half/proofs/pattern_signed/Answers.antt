@@ -1,5 +1,5 @@
 -- `bc6_half::pattern_signed` meets its contract. Assumes nothing.
-use mathlib.Core.Path.{◌≡◌, ◌∙◌, sym, ap, subst}
+use mathlib.Core.Path.{◌≡◌, refl, ◌∙◌, sym, ap, subst}
 use mathlib.Core.Bool.{Bool, true, false}
 use native.Mathlib.Omega.{arith}
 use Prim.Native.Nat.{ℕ, ◌+◌, ◌*◌, ◌/◌, ◌≤◌, ◌<◌}
@@ -13,19 +13,14 @@ use Rattle.laws.proofs.Num.{Num, lit, mul, shr, given, need, kept, read, to_u16,
 use Rattle.bc6h_spec.specs.Half.{sign_extend, finish_s}
 use Rattle.bc6h_spec.proofs.Ranges.{extended_in}
 use Rattle.bc6_half.proofs.Sized.{shrunk, low_pattern, high_pattern, finish_lt}
-use Rattle.bc6_half.proofs.pattern_signed.Goals.{then-x-ltminus1, else-x-ltminus1}
 use Rattle.bc6_half.proofs.pattern_signed.Goals as goal
 
--- below −1, of a number and of what it was read from
-below : {n z : ℤ} {b : Bool} → n ≡ z → lt_z n (negsuc 0) ≡ b → lt_z z (negsuc 0) ≡ b
-below e f = ap (λ (z : ℤ). lt_z z (negsuc 0)) (sym e) ∙ f
+-- the sign and the scaled magnitude, by the test on the number as it is read
+low_sum : (x : ℤ) {n : ℤ} {size sign : ℕ} → n ≡ x → size ≡ 31 * nat_abs x / 32 → lt_z n (negsuc 0) ≡ true → sign ≡ 32768 → sign + size ≡ finish_s x
+low_sum x e a b f = let g : lt_z x (negsuc 0) ≡ true = ap (λ (z : ℤ). lt_z z (negsuc 0)) (sym e) ∙ b in omega (arith, a, f, low_pattern x g)
 
--- the sign and the scaled magnitude
-low_sum : (x : ℤ) {size sign : ℕ} → size ≡ 31 * nat_abs x / 32 → lt_z x (negsuc 0) ≡ true → sign ≡ 32768 → sign + size ≡ finish_s x
-low_sum x a b e = omega (arith, a, e, low_pattern x b)
-
-high_sum : (x : ℤ) {size sign : ℕ} → size ≡ 31 * nat_abs x / 32 → lt_z x (negsuc 0) ≡ false → sign ≡ 0 → sign + size ≡ finish_s x
-high_sum x a b e = omega (arith, a, e, high_pattern x b)
+high_sum : (x : ℤ) {n : ℤ} {size sign : ℕ} → n ≡ x → size ≡ 31 * nat_abs x / 32 → lt_z n (negsuc 0) ≡ false → sign ≡ 0 → sign + size ≡ finish_s x
+high_sum x e a b f = let g : lt_z x (negsuc 0) ≡ false = ap (λ (z : ℤ). lt_z z (negsuc 0)) (sym e) ∙ b in omega (arith, a, f, high_pattern x g)
 
 pub magnitude-requires : goal.magnitude-requires
 magnitude-requires c =
@@ -67,12 +62,11 @@ overflow_add-result c =
     let t : Num = kept (shr 32 (kept product tt)) tt in
     let t_is : t.z ≡ pos (31 * nat_abs x / 32) = ap (λ (z : ℤ). shr_z (z *ℤ pos 31) 32) told ∙ shrunk (nat_abs x) in
     let size : nat_abs t.v ≡ 31 * nat_abs x / 32 = u16_is t t_is in
-    let sum_is : c.if-x-ltminus1.sign + nat_abs t.v ≡ finish_s x =
-    elim c.if-x-ltminus1.branch [
-      | then-x-ltminus1 w ↦ low_sum x size (below number w.if-x-ltminus1.true) w.sign-is
-      | else-x-ltminus1 w ↦ high_sum x size (below number w.if-x-ltminus1.false) w.sign-is
-    ] in
-    record { fits = rw sum_is (finish_lt x inside) }
+    let low : (sign : ℕ) → lt_z (to_z w32 (of_z w32 c.number_16-x.result)) (negsuc 0) ≡ true → sign ≡ 32768 → sign + nat_abs t.v < 65536 =
+    λ s e f. rw (low_sum x number size e f) (finish_lt x inside) in
+    let high : (sign : ℕ) → lt_z (to_z w32 (of_z w32 c.number_16-x.result)) (negsuc 0) ≡ false → sign ≡ 0 → sign + nat_abs t.v < 65536 =
+    λ s e f. rw (high_sum x number size e f) (finish_lt x inside) in
+    record { fits = grind (arith, low, high) }
 
 pub returns : goal.returns
 returns c =
@@ -85,9 +79,6 @@ returns c =
     let t : Num = kept (shr 32 (kept product tt)) tt in
     let t_is : t.z ≡ pos (31 * nat_abs x / 32) = ap (λ (z : ℤ). shr_z (z *ℤ pos 31) 32) told ∙ shrunk (nat_abs x) in
     let size : nat_abs t.v ≡ 31 * nat_abs x / 32 = u16_is t t_is in
-    let sum_is : c.if-x-ltminus1.sign + nat_abs t.v ≡ finish_s x =
-    elim c.if-x-ltminus1.branch [
-      | then-x-ltminus1 w ↦ low_sum x size (below number w.if-x-ltminus1.true) w.sign-is
-      | else-x-ltminus1 w ↦ high_sum x size (below number w.if-x-ltminus1.false) w.sign-is
-    ] in
-    sum_is
+    let low : lt_z (to_z w32 (of_z w32 c.number_16-x.result)) (negsuc 0) ≡ true → 32768 + nat_abs t.v ≡ finish_s x = λ e. low_sum x number size e refl in
+    let high : lt_z (to_z w32 (of_z w32 c.number_16-x.result)) (negsuc 0) ≡ false → 0 + nat_abs t.v ≡ finish_s x = λ e. high_sum x number size e refl in
+    grind (arith, low, high)

@@ -1,8 +1,6 @@
 -- `bc6_valid::endpoints_fit` meets its contract: one place a turn. Assumes nothing.
 use borrow.Author.Rules.{rules}
 use mathlib.Core.Path.{◌∙◌, refl, sym}
-use mathlib.Core.Bool.{true}
-use Prim.Native.Nat.{◌-◌}
 use Rattle.bc6_valid.specs.Validity.{endpoint_fits}
 use Rattle.laws.proofs.Below.{below_more, below_fails, below_upto}
 use Rattle.bc6_valid.proofs.Sizes.{narrow}

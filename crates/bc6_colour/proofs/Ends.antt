@@ -11,7 +11,7 @@ use lib.Pow.{pow_mono}
 use borrow.Author.Tests.{ne_eqb}
 use Rattle.laws.specs.Ranges.{Within, InBits}
 use Rattle.bc6h_spec.specs.declared.Fields.{Fields}
-use Rattle.bc6h_spec.specs.Layout.{precision, own_width, transformed}
+use Rattle.bc6h_spec.specs.Layout.{precision, own_width}
 use Rattle.bc6h_spec.specs.Fields.{Valid}
 use Rattle.bc6h_spec.specs.Picture.{first_end, other_end, endpoint}
 use Rattle.bc6h_spec.proofs.Widths.{known, first_fits, other_fits}

@@ -1,7 +1,6 @@
 -- `bc6_paint::two_regions::paint_two_unsigned` meets its contract: pixels k and 8 + k a turn, a channel of both after the other. Assumes nothing.
 use borrow.Author.Rules.{rules}
 use mathlib.Core.Bool.{false}
-use Prim.Native.Nat.{◌-◌}
 use native.Mathlib.Omega.{arith}
 use Rattle.bc6_paint.specs.Values.{two_second, two_weight}
 use Rattle.bc6_paint.proofs.Pixels.{none_painted, shades_of, turn_painted, all_painted}

@@ -1,7 +1,7 @@
 -- `bc6_blocks::paint_run` meets its contract: a turn paints the next block and counts what it shows. Assumes nothing.
 use mathlib.Core.Path.{◌≡◌}
 use mathlib.Core.List.{◌++◌}
-use Prim.Native.Nat.{◌≤◌, ◌+◌, ◌-◌, ◌*◌}
+use Prim.Native.Nat.{◌≤◌, ◌-◌, ◌*◌}
 use lib.ListN.{length, drop}
 use Rattle.laws.specs.Made.{count_of}
 use Rattle.bc6h_spec.specs.Half.{minus_infinity}

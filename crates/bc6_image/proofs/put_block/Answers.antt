@@ -1,7 +1,7 @@
 -- `bc6_image::put_block` meets its contract: a turn stores the next row. Assumes nothing.
 use borrow.Author.Rules.{rules}
 use mathlib.Core.Path.{◌≡◌, refl}
-use Prim.Native.Nat.{◌*◌, ◌-◌, ◌≤◌}
+use Prim.Native.Nat.{◌*◌, ◌≤◌}
 use native.Mathlib.Omega.{arith}
 use Rattle.bc6_image.proofs.Places.{row_room, block_start, block_step}
 use Rattle.bc6_image.proofs.put_block.Goals as goal

@@ -1,7 +1,6 @@
 -- `bc6_image::put_opaque_row` meets its contract: a turn stores the next pixel. Assumes nothing.
 use borrow.Author.Rules.{rules}
 use mathlib.Core.Path.{◌≡◌, refl}
-use Prim.Native.Nat.{◌-◌}
 use native.Mathlib.Omega.{arith}
 use Rattle.bc6_image.proofs.Places.{opaque_start, opaque_step}
 use Rattle.bc6_image.proofs.put_opaque_row.Goals as goal

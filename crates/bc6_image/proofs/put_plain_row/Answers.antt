@@ -1,7 +1,6 @@
 -- `bc6_image::put_plain_row` meets its contract: a turn stores the next value. Assumes nothing.
 use borrow.Author.Rules.{rules}
 use mathlib.Core.Path.{refl}
-use Prim.Native.Nat.{◌-◌}
 use lib.ListN.{length-set}
 use Rattle.bc6_image.proofs.Places.{plain_start, plain_step, plain_end}
 use Rattle.bc6_image.proofs.put_plain_row.Goals as goal

@@ -1,6 +1,5 @@
 -- `bc6_fields::endpoints_of` meets its contract. Assumes nothing.
 use borrow.Author.Rules.{rules}
-use Prim.Native.Nat.{◌-◌, ◌≤◌}
 use native.Mathlib.Omega.{arith}
 use lib.Dec.{lit≤}
 use Rattle.laws.proofs.Rows.{made_none, made_more, made_all}

@@ -1,6 +1,5 @@
 -- `bc6_writer::packed_indices` meets its contract: one pixel a turn. Assumes nothing.
 use borrow.Author.Rules.{rules}
-use Prim.Native.Nat.{◌-◌}
 use Rattle.bc6_writer.proofs.Packing as laws
 use Rattle.bc6_writer.proofs.packed_indices.Goals as goal
 

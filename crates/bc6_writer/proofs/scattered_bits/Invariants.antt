@@ -1,6 +1,6 @@
 -- `bc6_writer::scattered_bits` meets its contract: one code a turn, from the last. Assumes nothing.
 use mathlib.Core.Path.{◌≡◌}
-use Prim.Native.Nat.{◌-◌, ◌≤◌}
+use Prim.Native.Nat.{◌≤◌}
 use lib.ListN.{length, drop}
 use Rattle.bc6h_spec.specs.Writer.{scattered}
 use Rattle.bc6_fields.specs.Places.{entry}

@@ -1,7 +1,6 @@
 -- `bc6_writer::write_bytes` meets its contract: one byte a turn. Assumes nothing.
 use borrow.Author.Rules.{rules}
 use mathlib.Core.Path.{◌∙◌, refl}
-use Prim.Native.Nat.{◌-◌}
 use Rattle.laws.proofs.Rows.{made_none, made_store, made_all}
 use Rattle.bc6_writer.proofs.Joining.{bytes_made}
 use Rattle.bc6_writer.proofs.write_bytes.Goals as goal

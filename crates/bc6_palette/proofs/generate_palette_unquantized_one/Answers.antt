@@ -1,7 +1,6 @@
 -- `bc6_palette::generate_palette_unquantized_one` meets its contract: a turn stores the next entry. Assumes nothing.
 use borrow.Author.Rules.{rules}
 use mathlib.Core.Path.{refl, ◌∙◌}
-use Prim.Native.Nat.{◌-◌, ◌≤◌}
 use native.Mathlib.Omega.{arith}
 use lib.Dec.{lit≤}
 use Rattle.laws.specs.Made.{made}

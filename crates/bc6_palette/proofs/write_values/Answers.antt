@@ -1,7 +1,6 @@
 -- `bc6_palette::write_values` meets its contract: a turn stores the next value. Assumes nothing.
 use borrow.Author.Rules.{rules}
 use mathlib.Core.Path.{refl}
-use Prim.Native.Nat.{◌-◌}
 use native.Mathlib.Omega.{arith}
 use lib.ListN.{length-set}
 use Rattle.laws.proofs.Rows.{made_none, made_store, made_upto}

@@ -1,0 +1,7 @@
+-- `fields::knot_fields_pixels` meets its contract. Assumes nothing.
+use Rattle.knotpasture.proofs.fields.knot_fields_pixels.Goals as goal
+
+-- what the call leaves is told of the record that the numbers make
+
+pub returns : goal.returns
+returns c = rw c.fields_from.ensures at c.fields_pixels.ensures

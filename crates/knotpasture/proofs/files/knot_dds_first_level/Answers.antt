@@ -1,0 +1,9 @@
+use Rattle.dds.proofs.Reading.{read_most}
+use Rattle.knotpasture.proofs.FileWords.{word_called}
+use Rattle.knotpasture.proofs.files.knot_dds_first_level.Goals as goal
+
+pub read_word-requires : goal.read_word-requires
+read_word-requires c = read_most c.dds_first_level.ensures
+
+pub returns : goal.returns
+returns c = word_called c.dds_first_level.ensures c.read_word.ensures

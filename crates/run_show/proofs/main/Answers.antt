@@ -4,6 +4,7 @@ use Rattle.run_show.proofs.Bytes.{picture_first}
 use Rattle.run_show.proofs.main.Goals as goal
 
 -- what goes out is the definition of what was read
+
 pub write_picture-requires : goal.write_picture-requires
 write_picture-requires c =
     record {

@@ -10,7 +10,7 @@ ghost use Rattle.std.specs.Io.{ReadsAtMost};
 ghost use Rattle.run_streams.specs.Input.{Fits};
 
 use std::io;
-use std::io::{ErrorKind, Read, Stderr};
+use std::io::{Read, Stderr};
 use store_records::Record;
 
 // The bytes of an input that ended or filled its buffer; or a read of it failed.
@@ -23,25 +23,18 @@ pub enum Input {
 // The room for a store that is read, with one byte more than a store may have: enough to tell that one is too long.
 pub const STORE_INPUT: usize = Record::STORE + 1;
 
-// Reads until the input ends or the buffer is full, and answers how many bytes that is. A read that a signal cut off is made again; one that
-// failed is not the end of the input.
+// Reads until the input ends or the buffer is full, and answers how many bytes that is. A read that failed is not the end of the input:
+// its error is the answer, and of the buffer no more is known than its length.
 pub fn read_full(reader: &mut impl Read, buffer: &mut [u8]) -> io::Result<usize>
     ensures { ReadsAtMost result buffer.new }
 {
     let mut size: usize = 0;
-    for _ in 0..u64::MAX {
-        if size >= buffer.len() {
+    while size < buffer.len() {
+        let more = reader.read(&mut buffer[size..])?;
+        if more == 0 {
             break;
         }
-        match reader.read(&mut buffer[size..]) {
-            Ok(0) => break,
-            Ok(more) => size += more,
-            Err(error) => {
-                if error.kind() != ErrorKind::Interrupted {
-                    return Err(error);
-                }
-            }
-        }
+        size += more;
     }
     Ok(size)
 }

@@ -3,7 +3,6 @@ use Prim.Native.Nat.{◌+◌, ◌*◌, ◌≤◌, ◌-◌}
 use lib.ListN.{length}
 use Rattle.text.specs.Text.{Written}
 use Rattle.text_audit.specs.Audit.{audit_lines, Tallied}
-use Rattle.text_audit.proofs.Twins as twins
 use Rattle.text_audit.proofs.put_twins.Given as goal
 
 abbrev pub invariant-loop-n : goal.invariant-loop-n

@@ -3,7 +3,6 @@ use Prim.Native.Nat.{◌*◌, ◌≤◌, ◌-◌}
 use lib.ListN.{length}
 use Rattle.text.specs.Text.{Written}
 use Rattle.text_infinities.specs.Infinities.{infinite_lines, Counted}
-use Rattle.text_infinities.proofs.Findings as findings
 use Rattle.text_infinities.proofs.put_findings.Given as goal
 
 abbrev pub invariant-loop-n : goal.invariant-loop-n

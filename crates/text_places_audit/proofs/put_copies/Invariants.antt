@@ -4,7 +4,6 @@ use lib.ListN.{length}
 use Rattle.text.specs.Text.{Written}
 use Rattle.text_places_audit.specs.Audit.{copy_lines}
 use Rattle.text_places_audit.proofs.Lines.{Tallied}
-use Rattle.text_places_audit.proofs.Lines as lines
 use Rattle.text_places_audit.proofs.put_copies.Given as goal
 
 abbrev pub invariant-loop-n : goal.invariant-loop-n

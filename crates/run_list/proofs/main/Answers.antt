@@ -4,6 +4,7 @@ use Rattle.run_list.specs.Listing.{listing_of}
 use Rattle.run_list.proofs.main.Goals as goal
 
 -- what goes out is the definition of what was read
+
 pub write_listing-requires : goal.write_listing-requires
 write_listing-requires c =
     let put = c.put_listing-end.ensures in

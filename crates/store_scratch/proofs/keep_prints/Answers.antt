@@ -1,6 +1,5 @@
 use borrow.Author.Rules.{rules}
 use mathlib.Core.Path.{refl, ap, ap₂, ◌∙◌}
-use Prim.Native.Nat.{◌-◌}
 use lib.ListN.{length, length-set}
 use Rattle.laws.proofs.Rows.{made_none, made_store, made_upto}
 use Rattle.store_records.proofs.Readings.{unrefused, format_is, refused}

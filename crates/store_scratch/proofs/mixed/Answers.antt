@@ -1,7 +1,6 @@
 use borrow.Author.Rules.{rules}
 use Rattle.store_spec.proofs.Keeping.{mixed_more}
 use mathlib.Core.Path.{◌≡◌, refl}
-use Prim.Native.Nat.{◌-◌}
 use native.Mathlib.Omega.{arith}
 use Rattle.store_spec.specs.Scratch.{picture_mixed}
 use Rattle.store_scratch.proofs.mixed.Goals as goal

@@ -1,6 +1,5 @@
 use borrow.Author.Rules.{rules}
 use mathlib.Core.Path.{◌∙◌}
-use Prim.Native.Nat.{◌-◌}
 use native.Mathlib.Omega.{arith}
 use Rattle.laws.proofs.Counts.{count_none, count_hit, count_miss, count_all}
 use Rattle.store_marks.proofs.count_of.Goals as goal

@@ -1,6 +1,5 @@
 use borrow.Author.Rules.{rules}
 use mathlib.Core.Path.{refl, sym, ◌∙◌}
-use Prim.Native.Nat.{◌-◌}
 use lib.ListN.{length-set}
 use Rattle.laws.proofs.Rows.{made_none, made_store, made_upto}
 use Rattle.laws.proofs.Firsts.{first_none, first_more}

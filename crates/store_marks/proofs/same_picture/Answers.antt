@@ -1,7 +1,6 @@
 use borrow.Author.Rules.{rules}
 use borrow.Author.Count.{below_none, below_more}
 use mathlib.Core.Path.{sym}
-use Prim.Native.Nat.{◌-◌}
 use Rattle.laws.proofs.Sameness.{same_not, same_all}
 use Rattle.store_marks.proofs.same_picture.Goals as goal
 

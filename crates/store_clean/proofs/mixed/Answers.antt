@@ -1,6 +1,5 @@
 use borrow.Author.Rules.{rules}
 use mathlib.Core.Path.{◌≡◌}
-use Prim.Native.Nat.{◌-◌}
 use native.Mathlib.Omega.{arith}
 use Rattle.store_clean.proofs.Linking.{mixed_none, mixed_more}
 use Rattle.store_clean.proofs.mixed.Goals as goal

@@ -1,5 +1,4 @@
 use mathlib.Core.Path.{sym, ◌∙◌}
-use Prim.Native.Nat.{◌-◌}
 use native.Mathlib.Omega.{arith}
 use Rattle.store_receipt.proofs.Telling.{roomy_by, roomy_when}
 use Rattle.store_receipt.proofs.Telling as laws

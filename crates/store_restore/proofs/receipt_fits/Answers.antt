@@ -1,6 +1,4 @@
 use mathlib.Core.Path.{refl, sym, ◌∙◌, ap}
-use mathlib.Core.Bool.{true}
-use Prim.Native.Nat.{◌-◌}
 use native.Mathlib.Omega.{arith}
 use Rattle.laws.proofs.Below.{below_more}
 use Rattle.store_receipt.specs.declared.Entry.{Entry}

@@ -1,5 +1,4 @@
 use mathlib.Core.Path.{sym, ◌∙◌}
-use Prim.Native.Nat.{◌-◌}
 use native.Mathlib.Omega.{arith}
 use Rattle.store_restore.proofs.Fitting.{restorable}
 use Rattle.store_restore.proofs.Restoring as laws

@@ -1,4 +1,3 @@
-use Prim.Native.Nat.{◌-◌}
 use Rattle.text.proofs.Lines as all
 use Rattle.text_clean.proofs.Lines as lines
 use borrow.Author.Rules.{rules}

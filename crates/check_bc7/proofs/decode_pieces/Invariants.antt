@@ -1,7 +1,7 @@
 -- `check_bc7::decode_pieces` meets its contract: a turn writes what the next piece shows. Assumes nothing.
 use mathlib.Core.Path.{◌≡◌}
 use mathlib.Core.List.{◌++◌}
-use Prim.Native.Nat.{◌≤◌, ◌+◌, ◌-◌, ◌*◌}
+use Prim.Native.Nat.{◌≤◌, ◌-◌, ◌*◌}
 use lib.ListN.{length, drop}
 use Rattle.laws.specs.Made.{made, join}
 use Rattle.check_bc7.specs.Shown.{shown_at}

@@ -1,7 +1,6 @@
 -- `check_bc7::put` meets its contract: one store a turn. Assumes nothing.
 use borrow.Author.Rules.{rules}
 use mathlib.Core.Path.{refl}
-use Prim.Native.Nat.{◌-◌}
 use native.Mathlib.Omega.{arith}
 use lib.ListN.{length-set}
 use Rattle.laws.proofs.Rows.{made_none, made_store, made_upto}

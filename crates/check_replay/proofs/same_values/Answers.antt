@@ -1,7 +1,6 @@
 use borrow.Author.Rules.{rules}
 use borrow.Author.Count.{below_none, below_more}
 use mathlib.Core.Path.{sym, ◌∙◌}
-use Prim.Native.Nat.{◌-◌}
 use Rattle.check_replay.proofs.Replayed.{not_same, all_same}
 use Rattle.check_replay.proofs.same_values.Goals as goal
 

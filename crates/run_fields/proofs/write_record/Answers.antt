@@ -1,6 +1,5 @@
 -- `run_fields::write_record` meets its contract: the record's bytes, one a turn. Assumes nothing.
 use mathlib.Core.Path.{refl}
-use Prim.Native.Nat.{◌-◌}
 use Rattle.laws.proofs.Rows.{made_none, made_store, made_upto}
 use borrow.Author.Rules.{rules}
 use Rattle.run_fields.proofs.write_record.Goals as goal

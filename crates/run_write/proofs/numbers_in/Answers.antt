@@ -1,11 +1,9 @@
 -- `run_write::numbers_in` meets its contract: one number a turn. Assumes nothing.
 use borrow.Author.Rules.{rules}
 use mathlib.Core.Path.{refl}
-use Prim.Native.Nat.{◌-◌, ◌≤◌}
 use native.Mathlib.Omega.{arith}
 use lib.Dec.{lit≤}
 use Rattle.laws.proofs.Rows.{made_none, made_store, made_all}
-use Rattle.run_write.specs.Record.{number_in}
 use Rattle.run_write.proofs.numbers_in.Goals as goal
 
 pub loop-k-init : goal.loop-k-init

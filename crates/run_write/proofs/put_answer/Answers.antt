@@ -1,7 +1,6 @@
 -- `run_write::put_answer` meets its contract: one byte a turn. Assumes nothing.
 use borrow.Author.Rules.{rules}
 use mathlib.Core.Path.{refl}
-use Prim.Native.Nat.{◌-◌}
 use Rattle.laws.proofs.Rows.{made_none, made_store, made_upto}
 use Rattle.run_write.proofs.put_answer.Goals as goal
 

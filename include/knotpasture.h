@@ -155,7 +155,7 @@ uint32_t knot_face_rgba(const uint8_t *blocks, size_t blocks_length, size_t widt
  * Modes 11 to 14 have one region: their last two endpoints, partition and region count are 0.
  * Answers the number in the low byte and the mode in the next. Refusals: 1, 2, 4, 3 (fewer than 32 numbers of room).
  *
- * Stack: 1,400 bytes.
+ * Stack: 1,450 bytes.
  */
 uint32_t knot_block_fields(const uint8_t *block, size_t block_length, uint8_t format, uint16_t *numbers, size_t numbers_length);
 
@@ -168,7 +168,7 @@ uint32_t knot_block_fields(const uint8_t *block, size_t block_length, uint8_t fo
  *
  * Answers the number alone. Refusals: 1, 10 (also for another count of numbers than 32), 11, in this order.
  *
- * Stack: 1,400 bytes.
+ * Stack: 1,450 bytes.
  */
 uint32_t knot_write_block(const uint16_t *numbers, size_t numbers_length, uint8_t *out, size_t out_length);
 
@@ -177,7 +177,7 @@ uint32_t knot_write_block(const uint16_t *numbers, size_t numbers_length, uint8_
  *
  * Answers the number alone. Refusals: 1, 10 (also for another count of numbers than 32), 3, in this order.
  *
- * Stack: 1,100 bytes.
+ * Stack: 1,800 bytes.
  */
 uint32_t knot_fields_pixels(const uint16_t *numbers, size_t numbers_length, uint16_t *out, size_t out_length);
 
@@ -252,7 +252,7 @@ size_t knot_first_damaged(const uint8_t *store, size_t store_length);
 /* The first earlier record that record n is a twin of (KNOT_TWIN): its number; n itself where n is no twin, and where knot_record_at refuses n
  * or there is no such record. So record n is a twin exactly where the answer is below n.
  *
- * Stack: 500 bytes.
+ * Stack: 450 bytes.
  */
 size_t knot_first_twin(const uint8_t *store, size_t store_length, size_t n);
 
@@ -302,7 +302,7 @@ uint64_t knot_clean_with_receipt(const uint8_t *store, size_t store_length, uint
  * the one before or not below the number of records, or a record that stays that is not below it), 3 (fewer than 24 bytes of room a record), in
  * this order; the receipt is checked whole before anything is written, and a refusal's word is its number.
  *
- * Stack: 50 bytes.
+ * Stack: 100 bytes.
  */
 uint64_t knot_restore_store(const uint8_t *cleaned, size_t cleaned_length, const uint8_t *receipt, size_t receipt_length, uint8_t *out,
                             size_t out_length);
@@ -472,7 +472,7 @@ uint32_t knot_probe_build(const uint8_t *blocks, size_t blocks_length, uint8_t f
  * signed, no endpoint is after the transform the lowest number of its precision. Two such blocks of one format, mode and partition that
  * show the same 48 values are the same sixteen bytes: deleting one of the two loses nothing. False for any other format or length.
  *
- * Stack: 1,650 bytes.
+ * Stack: 1,700 bytes.
  */
 bool knot_is_trusted(const uint8_t *block, size_t block_length, uint8_t format);
 
@@ -617,7 +617,7 @@ enum {
  * Answers the number in the low byte and the file's length in the bits above it (KNOT_FILE_LENGTH), 0 on a refusal. Refusals: 1, 16, 15, 3
  * (less room than the file has bytes), in this order.
  *
- * Stack: 500 bytes.
+ * Stack: 550 bytes.
  */
 uint64_t knot_exr_write(const uint8_t *blocks, size_t blocks_length, uint8_t format, uint32_t width, uint32_t height, uint8_t *out,
                         size_t out_length);

@@ -1,6 +1,7 @@
 -- `store_trust::entries_differ` meets its contract. The loop's invariant: no entry before i is repeated. Assumes nothing.
 use mathlib.Core.Path.{sym, ap, ◌∙◌}
-use mathlib.Core.Bool.{not}
+use mathlib.Core.Bool.{false, not}
+use Prim.Native.Nat.{◌-◌}
 use borrow.Author.Rules.{rules}
 use Rattle.laws.proofs.Search.{some_none, some_more, some_here, some_upto}
 use Rattle.store_trust.specs.Ramp.{entries_differ}

@@ -1,4 +1,6 @@
 -- `store_trust::is_repeated` meets its contract. The loop's invariant: entry i is none of those before k. Assumes nothing.
+use mathlib.Core.Bool.{false}
+use Prim.Native.Nat.{◌-◌}
 use borrow.Author.Rules.{rules}
 use borrow.Author.Tests.{eq-eqb, ne_eqb}
 use Rattle.laws.proofs.Search.{some_none, some_more, some_here, some_upto}

@@ -1,5 +1,7 @@
 -- `store_trust::reaches` meets its contract. The loop's invariant: no pixel before k is there. Assumes nothing.
 use mathlib.Core.Path.{sym, ◌∙◌}
+use mathlib.Core.Bool.{false}
+use Prim.Native.Nat.{◌-◌}
 use borrow.Author.Rules.{rules}
 use Rattle.laws.proofs.Search.{some_none, some_more, some_here, some_upto}
 use Rattle.store_copies.specs.Trust.{reaches}

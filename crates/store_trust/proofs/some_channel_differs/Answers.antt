@@ -1,7 +1,10 @@
 -- `store_trust::some_channel_differs` meets its contract. The loop's invariant: no channel passed differs throughout. Assumes nothing.
 use mathlib.Core.Path.{sym, ◌∙◌}
+use mathlib.Core.Bool.{false}
+use Prim.Native.Nat.{◌-◌}
 use borrow.Author.Rules.{rules}
 use Rattle.laws.proofs.Search.{some_none, some_more, some_here, some_upto}
+use Rattle.store_trust.specs.Ramp.{entries_differ}
 use Rattle.store_trust.proofs.some_channel_differs.Goals as goal
 
 pub loop-channel-init : goal.loop-channel-init

@@ -1,5 +1,6 @@
 use borrow.Author.Rules.{rules}
 use mathlib.Core.Path.{sym, ◌∙◌}
+use Prim.Native.Nat.{◌-◌}
 use Rattle.laws.proofs.Firsts.{first_none, first_more, first_end, first_at}
 use Rattle.store_twins.specs.Strict.{first_damaged}
 use Rattle.store_twins.proofs.Strictness.{long_none}

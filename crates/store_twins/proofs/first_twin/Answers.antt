@@ -1,5 +1,6 @@
 use borrow.Author.Rules.{rules}
 use mathlib.Core.Path.{sym, ◌∙◌}
+use Prim.Native.Nat.{◌-◌}
 use Rattle.laws.proofs.Firsts.{first_none, first_more, first_end, first_at}
 use Rattle.store_records.proofs.Readings.{unrefused, format_is, refused}
 use Rattle.store_spec.specs.Twins.{first_twin}

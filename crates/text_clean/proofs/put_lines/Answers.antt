@@ -1,3 +1,4 @@
+use Prim.Native.Nat.{◌-◌}
 use Rattle.text.proofs.Lines as all
 use Rattle.text_clean.proofs.Lines as lines
 use borrow.Author.Rules.{rules}

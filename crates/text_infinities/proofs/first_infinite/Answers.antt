@@ -2,6 +2,7 @@
 use borrow.Author.Rules.{rules}
 use borrow.Author.Tests.{eq-eqb, ne_eqb}
 use mathlib.Core.Path.{sym}
+use Prim.Native.Nat.{◌-◌}
 use Rattle.laws.proofs.Firsts.{first_none, first_more, first_end, first_at}
 use Rattle.text_infinities.specs.Infinities.{infinite_at}
 use Rattle.text_infinities.proofs.first_infinite.Goals as goal

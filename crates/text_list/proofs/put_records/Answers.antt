@@ -1,3 +1,4 @@
+use Prim.Native.Nat.{◌-◌}
 use Rattle.text.proofs.Lines.{no_lines, line_more, lines_upto}
 use borrow.Author.Rules.{rules}
 use Rattle.text_list.proofs.put_records.Goals as goal

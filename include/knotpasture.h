@@ -12,7 +12,7 @@
  * No function keeps a pointer, allocates memory, has state of its own or fails: each answers for every input. A pointer is
  * followed by its length, in elements; it may be null where the length is 0. Lent input and lent output must not overlap.
  * The calls may run on any number of threads at once. "Stack" is what a call needs at most below its caller's frame, its return
- * address with it, in the archive for x86-64; what the C library's memset takes for itself is not in it.
+ * address with it, in the archive for x86-64; what the C library's memset and memcpy take for themselves is not in it.
  *
  * An answer is one word. Its low byte is a number of this table, and 0 means done. Where several refusals apply, the order
  * that each call names decides, first met first; "record by record" is the lowest record first, with all of its checks. A refusal

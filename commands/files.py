@@ -71,7 +71,7 @@ def some_of(file, at, size):
 
 
 def read_through(file, most):
-    """How many bytes an open file has, by reading it; it goes on for no more than `most` and a piece. A program takes a read that fails for the end."""
+    """How many bytes an open file has, by reading it; it goes on for no more than `most` and a piece."""
     at = 0
     while at <= most and (piece := some_of(file, at, 1 << 20)):
         at += len(piece)

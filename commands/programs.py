@@ -6,7 +6,7 @@ program is, and takes nothing else. What a program writes to standard error is n
 import os
 
 from .ends import ROOT, Refused, Trouble, meaning, module_at
-from .files import reason, shown, write_all
+from .files import read_through, reason, shown, write_all
 
 INSTALLED = os.path.join(ROOT, "programs")
 # The SHA-256 sums of an installation, by the paths below its prefix.
@@ -84,6 +84,9 @@ def hold_status(name, status, told):
 def program(name, data, words=()):
     """Runs a proved program over `data`, bytes or an open file: what it writes to standard output and to standard error."""
     status, out, told = run(command_of(name, words), data)
+    if status == 1 and isinstance(data, int):
+        # A program ends so where a read or a write of it failed: of a file that cannot be read, this read says why.
+        read_through(data, os.fstat(data).st_size)
     hold_status(name, status, told)
     return out, told
 

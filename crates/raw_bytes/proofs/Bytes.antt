@@ -20,19 +20,11 @@ module _ (bytes : List ℕ) (at : ℕ) where
   unfolding low_first
   four_bytes = rw (add-zero at) (omega arith)
 
-  pub half_bytes : {a b c d : ℕ} → a ≡ get_or bytes at 0 → b ≡ get_or bytes (at + 1) 0 → c ≡ get_or bytes (at + 2) 0 → d ≡ get_or bytes (at + 3) 0
-      → a + 0x100 * b + 0x10000 * c + 0x1000000 * d ≡ low_first bytes at 4
-  half_bytes ea eb ec ed = omega (arith, ea, eb, ec, ed, four_bytes)
-
-  pub eight_bytes : {x y : ℕ} → x ≡ low_first bytes at 4 → y ≡ low_first bytes (at + 4) 4 → x + 0x100000000 * y ≡ low_first bytes at 8
+  pub eight_bytes : get_or bytes at 0 + get_or bytes (at + 1) 0 * 0x100 + get_or bytes (at + 2) 0 * 0x10000 + get_or bytes (at + 3) 0 * 0x1000000
+      + get_or bytes (at + 4) 0 * 0x100000000 + get_or bytes (at + 5) 0 * 0x10000000000 + get_or bytes (at + 6) 0 * 0x1000000000000
+      + get_or bytes (at + 7) 0 * 0x100000000000000 ≡ low_first bytes at 8
   unfolding low_first
-  eight_bytes ex ey =
-      let e0 : at + 4 + 0 ≡ at + 4 = omega arith in
-      let e1 : at + 4 + 1 ≡ at + 5 = omega arith in
-      let e2 : at + 4 + 2 ≡ at + 6 = omega arith in
-      let e3 : at + 4 + 3 ≡ at + 7 = omega arith in
-      let f : _ ≡ _ = rw (e0, e1, e2, e3) at ey in
-      omega (arith, ex, f)
+  eight_bytes = rw (add-zero at) (omega arith)
 
 -- equal bytes make equal numbers
 pub bytes_same : (a b : List ℕ) (i j count : ℕ) → ((k : ℕ) → k < count → get_or a (i + k) 0 ≡ get_or b (j + k) 0) → low_first a i count ≡ low_first b j count

@@ -11,31 +11,25 @@ ghost use Rattle.raw_bytes.specs.Bytes.{low_first, low_or_high};
 pub fn u8_to_u16(byte: u8) -> u16
     ensures { (result ≡ byte) × (result < 0x100) }
 {
-    byte as u16
-}
-
-fn u8_to_u32(byte: u8) -> u32
-    ensures { (result ≡ byte) × (result < 0x100) }
-{
-    byte as u32
+    u16::from(byte)
 }
 
 pub fn u8_to_u64(byte: u8) -> u64
     ensures { (result ≡ byte) × (result < 0x100) }
 {
-    byte as u64
+    u64::from(byte)
 }
 
 pub fn u16_to_u64(value: u16) -> u64
     ensures { (result ≡ value) × (result < 0x10000) }
 {
-    value as u64
+    u64::from(value)
 }
 
 pub fn u16_to_usize(value: u16) -> usize
     ensures { (result ≡ value) × (result < 0x10000) }
 {
-    value as usize
+    usize::from(value)
 }
 
 pub fn u32_to_usize(value: u32) -> usize
@@ -50,35 +44,30 @@ pub fn u16_at(bytes: &[u8], at: usize) -> u16
     requires { at + 2 ≤ length bytes.now }
     ensures { result ≡ low_first bytes.now at 2 }
 {
-    u8_to_u16(bytes[at]) + u8_to_u16(bytes[at + 1]) * 0x100
+    u16::from_le_bytes([bytes[at], bytes[at + 1]])
 }
 
 pub fn u32_at(bytes: &[u8], at: usize) -> u32
     requires { at + 4 ≤ length bytes.now }
     ensures { result ≡ low_first bytes.now at 4 }
 {
-    u8_to_u32(bytes[at])
-        + u8_to_u32(bytes[at + 1]) * 0x100
-        + u8_to_u32(bytes[at + 2]) * 0x10000
-        + u8_to_u32(bytes[at + 3]) * 0x1000000
-}
-
-// Four bytes, as half of a 64-bit number.
-fn half_at(bytes: &[u8], at: usize) -> u64
-    requires { at + 4 ≤ length bytes.now }
-    ensures { (result ≡ low_first bytes.now at 4) × (result < 0x100000000) }
-{
-    u8_to_u64(bytes[at])
-        + 0x100 * u8_to_u64(bytes[at + 1])
-        + 0x10000 * u8_to_u64(bytes[at + 2])
-        + 0x1000000 * u8_to_u64(bytes[at + 3])
+    u32::from_le_bytes([bytes[at], bytes[at + 1], bytes[at + 2], bytes[at + 3]])
 }
 
 pub fn u64_at(bytes: &[u8], at: usize) -> u64
     requires { at + 8 ≤ length bytes.now }
     ensures { result ≡ low_first bytes.now at 8 }
 {
-    half_at(bytes, at) + 0x100000000 * half_at(bytes, at + 4)
+    u64::from_le_bytes([
+        bytes[at],
+        bytes[at + 1],
+        bytes[at + 2],
+        bytes[at + 3],
+        bytes[at + 4],
+        bytes[at + 5],
+        bytes[at + 6],
+        bytes[at + 7],
+    ])
 }
 
 // ---- the two bytes of a number
@@ -99,11 +88,7 @@ pub fn high_byte(value: u16) -> u8
 pub fn low_or_high(value: u16, k: usize) -> u8
     ensures { result ≡ low_or_high value k }
 {
-    if k % 2 == 0 {
-        low_byte(value)
-    } else {
-        high_byte(value)
-    }
+    value.to_le_bytes()[k % 2]
 }
 
 // ---- runs of bytes
@@ -113,12 +98,7 @@ pub fn same_bytes(a: &[u8], b: &[u8], size: usize) -> bool
     requires { (length a.now ≡ size) × (length b.now ≡ size) }
     ensures { result ≡ same a.now b.now }
 {
-    for k in 0..size {
-        if a[k] != b[k] {
-            return false;
-        }
-    }
-    true
+    a == b
 }
 
 // Copies `size` bytes of `from`, beginning at `at`, into `out` at `to`.
@@ -127,9 +107,7 @@ pub fn copy_part(from: &[u8], at: usize, size: usize, out: &mut [u8], to: usize)
     requires size_in_bounds_2 { to + size ≤ length out.old }
     ensures { out.new ≡ paste out.old to (drop at from.now) size }
 {
-    for k in 0..size {
-        out[to + k] = from[at + k];
-    }
+    out[to..to + size].copy_from_slice(&from[at..at + size]);
 }
 
 // Copies `size` bytes of `out` that begin at `from` and end before `to`, to `to`.
@@ -137,7 +115,5 @@ pub fn copy_within(out: &mut [u8], from: usize, size: usize, to: usize)
     requires { (from + size ≤ to) × (to + size ≤ length out.old) }
     ensures { out.new ≡ paste out.old to (drop from out.old) size }
 {
-    for k in 0..size {
-        out[to + k] = out[from + k];
-    }
+    out.copy_within(from..from + size, to);
 }

@@ -47,7 +47,7 @@ low_part : (size n a b : ℕ) → n ≡ a + size * b → a < size → n % size �
 low_part size n a b e h = ap (λ (x : ℕ). x % size) e ∙ add-mul-mod_self_left a size b ∙ mod-eq_of_lt h
 
 module _ (p row : ℕ) (h : p < 64) (e : row ≡ packed_row_2 p) where
-  pub small2 : row / 65536 < 256
+  pub small2 : row < 0x1000000
   small2 = let f = fits 0 p (omega arith) h in omega (arith, e, f.ones, f.low)
 
   pub apart2 : record { subset_indexes = row % 65536; fixup_index_2 = row / 65536 } ≡ row2 p

@@ -1,5 +1,5 @@
 -- `Subset2Map::of` meets its contract: the number of a row, taken apart. Assumes nothing.
-use mathlib.Core.Path.{◌≡◌}
+use mathlib.Core.Path.{◌≡◌, ◌∙◌}
 use Prim.Native.Nat.{ℕ, ◌/◌, ◌%◌, ◌<◌}
 use native.Mathlib.Omega.{arith}
 use Rattle.bcn_spec.specs.Regions.{map_of, fixup_of}
@@ -17,14 +17,14 @@ module _ (partition row : ℕ) (h : partition < 32) (e : row ≡ packed_row part
   unfolding packed_row
   high = let r = (rule partition h).map_fits in omega (arith, e)
 
-  small : row / 65536 < 256
+  small : row < 0x1000000
   small = let r = (rule partition h).fixup_fits in omega (arith, high)
 
-pub overflow_cast-result-2 : goal.overflow_cast-result-2
-overflow_cast-result-2 c = record { fits = small _ _ c.requires (row_is c.packed_row-row.ensures) }
+pub unpacked-requires : goal.unpacked-requires
+unpacked-requires c = small _ _ c.requires (row_is c.packed_row.ensures)
 
 pub returns : goal.returns
 returns c =
     let p = c.requires in
-    let e = row_is c.packed_row-row.ensures in
-    λ i. record { subset_indexes = low _ _ p e i; fixup_index_2 = high _ _ p e i }
+    let e = row_is c.packed_row.ensures in
+    c.unpacked.ensures ∙ (λ i. record { subset_indexes = low _ _ p e i; fixup_index_2 = high _ _ p e i })

@@ -30,18 +30,12 @@ module _ (n top : ℕ) (h : n < 2 ^ 63) where
 pub record FewBits (t b : ℕ) : Type 0 where
   pub below : b < 2 ^ t
 
--- what was read has t bits, and each top bit that is put in adds one: so it stays below 2 ^ 63
-pub read_fits : (n t b : ℕ) → b ≡ n % 2 ^ t → FewBits t b
-read_fits n t b e = record { below = subst (λ (x : ℕ). x < 2 ^ t) (sym e) (mod-lt n (pow_pos t)) }
-
+-- each top bit that is put in adds one: so what was read stays below 2 ^ 63
 pub opened_fits : {t b : ℕ} (top x : ℕ) → FewBits t b → x ≡ opened top b → FewBits (t + 1) x
 opened_fits {t} {b} top x h o =
     let e : 2 ^ (t + 1) ≡ 2 ^ t * 2 = pow-add 2 t 1 in
     let l : x < 2 ^ (t + 1) = omega (arith, opened_le top b, o, h.below) in
     record { below = l }
-
-pub short : {t b : ℕ} → FewBits t b → t ≤ 63 → b < 2 ^ 63
-short h l = lt_of_lt_of_le h.below (pow_mono l)
 
 -- an index fits a byte
 pub index_fits : (x bits : ℕ) → bits ≤ 4 → x % ((1 * 2 ^ bits) % 2 ^ 64) < 256

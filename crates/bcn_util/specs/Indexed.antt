@@ -1,7 +1,13 @@
 -- S-13, S-14: indexes at full width in one word. Assumes nothing.
-use Rattle.std.specs.Prelude.{List, [], ◌∷◌, ℕ, ◌+◌, ◌-◌, ◌*◌, ◌/◌, ◌%◌, ◌^◌, length}
+use Rattle.std.specs.Prelude.{List, [], ◌∷◌, ℕ, ◌+◌, ◌-◌, ◌*◌, ◌/◌, ◌%◌, ◌^◌, ◌≤◌, ◌<◌, length, get_or}
 use Rattle.laws.specs.Packed.{opened}
 use Rattle.bcn_util.specs.declared.Indexes.{Indexes}
+
+-- at least one fix-up pixel, and at most one for each pixel
+pub record FixupsFit (fixups : List ℕ) : Type 0 where
+  pub some : 1 ≤ length fixups
+  pub few : length fixups ≤ 16
+  pub inside : (k : ℕ) → k < length fixups → get_or fixups k 0 ≤ 15
 
 -- how many bits sixteen indexes take as stored
 abbrev pub stored_count : ℕ → List ℕ → ℕ

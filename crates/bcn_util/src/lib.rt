@@ -5,7 +5,7 @@ ghost use Rattle.std.specs.Prelude.{◌≡◌, [], ◌∷◌, ◌+◌, ◌-◌, 
 ghost use Rattle.laws.specs.Packed.{opened};
 ghost use Rattle.bcn_spec.specs.Bits.{number_of};
 ghost use Rattle.bcn_util.specs.Stream.{number, BitsRead};
-ghost use Rattle.bcn_util.specs.Indexed.{indexes_of, index_at};
+ghost use Rattle.bcn_util.specs.Indexed.{FixupsFit, indexes_of, index_at};
 
 use raw_bytes::u64_at;
 
@@ -89,11 +89,7 @@ impl Indexes {
         requires { (1 ≤ bits) × (bits ≤ 4) }
         ensures { result ≡ indexes_of bits (0 ∷ []) (number stream) }
     {
-        let read = stream.consume_bits(16 * bits - 1);
-        Indexes {
-            uncompressed: Indexes::decompress_single_index(bits, read.bits, 0),
-            bits,
-        }
+        Indexes::read(bits, stream, &[0])
     }
 
     // Two regions: so is the fix-up pixel of region 1.
@@ -101,12 +97,7 @@ impl Indexes {
         requires { (1 ≤ bits) × (bits ≤ 4) × (1 ≤ fixup) × (fixup ≤ 15) }
         ensures { result ≡ indexes_of bits (0 ∷ fixup ∷ []) (number stream) }
     {
-        let read = stream.consume_bits(16 * bits - 2);
-        let first = Indexes::decompress_single_index(bits, read.bits, 0);
-        Indexes {
-            uncompressed: Indexes::decompress_single_index(bits, first, fixup),
-            bits,
-        }
+        Indexes::read(bits, stream, &[0, fixup])
     }
 
     // Three regions: so are the fix-up pixels of regions 1 and 2, the lower pixel first.
@@ -114,13 +105,19 @@ impl Indexes {
         requires { (1 ≤ bits) × (bits ≤ 4) × (1 ≤ low) × (low < high) × (high ≤ 15) }
         ensures { result ≡ indexes_of bits (0 ∷ low ∷ high ∷ []) (number stream) }
     {
-        let read = stream.consume_bits(16 * bits - 3);
-        let first = Indexes::decompress_single_index(bits, read.bits, 0);
-        let second = Indexes::decompress_single_index(bits, first, low);
-        Indexes {
-            uncompressed: Indexes::decompress_single_index(bits, second, high),
-            bits,
+        Indexes::read(bits, stream, &[0, low, high])
+    }
+
+    // The indexes of which those at the given pixels, in rising order, are stored with one bit fewer.
+    fn read(bits: u64, stream: BitStream, fixups: &[u64]) -> Indexes
+        requires { (1 ≤ bits) × (bits ≤ 4) × FixupsFit fixups.now }
+        ensures { result ≡ indexes_of bits fixups.now (number stream) }
+    {
+        let mut uncompressed = stream.consume_bits(16 * bits - fixups.len() as u64).bits;
+        for pixel in fixups {
+            uncompressed = Indexes::decompress_single_index(bits, uncompressed, *pixel);
         }
+        Indexes { uncompressed, bits }
     }
 
     // A zero put in as the top bit of an index. What stands above is moved up by one, that is, added once more.

@@ -57,6 +57,7 @@ impl ModeBits {
         }
     }
 
+    #[tactic(auto, unfolding(crate::specs::Modes::bits_for, bc6h_spec::specs::Layout::transformed))]
     pub fn of(mode: u8) -> Self
         requires { (1 ≤ mode) × (mode ≤ 14) }
         ensures { result ≡ bits_for mode }

@@ -22,11 +22,7 @@ fn endpoints_of(places: [u16; 14]) -> [u16; 12]
     ensures { result ≡ made (entry places) 12 }
 {
     let mut endpoints = [0u16; 12];
-    let mut k = 0;
-    while k < 12 {
-        endpoints[k] = places[k];
-        k += 1;
-    }
+    endpoints.copy_from_slice(&places[..12]);
     endpoints
 }
 
@@ -35,10 +31,8 @@ fn indices_of(indexes: Indexes) -> [u8; 16]
     ensures { result ≡ made (index_at indexes) 16 }
 {
     let mut indices = [0u8; 16];
-    let mut k = 0;
-    while k < 16 {
-        indices[k] = indexes.get_index(k as u64);
-        k += 1;
+    for (pixel, index) in indices.iter_mut().enumerate() {
+        *index = indexes.get_index(pixel as u64);
     }
     indices
 }

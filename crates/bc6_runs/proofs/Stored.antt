@@ -8,8 +8,6 @@ use lib.Dec.{lit<, lit≤}
 use lib.IntN.{ℤ, pos}
 use lib.ListN.{get_or}
 use Rattle.laws.specs.Ranges.{Below}
-use Rattle.bcn_util.specs.declared.BitStream.{BitStream}
-use Rattle.bcn_util.specs.Stream.{number}
 use Rattle.bcn_util.specs.Runs.{sum}
 use Rattle.bc6h_spec.specs.declared.Fields.{Fields}
 use Rattle.bc6h_spec.specs.Layout.{row, precision, own_width}
@@ -69,8 +67,7 @@ row_read m n c is =
     ∙ four_same (row_sums (row m) n c) (places_of m n c) (run_law (row m) n (3 * 0 + c)) (run_law (row m) n (3 * 1 + c)) (run_law (row m) n (3 * 2 + c))
     (run_law (row m) n (3 * 3 + c))
 
--- the tables of a mode, read from a stream of two words
-pub runs_read : (m : ℕ) → 1 ≤ m → m ≤ 14 → {s t : BitStream} → s ≡ t → {r : Channels} → r.red ≡ four_of (row_sums (row m) (number s) 0)
-    → r.green ≡ four_of (row_sums (row m) (number s) 1) → r.blue ≡ four_of (row_sums (row m) (number s) 2) → ChannelsRead m (number t) r
-runs_read m low high {s} {t} e {r} er eg eb =
-    subst (λ (x : BitStream). ChannelsRead m (number x) r) e (channels_read m (number s) low high (row_read m _ 0 er) (row_read m _ 1 eg) (row_read m _ 2 eb))
+-- the tables of a mode
+pub runs_read : (m : ℕ) → 1 ≤ m → m ≤ 14 → {n : ℕ} {r : Channels} → r.red ≡ four_of (row_sums (row m) n 0) → r.green ≡ four_of (row_sums (row m) n 1)
+    → r.blue ≡ four_of (row_sums (row m) n 2) → ChannelsRead m n r
+runs_read m low high {n} {r} er eg eb = channels_read m n low high (row_read m _ 0 er) (row_read m _ 1 eg) (row_read m _ 2 eb)

@@ -46,6 +46,12 @@ pub record ChannelRead (mode n c : ℕ) (l : List ℤ) : Type 0 where
   pub third : Below (2 ^ own_width mode c) (get_or l 2 (pos 0))
   pub fourth : Below (2 ^ own_width mode c) (get_or l 3 (pos 0))
 
+-- the numbers of three tables of runs, one a channel
+pub record ByTables (reds greens blues : List ℕ) (n : ℕ) (r : Channels) : Type 0 where
+  pub red : r.red ≡ four_of (sum_at n reds)
+  pub green : r.green ≡ four_of (sum_at n greens)
+  pub blue : r.blue ≡ four_of (sum_at n blues)
+
 pub record ChannelsRead (mode n : ℕ) (r : Channels) : Type 0 where
   pub red : ChannelRead mode n 0 r.red
   pub green : ChannelRead mode n 1 r.green

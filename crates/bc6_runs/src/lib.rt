@@ -7,7 +7,7 @@ pub mod one_region;
 ghost use Rattle.std.specs.Prelude.{◌≡◌, ◌+◌, ◌/◌, ◌%◌, ◌^◌, T};
 ghost use Rattle.bcn_util.specs.Stream.{number};
 ghost use Rattle.bcn_util.specs.Runs.{part, readable};
-ghost use Rattle.bc6_runs.specs.Ends.{four_of, run_in, sum_at, fits, ChannelsRead};
+ghost use Rattle.bc6_runs.specs.Ends.{four_of, run_in, sum_at, fits, ByTables, ChannelsRead};
 
 use bcn_util::BitStream;
 
@@ -25,17 +25,16 @@ fn run(stream: BitStream, code: u32) -> u64
     read.bits << shift
 }
 
-// The runs of a table, each added to its endpoint's number. A caller's table is literal, so that the compiler writes the runs out one after the
+// The runs of a table, each added to its endpoint's number. A mode's table is literal, so that the compiler writes the runs out one after the
 // other.
 fn word(stream: BitStream, runs: &[u32]) -> [i32; 4]
     requires { T (fits runs.now) }
     ensures { result ≡ four_of (sum_at (number stream) runs.now) }
 {
     let mut numbers = [0i32; 4];
-    for k in 0..runs.len() {
-        let code = runs[k];
-        let e = ((code / 0x10) % 4) as usize;
-        numbers[e] = numbers[e] + (run(stream, code) as i32);
+    for code in runs {
+        let e = ((*code / 0x10) % 4) as usize;
+        numbers[e] = numbers[e] + (run(stream, *code) as i32);
     }
     numbers
 }
@@ -55,11 +54,26 @@ pub struct Channels {
     pub blue: [i32; 4],
 }
 
+// The channels of a mode, whose tables its own function below has. It is taken into that function, so that the tables stay literal.
+#[inline(always)]
+fn by_tables(lo: u64, hi: u64, red: &[u32], green: &[u32], blue: &[u32]) -> Channels
+    requires reds { T (fits red.now) }
+    requires greens { T (fits green.now) }
+    requires blues { T (fits blue.now) }
+    ensures { ByTables red.now green.now blue.now (number (record { lo = lo; hi = hi })) result }
+{
+    let stream = BitStream::of(lo, hi);
+    Channels {
+        red: word(stream, red),
+        green: word(stream, green),
+        blue: word(stream, blue),
+    }
+}
+
 // M10_555
 pub fn channels_1(lo: u64, hi: u64) -> Channels
     ensures { ChannelsRead 1 (number (record { lo = lo; hi = hi })) result }
 {
-    let s = BitStream::of(lo, hi);
     let red_runs = [
         0x050A00, // rw[9:0]
         0x230510, // rx[4:0]
@@ -85,17 +99,13 @@ pub fn channels_1(lo: u64, hi: u64) -> Channels
         0x460132, // bz[2]
         0x4C0133, // bz[3]
     ];
-    let red = word(s, &red_runs);
-    let green = word(s, &green_runs);
-    let blue = word(s, &blue_runs);
-    Channels { red, green, blue }
+    by_tables(lo, hi, &red_runs, &green_runs, &blue_runs)
 }
 
 // M7_666
 pub fn channels_2(lo: u64, hi: u64) -> Channels
     ensures { ChannelsRead 2 (number (record { lo = lo; hi = hi })) result }
 {
-    let s = BitStream::of(lo, hi);
     let red_runs = [
         0x050700, // rw[6:0]
         0x230610, // rx[5:0]
@@ -123,17 +133,13 @@ pub fn channels_2(lo: u64, hi: u64) -> Channels
         0x210135, // bz[5]
         0x220134, // bz[4]
     ];
-    let red = word(s, &red_runs);
-    let green = word(s, &green_runs);
-    let blue = word(s, &blue_runs);
-    Channels { red, green, blue }
+    by_tables(lo, hi, &red_runs, &green_runs, &blue_runs)
 }
 
 // M11_544
 pub fn channels_3(lo: u64, hi: u64) -> Channels
     ensures { ChannelsRead 3 (number (record { lo = lo; hi = hi })) result }
 {
-    let s = BitStream::of(lo, hi);
     let red_runs = [
         0x050A00, // rw[9:0]
         0x28010A, // rw[10]
@@ -158,17 +164,13 @@ pub fn channels_3(lo: u64, hi: u64) -> Channels
         0x460132, // bz[2]
         0x4C0133, // bz[3]
     ];
-    let red = word(s, &red_runs);
-    let green = word(s, &green_runs);
-    let blue = word(s, &blue_runs);
-    Channels { red, green, blue }
+    by_tables(lo, hi, &red_runs, &green_runs, &blue_runs)
 }
 
 // M11_454
 pub fn channels_4(lo: u64, hi: u64) -> Channels
     ensures { ChannelsRead 4 (number (record { lo = lo; hi = hi })) result }
 {
-    let s = BitStream::of(lo, hi);
     let red_runs = [
         0x050A00, // rw[9:0]
         0x27010A, // rw[10]
@@ -195,17 +197,13 @@ pub fn channels_4(lo: u64, hi: u64) -> Channels
         0x460132, // bz[2]
         0x4C0133, // bz[3]
     ];
-    let red = word(s, &red_runs);
-    let green = word(s, &green_runs);
-    let blue = word(s, &blue_runs);
-    Channels { red, green, blue }
+    by_tables(lo, hi, &red_runs, &green_runs, &blue_runs)
 }
 
 // M11_445
 pub fn channels_5(lo: u64, hi: u64) -> Channels
     ensures { ChannelsRead 5 (number (record { lo = lo; hi = hi })) result }
 {
-    let s = BitStream::of(lo, hi);
     let red_runs = [
         0x050A00, // rw[9:0]
         0x27010A, // rw[10]
@@ -231,17 +229,13 @@ pub fn channels_5(lo: u64, hi: u64) -> Channels
         0x4B0134, // bz[4]
         0x4C0133, // bz[3]
     ];
-    let red = word(s, &red_runs);
-    let green = word(s, &green_runs);
-    let blue = word(s, &blue_runs);
-    Channels { red, green, blue }
+    by_tables(lo, hi, &red_runs, &green_runs, &blue_runs)
 }
 
 // M9_555
 pub fn channels_6(lo: u64, hi: u64) -> Channels
     ensures { ChannelsRead 6 (number (record { lo = lo; hi = hi })) result }
 {
-    let s = BitStream::of(lo, hi);
     let red_runs = [
         0x050900, // rw[8:0]
         0x230510, // rx[4:0]
@@ -267,17 +261,13 @@ pub fn channels_6(lo: u64, hi: u64) -> Channels
         0x460132, // bz[2]
         0x4C0133, // bz[3]
     ];
-    let red = word(s, &red_runs);
-    let green = word(s, &green_runs);
-    let blue = word(s, &blue_runs);
-    Channels { red, green, blue }
+    by_tables(lo, hi, &red_runs, &green_runs, &blue_runs)
 }
 
 // M8_655
 pub fn channels_7(lo: u64, hi: u64) -> Channels
     ensures { ChannelsRead 7 (number (record { lo = lo; hi = hi })) result }
 {
-    let s = BitStream::of(lo, hi);
     let red_runs = [
         0x050800, // rw[7:0]
         0x230610, // rx[5:0]
@@ -302,17 +292,13 @@ pub fn channels_7(lo: u64, hi: u64) -> Channels
         0x320130, // bz[0]
         0x3C0131, // bz[1]
     ];
-    let red = word(s, &red_runs);
-    let green = word(s, &green_runs);
-    let blue = word(s, &blue_runs);
-    Channels { red, green, blue }
+    by_tables(lo, hi, &red_runs, &green_runs, &blue_runs)
 }
 
 // M8_565
 pub fn channels_8(lo: u64, hi: u64) -> Channels
     ensures { ChannelsRead 8 (number (record { lo = lo; hi = hi })) result }
 {
-    let s = BitStream::of(lo, hi);
     let red_runs = [
         0x050800, // rw[7:0]
         0x230510, // rx[4:0]
@@ -340,17 +326,13 @@ pub fn channels_8(lo: u64, hi: u64) -> Channels
         0x460132, // bz[2]
         0x4C0133, // bz[3]
     ];
-    let red = word(s, &red_runs);
-    let green = word(s, &green_runs);
-    let blue = word(s, &blue_runs);
-    Channels { red, green, blue }
+    by_tables(lo, hi, &red_runs, &green_runs, &blue_runs)
 }
 
 // M8_556
 pub fn channels_9(lo: u64, hi: u64) -> Channels
     ensures { ChannelsRead 9 (number (record { lo = lo; hi = hi })) result }
 {
-    let s = BitStream::of(lo, hi);
     let red_runs = [
         0x050800, // rw[7:0]
         0x230510, // rx[4:0]
@@ -378,17 +360,13 @@ pub fn channels_9(lo: u64, hi: u64) -> Channels
         0x460132, // bz[2]
         0x4C0133, // bz[3]
     ];
-    let red = word(s, &red_runs);
-    let green = word(s, &green_runs);
-    let blue = word(s, &blue_runs);
-    Channels { red, green, blue }
+    by_tables(lo, hi, &red_runs, &green_runs, &blue_runs)
 }
 
 // M6_666
 pub fn channels_10(lo: u64, hi: u64) -> Channels
     ensures { ChannelsRead 10 (number (record { lo = lo; hi = hi })) result }
 {
-    let s = BitStream::of(lo, hi);
     let red_runs = [
         0x050600, // rw[5:0]
         0x230610, // rx[5:0]
@@ -417,8 +395,5 @@ pub fn channels_10(lo: u64, hi: u64) -> Channels
         0x210135, // bz[5]
         0x220134, // bz[4]
     ];
-    let red = word(s, &red_runs);
-    let green = word(s, &green_runs);
-    let blue = word(s, &blue_runs);
-    Channels { red, green, blue }
+    by_tables(lo, hi, &red_runs, &green_runs, &blue_runs)
 }

@@ -4,15 +4,6 @@ use Rattle.bc6h_spec.specs.Layout.{rows, row9}
 use Rattle.bc6_runs.proofs.Stored.{runs_read}
 use Rattle.bc6_runs.proofs.channels_9.Goals as goal
 
-pub word-red-requires : goal.word-red-requires
-word-red-requires c = tt
-
-pub word-green-requires : goal.word-green-requires
-word-green-requires c = tt
-
-pub word-blue-requires : goal.word-blue-requires
-word-blue-requires c = tt
-
 pub returns : goal.returns
 unfolding rows row9
-returns c = runs_read 9 (lit≤ tt) (lit≤ tt) c.of-s.ensures c.word-red.ensures c.word-green.ensures c.word-blue.ensures
+returns c = let e = c.by_tables.ensures in runs_read 9 (lit≤ tt) (lit≤ tt) e.red e.green e.blue

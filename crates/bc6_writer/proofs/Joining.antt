@@ -1,10 +1,12 @@
 -- The block's two words, and its bytes. Assumes nothing.
 use mathlib.Core.Path.{◌≡◌, ◌∙◌, refl, sym, ap, ap₂, subst}
-use mathlib.Core.List.{List, ◌∷◌}
+use mathlib.Core.List.{List, [], ◌∷◌, ◌++◌}
 use Prim.Native.Nat.{ℕ, zero, suc, ◌+◌, ◌-◌, ◌*◌, ◌/◌, ◌%◌, ◌^◌, ◌≤◌, ◌<◌}
 use native.Mathlib.Nat.{mul_assoc, mul_comm, add-mul-div_left, add-mul-mod_self_left}
 use native.Mathlib.Omega.{arith}
 use lib.Arith.{digits_lt}
+use lib.Dec.{lit<, lit≤}
+use Rattle.std.specs.Int.{w64, to_le_bytes}
 use lib.Pow.{pow-add, pow_pos, shr-shr, shl_exact, shr_lt}
 use Rattle.laws.specs.Made.{made}
 use Rattle.laws.specs.Packed.{before, packed}
@@ -111,3 +113,15 @@ bytes_made zero n = refl
 bytes_made (suc t) n =
     made_front (number_byte n) t
     ∙ ap₂ (λ (x : ℕ) (l : List ℕ). x ∷ l) (let e : n / 1 % 256 ≡ n % 256 = omega arith in e) (made-cong _ _ (next_byte n) t ∙ bytes_made t (n / 256))
+
+-- the bytes of both words, one after the other
+pub two_words : (lo hi : ℕ) → lo < 2 ^ 64 → to_le_bytes w64 lo ++ to_le_bytes w64 hi ≡ low_bytes 16 (lo + 2 ^ 64 * hi)
+unfolding made
+two_words lo hi h =
+    let none : (n : ℕ) → n % 256 ≡ n / 1 % 256 = λ n. omega arith in
+    (λ i.
+    (none lo ∙ byte_low lo hi 0 (lit< tt)) i ∷ byte_low lo hi 1 (lit< tt) i ∷ byte_low lo hi 2 (lit< tt) i ∷ byte_low lo hi 3 (lit< tt) i
+    ∷ byte_low lo hi 4 (lit< tt) i ∷ byte_low lo hi 5 (lit< tt) i ∷ byte_low lo hi 6 (lit< tt) i ∷ byte_low lo hi 7 (lit< tt) i
+    ∷ (none hi ∙ byte_high lo hi 8 h (lit≤ tt)) i ∷ byte_high lo hi 9 h (lit≤ tt) i ∷ byte_high lo hi 10 h (lit≤ tt) i ∷ byte_high lo hi 11 h (lit≤ tt) i
+    ∷ byte_high lo hi 12 h (lit≤ tt) i ∷ byte_high lo hi 13 h (lit≤ tt) i ∷ byte_high lo hi 14 h (lit≤ tt) i ∷ byte_high lo hi 15 h (lit≤ tt) i ∷ [])
+    ∙ bytes_made 16 _

@@ -7,7 +7,7 @@ use native.Mathlib.Omega.{arith}
 use lib.Dec.{T, eqb, leb, eqb→eq, lit≤}
 use lib.ListN.{length, get_or, take, drop, length-drop}
 use lib.Pow.{pow_mono}
-use lib.Seq.{ext_get_or, get_or-take, get_or-drop, length-take-le, take_all, drop-cons, drop-length}
+use lib.Seq.{get_or-take, get_or-drop, length-take-le, take_all, drop-cons, drop-length}
 use borrow.Author.Tests.{le-leb, lt-leb, eq-eqb, ne_eqb}
 use Rattle.laws.specs.Pick.{pick}
 use Rattle.laws.specs.Every.{below}
@@ -16,10 +16,10 @@ use Rattle.laws.specs.Made.{made}
 use Rattle.laws.proofs.Tests.{picks, upto_at}
 use Rattle.laws.proofs.Rows.{get_d_made}
 use Rattle.bc6h_spec.specs.declared.Fields.{Fields}
-use Rattle.bc6h_spec.specs.Layout.{row, table, rows, row1, row2, row3, row4, row5, row6, row7, row8, row9, row10, row11, row12, row13, row14, table_bits, row_start, two_regions}
+use Rattle.bc6h_spec.specs.Layout.{row, table_bits, two_regions}
 use Rattle.bc6h_spec.specs.Fields.{code_of}
 use Rattle.bc6h_spec.specs.Writer.{scattered, at_place}
-use Rattle.bc6h_spec.proofs.Once.{row_once, in_table, in_range}
+use Rattle.bc6h_spec.proofs.Once.{row_once}
 use Rattle.bc6h_spec.proofs.Gather.{scattered_lt}
 use Rattle.bc6_fields.specs.Places.{entry}
 use Rattle.bc6_writer.specs.Parts.{InPlaces}
@@ -63,9 +63,9 @@ module _ (f : Fields) (place : ℕ) where
 -- ---- code by code, from the last
 
 module _ (l : List ℕ) (f : ℕ → ℕ) where
-  pub scattered_none : 0 ≡ scattered (drop (length l) l) f
+  pub scattered_none : 0 ≡ scattered (drop (length l - 0) l) f
   unfolding scattered
-  scattered_none = rw (drop-length l) refl
+  scattered_none = let e : length l - 0 ≡ length l = omega arith in rw (e, drop-length l) refl
 
   pub scattered_small : length l ≤ 64 → (k : ℕ) → 1 ≤ k → {x : ℕ} → x ≡ scattered (drop k l) f → x < 2 ^ 63
   scattered_small h k low {x} e =
@@ -77,11 +77,15 @@ module _ (l : List ℕ) (f : ℕ → ℕ) where
   unfolding scattered
   next k h e q = rw (drop-cons l k 0 h) (ap₂ (λ (y z : ℕ). y + 2 * z) q e)
 
-  pub scattered_next : (k : ℕ) {x b : ℕ} → x ≡ scattered (drop k l) f → b ≡ bit (f (get_or l (k - 1) 0 / 16)) (get_or l (k - 1) 0 % 16)
-      → 1 ≤ k → k ≤ length l → b + 2 * x ≡ scattered (drop (k - 1) l) f
-  scattered_next k e q low h =
-      let s : k ≡ suc (k - 1) = omega arith in
-      next (k - 1) (omega arith) (e ∙ ap (λ (y : ℕ). scattered (drop y l) f) s) q
+  -- the code behind which n were taken
+  pub scattered_back : (n : ℕ) {x b code : ℕ} → x ≡ scattered (drop (length l - n) l) f → code ≡ get_or l (length l - 1 - n) 0
+      → b ≡ bit (f (code / 16)) (code % 16) → n < length l → b + 2 * x ≡ scattered (drop (length l - (n + 1)) l) f
+  scattered_back n e ec q h =
+      let s : length l - n ≡ suc (length l - 1 - n) = omega arith in
+      let t : length l - 1 - n ≡ length l - (n + 1) = omega arith in
+      let r : _ ≡ scattered (drop (length l - 1 - n) l) f =
+      next (length l - 1 - n) (omega arith) (e ∙ ap (λ (y : ℕ). scattered (drop y l) f) s) (q ∙ ap (λ (y : ℕ). bit (f (y / 16)) (y % 16)) ec) in
+      r ∙ ap (λ (y : ℕ). scattered (drop y l) f) t
 
 -- ---- by two words
 
@@ -100,10 +104,6 @@ scattered_cong [] f g e = refl
 scattered_cong (c ∷ cs) f g e =
     ap₂ (λ (x y : ℕ). bit x (c % 16) + 2 * y) (e 0 (suc-le-suc zero-le)) (scattered_cong cs f g (λ k h. e (suc k) (suc-le-suc h)))
 
-table_length : length table ≡ 1080
-unfolding table rows row1 row2 row3 row4 row5 row6 row7 row8 row9 row10 row11 row12 row13 row14
-table_length = refl
-
 pub bits_range : (m : ℕ) → (65 ≤ table_bits m) × (table_bits m ≤ 82)
 bits_range m = picks (two_regions m) 82 65 (λ (n : ℕ). (65 ≤ n) × (n ≤ 82)) (λ _. (lit≤ tt, lit≤ tt)) (λ _. (lit≤ tt, lit≤ tt))
 
@@ -111,47 +111,16 @@ module _ (m : ℕ) (low : 1 ≤ m) (high : m ≤ 14) where
   size : length (row m) ≡ table_bits m
   size = (row_once m low high).size
 
-  pub row_ends : row_start m + table_bits m ≤ 1080
-  row_ends =
-      let b = (bits_range m).0 in
-      let r : row_start m + (table_bits m - 1) < 1080 = in_range m (table_bits m - 1) low high (omega arith) in
-      omega arith
-
-  -- a part of a row, and the part of the table that it is
+  -- a part of a row
   part_long : (a n : ℕ) → a + n ≤ table_bits m → length (take n (drop a (row m))) ≡ n
   part_long a n h = length-take-le n (drop a (row m)) (omega (arith, length-drop a (row m), size))
 
-  part_is : (a n : ℕ) → a + n ≤ table_bits m → take n (drop (row_start m + a) table) ≡ take n (drop a (row m))
-  part_is a n h =
-      let tl : length (take n (drop (row_start m + a) table)) ≡ n =
-      length-take-le n (drop (row_start m + a) table) (omega (arith, length-drop (row_start m + a) table, table_length, row_ends)) in
-      ext_get_or 0 _ _ (tl ∙ sym (part_long a n h))
-      (λ k l.
-      let i : k < n = subst (λ (x : ℕ). k < x) tl l in
-      let e : row_start m + a + k ≡ row_start m + (a + k) = omega arith in
-      get_or-take n (drop (row_start m + a) table) k 0 i ∙ get_or-drop (row_start m + a) table k 0 ∙ ap (λ (x : ℕ). get_or table x 0) e
-      ∙ in_table m low high (a + k) (omega arith)
-      ∙ sym (get_or-take n (drop a (row m)) k 0 i ∙ get_or-drop a (row m) k 0))
+  module _ {codes : List ℕ} (e : codes ≡ row m) where
+    pub row_long : 64 ≤ length codes
+    row_long = let r = (bits_range m).0 in omega (arith, ap length e, size)
 
-  module _ {start : ℕ} (es : start ≡ row_start m) where
-    pub start_fits : start + 64 ≤ 1080
-    start_fits = let r = (bits_range m).0 in omega (arith, row_ends)
-
-    pub parts_fit : {count : ℕ} → count ≡ table_bits m → (start + 64 ≤ start + count) × (start + count ≤ 1080)
-    parts_fit et = let r = (bits_range m).0 in (omega arith, omega (arith, row_ends))
-
-  module _ {codes : List ℕ} {start : ℕ} (ec : codes ≡ table) (es : start ≡ row_start m) where
-    -- the n codes from code a of the row on, as they are read
-    part_read : (a n i k : ℕ) → a + n ≤ table_bits m → i ≡ row_start m + a → k ≡ n → take k (drop i codes) ≡ take n (drop a (row m))
-    part_read a n i k h ei ek = rw (ec, ei, ek) (part_is a n h)
-
-    pub low_part : take (start + 64 - start) (drop start codes) ≡ take 64 (row m)
-    low_part = let r = (bits_range m).0 in part_read 0 64 start (start + 64 - start) (omega arith) (omega arith) (omega arith)
-
-    pub high_part : {count : ℕ} → count ≡ table_bits m → take (start + count - (start + 64)) (drop (start + 64) codes) ≡ take (table_bits m - 64) (drop 64 (row m))
-    high_part {count} et =
-        let r = (bits_range m).0 in
-        part_read 64 (table_bits m - 64) (start + 64) (start + count - (start + 64)) (omega arith) (omega arith) (omega arith)
+    pub high_part : take (length codes - 64) (drop 64 codes) ≡ take (table_bits m - 64) (drop 64 (row m))
+    high_part = let n : length codes ≡ table_bits m = ap length e ∙ size in rw (n, e) refl
 
   in_row : InPlaces (row m)
   in_row k h = (row_once m low high).place k (subst (λ (x : ℕ). k < x) size h)

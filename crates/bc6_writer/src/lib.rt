@@ -10,7 +10,7 @@ ghost use Rattle.bc6h_spec.specs.Fields.{code_of, index_of, Valid};
 ghost use Rattle.bc6h_spec.specs.Writer.{scattered, at_place, number_from};
 ghost use Rattle.bc6_fields.specs.Places.{entry};
 ghost use Rattle.bcn_util.specs.Stream.{number};
-ghost use Rattle.bc6_writer.specs.Parts.{InPlaces, stored_size, number_byte};
+ghost use Rattle.bc6_writer.specs.Parts.{InPlaces, stored_size};
 ghost use Rattle.bc6_writer.specs.Call.{BlockWritten};
 
 use bc6_valid::{is_valid, second_fixup, stored_bits};
@@ -54,8 +54,8 @@ fn places_of(fields: Fields) -> [u16; 14]
     ensures { result ≡ made (at_place fields) 14 }
 {
     let mut places = [0u16; 14];
-    for place in 0..14usize {
-        places[place] = place_value(fields, place);
+    for (place, value) in places.iter_mut().enumerate() {
+        *value = place_value(fields, place);
     }
     places
 }
@@ -75,10 +75,8 @@ fn scattered_bits(codes: &[u8], places: [u16; 14]) -> u64
     ensures { result ≡ scattered codes.now (entry places) }
 {
     let mut bits = 0u64;
-    let mut left = codes.len();
-    while left > 0 {
-        left -= 1;
-        bits = bit_of(places, codes[left]) + 2 * bits;
+    for code in codes.iter().rev() {
+        bits = bit_of(places, *code) + 2 * bits;
     }
     bits
 }
@@ -88,12 +86,10 @@ fn table_words(mode: usize, places: [u16; 14]) -> BitStream
     requires { (1 ≤ mode) × (mode ≤ 14) }
     ensures { number result ≡ scattered (row mode) (entry places) }
 {
-    let codes = bc6_table::destinations::codes();
-    let start = bc6_table::row_start(mode);
-    let middle = start + 64;
-    let end = start + bc6_table::table_bits(mode);
-    let lo = scattered_bits(&codes[start..middle], places);
-    let hi = scattered_bits(&codes[middle..end], places);
+    let table = bc6_table::destinations::codes();
+    let codes = bc6_table::row_of(&table, mode);
+    let lo = scattered_bits(&codes[..64], places);
+    let hi = scattered_bits(&codes[64..], places);
     BitStream::of(lo, hi)
 }
 
@@ -108,8 +104,8 @@ fn packed_indices(fields: Fields) -> u64
     let indices = fields.indices;
     let mut bits = 0u64;
     let mut at = 0u64;
-    for pixel in 0..16usize {
-        bits = ((indices[pixel] as u64) << at) + bits;
+    for (pixel, index) in indices.iter().enumerate() {
+        bits = ((*index as u64) << at) + bits;
         at = at + (stored_bits(fields.mode, fixup, pixel) as u64);
     }
     bits
@@ -127,25 +123,12 @@ fn block_words(fields: Fields) -> BitStream
     BitStream::of(lo, hi)
 }
 
-fn byte_of(words: BitStream, k: usize) -> u8
-    requires { k < 16 }
-    ensures { result ≡ number_byte (number words) k }
-{
-    let lo = words.lo;
-    let hi = words.hi;
-    if k < 8 {
-        return ((lo >> (8 * k)) % 256) as u8;
-    }
-    ((hi >> (8 * (k - 8))) % 256) as u8
-}
-
 fn write_bytes(words: BitStream, out: &mut [u8])
     requires { length out.old ≡ 16 }
     ensures { out.new ≡ low_bytes 16 (number words) }
 {
-    for k in 0..16usize {
-        out[k] = byte_of(words, k);
-    }
+    out[..8].copy_from_slice(&words.lo.to_le_bytes());
+    out[8..].copy_from_slice(&words.hi.to_le_bytes());
 }
 
 // The block of a valid record, into sixteen lent bytes.

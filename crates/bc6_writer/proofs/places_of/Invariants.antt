@@ -1,14 +1,10 @@
 -- `bc6_writer::places_of` meets its contract: one place a turn. Assumes nothing.
 use mathlib.Core.Path.{◌≡◌}
 use mathlib.Core.List.{◌++◌}
-use Prim.Native.Nat.{◌-◌, ◌≤◌}
 use lib.ListN.{drop}
 use Rattle.laws.specs.Made.{made}
 use Rattle.bc6h_spec.specs.Writer.{at_place}
 use Rattle.bc6_writer.proofs.places_of.Given as goal
 
 abbrev pub invariant-loop-place : goal.invariant-loop-place
-invariant-loop-place l = (l.place ≤ 14) × (l.places ≡ made (at_place l.fields) l.place ++ drop l.place l.initial.places)
-
-abbrev pub decreases-loop-place : goal.decreases-loop-place
-decreases-loop-place l = 14 - l.place
+invariant-loop-place l = l.value-items ≡ made (at_place l.fields) l.place ++ drop l.place l.initial.value-items

@@ -39,8 +39,8 @@ pub fn write_numbers(fields: Fields, numbers: &mut [u16])
     requires { number_count ≤ length numbers.old }
     ensures { numbers.new ≡ numbers_of fields ++ drop number_count numbers.old }
 {
-    for k in 0..NUMBERS {
-        numbers[k] = number_at(fields, k);
+    for (k, number) in numbers[..NUMBERS].iter_mut().enumerate() {
+        *number = number_at(fields, k);
     }
 }
 
@@ -56,9 +56,7 @@ fn endpoints_from(numbers: &[u16]) -> [u16; 12]
     ensures { result ≡ made (endpoint_from numbers.now) 12 }
 {
     let mut endpoints = [0u16; 12];
-    for k in 0..12usize {
-        endpoints[k] = numbers[k + 2];
-    }
+    endpoints.copy_from_slice(&numbers[2..14]);
     endpoints
 }
 
@@ -67,8 +65,8 @@ fn indices_from(numbers: &[u16]) -> [u8; 16]
     ensures { result ≡ made (index_from numbers.now) 16 }
 {
     let mut indices = [0u8; 16];
-    for k in 0..16usize {
-        indices[k] = byte_from(numbers[k + 16]);
+    for (k, index) in indices.iter_mut().enumerate() {
+        *index = byte_from(numbers[k + 16]);
     }
     indices
 }

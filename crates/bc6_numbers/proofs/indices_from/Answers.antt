@@ -1,7 +1,5 @@
 -- `bc6_numbers::indices_from` meets its contract: one index a turn. Assumes nothing.
-use borrow.Author.Rules.{rules}
 use mathlib.Core.Path.{refl}
-use Prim.Native.Nat.{◌-◌, ◌≤◌}
 use native.Mathlib.Omega.{arith}
 use lib.Dec.{lit≤}
 use Rattle.laws.proofs.Rows.{made_none, made_store, made_all}
@@ -9,10 +7,10 @@ use Rattle.bc6_numbers.proofs.Record.{index_given}
 use Rattle.bc6_numbers.proofs.indices_from.Goals as goal
 
 pub loop-k-init : goal.loop-k-init
-loop-k-init c = (search rules, made_none _ _)
+loop-k-init c = made_none _ _
 
 pub loop-k-preserved : goal.loop-k-preserved
-loop-k-preserved c = (search rules, made_store _ _ _ _ _ _ c.loop-k.invariant.1 refl (index_given _ _ c.byte_from.ensures) (omega arith))
+loop-k-preserved c = made_store _ _ _ _ _ _ c.loop-k.invariant refl (index_given _ _ c.byte_from.ensures) (omega arith)
 
 pub returns : goal.returns
-returns c = made_all _ _ _ _ _ c.loop-k.invariant.1 (omega arith) (omega arith) (lit≤ tt)
+returns c = made_all _ _ _ _ _ c.loop-k.invariant (omega arith) (omega arith) (lit≤ tt)

@@ -56,8 +56,8 @@ fn endpoints_fit(fields: Fields) -> bool
 {
     let bits = ModeBits::of(fields.mode);
     let endpoints = fields.endpoints;
-    for place in 0..12usize {
-        if !fits(endpoints[place], place_bits(fields.mode, bits, place)) {
+    for (place, value) in endpoints.iter().enumerate() {
+        if !fits(*value, place_bits(fields.mode, bits, place)) {
             return false;
         }
     }
@@ -125,11 +125,8 @@ fn indices_fit(fields: Fields) -> bool
 {
     let fixup = second_fixup(fields.mode, fields.partition);
     let indices = fields.indices;
-    for pixel in 0..16usize {
-        if !fits(
-            indices[pixel] as u16,
-            stored_bits(fields.mode, fixup, pixel),
-        ) {
+    for (pixel, index) in indices.iter().enumerate() {
+        if !fits(*index as u16, stored_bits(fields.mode, fixup, pixel)) {
             return false;
         }
     }

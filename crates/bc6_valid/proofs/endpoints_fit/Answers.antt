@@ -8,7 +8,7 @@ use Rattle.bc6_valid.proofs.Verdict.{end_tested}
 use Rattle.bc6_valid.proofs.endpoints_fit.Goals as goal
 
 pub loop-place-init : goal.loop-place-init
-loop-place-init c = (search rules, refl)
+loop-place-init c = refl
 
 pub fits-requires : goal.fits-requires
 fits-requires c = narrow _ _ (search rules) (search rules) (search rules) c.place_bits.ensures
@@ -17,10 +17,7 @@ pub returns-then-not-fits : goal.returns-then-not-fits
 returns-then-not-fits c = below_fails (endpoint_fits c.args.fields) 12 c.loop-place.place (sym (end_tested c.args.fields _ c.place_bits.ensures c.fits.ensures) ∙ c.if-not-fits.true) (search rules)
 
 pub loop-place-preserved : goal.loop-place-preserved
-loop-place-preserved c = (
-  search rules,
-  below_more (endpoint_fits c.args.fields) c.loop-place.place c.loop-place.invariant.1 (sym (end_tested c.args.fields _ c.place_bits.ensures c.fits.ensures) ∙ c.if-not-fits.false),
-)
+loop-place-preserved c = below_more (endpoint_fits c.args.fields) c.loop-place.place c.loop-place.invariant (sym (end_tested c.args.fields _ c.place_bits.ensures c.fits.ensures) ∙ c.if-not-fits.false)
 
 pub returns : goal.returns
-returns c = below_upto (endpoint_fits c.args.fields) 12 c.loop-place.place c.loop-place.invariant.1 (search rules) (search rules)
+returns c = below_upto (endpoint_fits c.args.fields) 12 c.loop-place.place c.loop-place.invariant (search rules) (search rules)

@@ -8,7 +8,7 @@ use Rattle.bc6_valid.proofs.Verdict.{index_tested}
 use Rattle.bc6_valid.proofs.indices_fit.Goals as goal
 
 pub loop-pixel-init : goal.loop-pixel-init
-loop-pixel-init c = (search rules, refl)
+loop-pixel-init c = refl
 
 pub fits-requires : goal.fits-requires
 fits-requires c = size_narrow _ _ _ c.stored_bits.ensures
@@ -17,10 +17,7 @@ pub returns-then-not-fits : goal.returns-then-not-fits
 returns-then-not-fits c = below_fails (index_fits c.args.fields) 16 c.loop-pixel.pixel (sym (index_tested c.args.fields _ c.second_fixup-fixup.ensures c.stored_bits.ensures c.fits.ensures) ∙ c.if-not-fits.true) (search rules)
 
 pub loop-pixel-preserved : goal.loop-pixel-preserved
-loop-pixel-preserved c = (
-  search rules,
-  below_more (index_fits c.args.fields) c.loop-pixel.pixel c.loop-pixel.invariant.1 (sym (index_tested c.args.fields _ c.second_fixup-fixup.ensures c.stored_bits.ensures c.fits.ensures) ∙ c.if-not-fits.false),
-)
+loop-pixel-preserved c = below_more (index_fits c.args.fields) c.loop-pixel.pixel c.loop-pixel.invariant (sym (index_tested c.args.fields _ c.second_fixup-fixup.ensures c.stored_bits.ensures c.fits.ensures) ∙ c.if-not-fits.false)
 
 pub returns : goal.returns
-returns c = below_upto (index_fits c.args.fields) 16 c.loop-pixel.pixel c.loop-pixel.invariant.1 (search rules) (search rules)
+returns c = below_upto (index_fits c.args.fields) 16 c.loop-pixel.pixel c.loop-pixel.invariant (search rules) (search rules)

@@ -1,11 +1,12 @@
 -- Laws of the bytes that are written. Assumes nothing.
 use mathlib.Core.Path.{◌≡◌, refl, ap, ◌∙◌}
 use mathlib.Core.List.{List, [], ◌∷◌, ◌++◌, append-nil}
-use Prim.Native.Nat.{ℕ, ◌+◌, ◌*◌, ◌/◌, ◌%◌, ◌-◌, ◌≤◌, ◌<◌}
+use Prim.Native.Nat.{ℕ, ◌+◌, ◌*◌, ◌/◌, ◌%◌, ◌-◌, ◌^◌, ◌≤◌, ◌<◌}
 use native.Mathlib.Omega.{arith}
-use lib.ListN.{length, get_or, set, take, drop, replicate, drop_of_length-le, length-set}
+use lib.ListN.{length, get_or, set, take, drop, replicate, drop_of_length-le}
 use lib.Seq.{take_all}
 use borrow.Author.Tests.{eq-eqb, ne_eqb}
+use Rattle.std.specs.Int.{w16, to_le_bytes}
 use Rattle.laws.specs.Made.{made}
 use Rattle.laws.proofs.Rows.{made_store}
 use Rattle.bc6.specs.declared.Pixels.{Pixels}
@@ -26,6 +27,13 @@ high values j =
     let m : (2 * j + 1) % 2 ≡ 0 → ⊥ = λ e. omega arith in
     rw (ne_eqb ((2 * j + 1) % 2) 0 m, d) refl
 
+-- the two bytes of a number, as the library gives them
+pub le_low : (v : ℕ) {l : List ℕ} → l ≡ to_le_bytes w16 v → get_or l 0 0 ≡ v % 256
+le_low v e = ap (λ (l : List ℕ). get_or l 0 0) e
+
+pub le_high : (v : ℕ) {l : List ℕ} → v < 2 ^ 16 → l ≡ to_le_bytes w16 v → get_or l 1 0 ≡ v / 256
+le_high v h e = ap (λ (l : List ℕ). get_or l 1 0) e ∙ (let small : v / 256 % 256 ≡ v / 256 = omega arith in small)
+
 -- a turn stores both bytes of a value
 pub two_stored : (values out₀ out : List ℕ) (j x y : ℕ) → x ≡ get_or values j 0 % 256 → y ≡ get_or values j 0 / 256
     → j < 48 → 96 ≤ length out₀ → out ≡ made (value_byte values) (2 * j) ++ drop (2 * j) out₀
@@ -39,9 +47,6 @@ two_stored values out₀ out j x y ex ey h r e =
 -- the output once its first four bytes are stored: answer, mode, and the count's two bytes
 abbrev pub headed : Pixels → ℕ → ℕ → List ℕ → List ℕ
 headed shown low high out = set (set (set (set out 0 shown.answer) 1 shown.mode) 2 low) 3 high
-
-pub headed_length : (shown : Pixels) (low high : ℕ) (out : List ℕ) → length (headed shown low high out) ≡ length out
-headed_length shown low high out = simp length-set
 
 -- the bytes after those four are lent on, and come back
 pub head_stored : (shown : Pixels) (low high : ℕ) (values out last : List ℕ) → low ≡ shown.infinite % 256 → high ≡ shown.infinite / 256 → 100 ≤ length out

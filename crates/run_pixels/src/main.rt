@@ -8,7 +8,6 @@ ghost use Rattle.laws.specs.Made.{made};
 ghost use Rattle.run_pixels.specs.Shown.{value_byte, shown_bytes, record_bytes};
 
 use bc6::Pixels;
-use raw_bytes::{high_byte, low_byte};
 use run_streams::read_full;
 use std::io;
 
@@ -22,10 +21,10 @@ fn put_values(values: [u16; 48], out: &mut [u8])
     requires { 96 ≤ length out.old }
     ensures { out.new ≡ made (value_byte values) 96 ++ drop 96 out.old }
 {
-    for j in 0..48usize {
-        let at = 2 * j;
-        out[at] = low_byte(values[j]);
-        out[at + 1] = high_byte(values[j]);
+    for (j, value) in values.iter().enumerate() {
+        let [low, high] = value.to_le_bytes();
+        out[2 * j] = low;
+        out[2 * j + 1] = high;
     }
 }
 
@@ -33,8 +32,7 @@ fn put_shown(shown: Pixels, values: [u16; 48], out: &mut [u8])
     requires { 100 ≤ length out.old }
     ensures { out.new ≡ shown_bytes shown values ++ drop 100 out.old }
 {
-    let low = low_byte(shown.infinite);
-    let high = high_byte(shown.infinite);
+    let [low, high] = shown.infinite.to_le_bytes();
     out[0] = shown.answer;
     out[1] = shown.mode;
     out[2] = low;
@@ -52,28 +50,14 @@ fn decode_record(piece: &[u8], out: &mut [u8])
     put_shown(shown, values, out);
 }
 
-// Where a piece that starts at `at` ends: after a record, or with the input.
-fn piece_end(at: usize, size: usize) -> usize
-    requires { (at < size) × (size < 2 ^ 63) }
-    ensures { (at < result) × (result ≤ size) }
-{
-    if size - at < SIZE { size } else { at + SIZE }
-}
-
 // What is written for the records of `input`, and how many bytes that is.
 fn decode_records(input: &[u8], out: &mut [u8]) -> usize
     requires { 100 * ((length input.now + 16) / 17) ≤ length out.old }
     ensures { result ≡ 100 * ((length input.now + 16) / 17) }
 {
-    let size = input.len();
-    let count = (size + 16) / 17;
-    let mut i = 0;
-    while i < count {
-        let at = SIZE * i;
-        let end = piece_end(at, size);
-        let to = SHOWN * i;
-        decode_record(&input[at..end], &mut out[to..]);
-        i += 1;
+    let count = input.len().div_ceil(SIZE);
+    for (piece, shown) in input.chunks(SIZE).zip(out.chunks_exact_mut(SHOWN)) {
+        decode_record(piece, shown);
     }
     SHOWN * count
 }

@@ -52,22 +52,8 @@ fn write_record(read: FieldsRead, out: &mut [u8])
     requires { 45 ≤ length out.old }
     ensures { out.new ≡ made (fields_byte read) 45 ++ drop 45 out.old }
 {
-    let mut k = 0;
-    while k < RECORD_SIZE {
-        out[k] = byte_of(read, k);
-        k += 1;
-    }
-}
-
-// Where a piece that starts at `at` ends: after a record, or with the input.
-fn piece_end(at: usize, size: usize) -> usize
-    requires { (at < size) × (size < 2 ^ 63) }
-    ensures { (at < result) × (result ≤ size) }
-{
-    if size - at < INPUT_SIZE {
-        size
-    } else {
-        at + INPUT_SIZE
+    for (k, byte) in out[..RECORD_SIZE].iter_mut().enumerate() {
+        *byte = byte_of(read, k);
     }
 }
 
@@ -76,17 +62,13 @@ fn write_records(input: &[u8], out: &mut [u8]) -> usize
     requires { 45 * ((length input.now + 16) / 17) ≤ length out.old }
     ensures { result ≡ 45 * ((length input.now + 16) / 17) }
 {
-    let size = input.len();
-    let count = (size + 16) / INPUT_SIZE;
-    let mut i = 0;
-    while i < count {
-        let at = INPUT_SIZE * i;
-        let end = piece_end(at, size);
-        let start = at + 1;
-        let read = bc6_fields::block_fields(&input[start..end], input[at]);
-        let to = RECORD_SIZE * i;
-        write_record(read, &mut out[to..]);
-        i += 1;
+    let count = input.len().div_ceil(INPUT_SIZE);
+    for (piece, record) in input
+        .chunks(INPUT_SIZE)
+        .zip(out.chunks_exact_mut(RECORD_SIZE))
+    {
+        let read = bc6_fields::block_fields(&piece[1..], piece[0]);
+        write_record(read, record);
     }
     RECORD_SIZE * count
 }

@@ -1,14 +1,10 @@
 -- `run_fields::write_record` meets its contract: the record's bytes, one a turn. Assumes nothing.
 use mathlib.Core.Path.{◌≡◌}
 use mathlib.Core.List.{◌++◌}
-use Prim.Native.Nat.{◌-◌, ◌≤◌}
-use lib.ListN.{length, drop}
+use lib.ListN.{drop}
 use Rattle.laws.specs.Made.{made}
 use Rattle.run_fields.specs.Record.{fields_byte}
 use Rattle.run_fields.proofs.write_record.Given as goal
 
 abbrev pub invariant-loop-k : goal.invariant-loop-k
-invariant-loop-k l = (l.k ≤ 45) × ((length l.out ≡ length l.initial.out) × (l.out ≡ made (fields_byte l.read) l.k ++ drop l.k l.initial.out))
-
-abbrev pub decreases-loop-k : goal.decreases-loop-k
-decreases-loop-k l = 45 - l.k
+invariant-loop-k l = l.byte-items ≡ made (fields_byte l.read) l.k ++ drop l.k l.initial.byte-items

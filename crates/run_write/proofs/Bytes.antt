@@ -1,10 +1,12 @@
 -- A record's bytes, from what the calls ensure. Assumes nothing.
-use mathlib.Core.Path.{◌≡◌, ◌∙◌, ap, ap₂}
-use mathlib.Core.List.{List}
-use Prim.Native.Nat.{ℕ, ◌+◌, ◌-◌, ◌*◌, ◌≤◌, ◌<◌}
-use lib.ListN.{length, get_or, replicate}
+use mathlib.Core.Path.{◌≡◌, ◌∙◌, refl, ap, ap₂}
+use mathlib.Core.List.{List, [], ◌∷◌, ◌++◌}
+use Prim.Native.Nat.{ℕ, zero, suc, ◌+◌, ◌-◌, ◌*◌, ◌≤◌, ◌<◌}
+use native.Mathlib.Omega.{arith}
+use lib.ListN.{length, get_or, set, take, drop, replicate}
 use borrow.Author.Tests.{lt-ltb, le-ltb, eq-eqb, ne_eqb}
 use Rattle.laws.specs.Made.{made}
+use Rattle.laws.proofs.Rows.{made_each}
 use Rattle.raw_bytes.specs.Bytes.{low_first}
 use Rattle.bc6h_spec.specs.declared.Fields.{Fields}
 use Rattle.bc6h_spec.specs.Fields.{no_fields}
@@ -40,3 +42,23 @@ module _ (piece : List ℕ) where
   written {f} {answer} {block} e w =
       ap₂ (λ (a : ℕ) (b : List ℕ). made (answer_byte a b) 17) w.answers w.holds
       ∙ ap (λ (g : Fields). made (answer_byte (refusal_of g 16) (bytes_at (refusal_of g 16) g (replicate 16 0))) 17) e
+
+-- ---- the answer, and behind it the block
+
+module _ (answer : ℕ) (block : List ℕ) (l : length block ≡ 16) where
+  byte : (k : ℕ) → get_or (answer ∷ block) k 0 ≡ answer_byte answer block k
+  unfolding answer_byte
+  byte zero = refl
+  byte (suc k) =
+      let n : suc k ≡ 0 → ⊥ = λ e. omega (arith, e) in
+      let b : suc k - 1 ≡ k = omega arith in
+      rw (ne_eqb (suc k) 0 n, b) refl
+
+  answer_first : answer ∷ block ≡ made (answer_byte answer block) 17
+  answer_first = made_each (answer_byte answer block) (answer ∷ block) 17 (ap suc l) (λ k h. byte k)
+
+pub answer_put : (answer : ℕ) (block out : List ℕ) {part : List ℕ} → length block ≡ 16 → 17 ≤ length out → part ≡ block
+    → take 1 (set out 0 answer) ++ (part ++ drop 16 (drop 1 (set out 0 answer))) ≡ made (answer_byte answer block) 17 ++ drop 17 out
+answer_put answer block [] l h e = absurd (omega (arith, h))
+answer_put answer block (x ∷ out) l h e =
+    ap (λ (t : List ℕ). answer ∷ (t ++ drop 16 out)) e ∙ ap (λ (t : List ℕ). t ++ drop 16 out) (answer_first answer block l)

@@ -10,7 +10,7 @@ ghost use Rattle.run_write.specs.Record.{number_in, fields_in, answer_byte, reco
 
 use bc6_numbers::NUMBERS;
 use bc6h_spec::Fields;
-use raw_bytes::{u8_to_u16, u16_at};
+use raw_bytes::u16_at;
 use run_streams::read_full;
 use std::io;
 
@@ -27,12 +27,12 @@ fn number_in(piece: &[u8], k: usize) -> u16
     ensures { result ≡ number_in piece.now k }
 {
     if k < 2 {
-        return u8_to_u16(piece[k]);
+        return u16::from(piece[k]);
     }
     if k < 14 {
         return u16_at(piece, 2 * k - 2);
     }
-    u8_to_u16(piece[k + 12])
+    u16::from(piece[k + 12])
 }
 
 fn numbers_in(piece: &[u8]) -> [u16; NUMBERS]
@@ -40,8 +40,8 @@ fn numbers_in(piece: &[u8]) -> [u16; NUMBERS]
     ensures { result ≡ made (number_in piece.now) number_count }
 {
     let mut numbers = [0u16; NUMBERS];
-    for k in 0..NUMBERS {
-        numbers[k] = number_in(piece, k);
+    for (k, number) in numbers.iter_mut().enumerate() {
+        *number = number_in(piece, k);
     }
     numbers
 }
@@ -56,24 +56,13 @@ fn fields_in(piece: &[u8]) -> Fields
     bc6_numbers::fields_from(&numbers)
 }
 
-// Byte k of what is written for a record.
-fn byte_of(answer: u8, block: [u8; 16], k: usize) -> u8
-    requires { k < 17 }
-    ensures { result ≡ answer_byte answer block k }
-{
-    if k == 0 {
-        return answer;
-    }
-    block[k - 1]
-}
-
+// What is written for a record: the answer, then the block.
 fn put_answer(answer: u8, block: [u8; 16], out: &mut [u8])
     requires { 17 ≤ length out.old }
     ensures { out.new ≡ made (answer_byte answer block) 17 ++ drop 17 out.old }
 {
-    for k in 0..OUTPUT_SIZE {
-        out[k] = byte_of(answer, block, k);
-    }
+    out[0] = answer;
+    out[1..OUTPUT_SIZE].copy_from_slice(&block);
 }
 
 fn write_record(piece: &[u8], out: &mut [u8])
@@ -86,32 +75,17 @@ fn write_record(piece: &[u8], out: &mut [u8])
     put_answer(answer, block, out);
 }
 
-// Where a piece that starts at `at` ends: after a record, or with the input.
-fn piece_end(at: usize, size: usize) -> usize
-    requires { (at < size) × (size < 2 ^ 63) }
-    ensures { (at ≤ result) × (result ≤ size) }
-{
-    if size - at < RECORD_SIZE {
-        size
-    } else {
-        at + RECORD_SIZE
-    }
-}
-
 // What is written for the records of `input`, and how many bytes that is.
 fn write_records(input: &[u8], out: &mut [u8]) -> usize
     requires { 17 * ((length input.now + 43) / 44) ≤ length out.old }
     ensures { result ≡ 17 * ((length input.now + 43) / 44) }
 {
-    let size = input.len();
-    let count = (size + 43) / RECORD_SIZE;
-    let mut i = 0;
-    while i < count {
-        let at = RECORD_SIZE * i;
-        let end = piece_end(at, size);
-        let to = OUTPUT_SIZE * i;
-        write_record(&input[at..end], &mut out[to..]);
-        i += 1;
+    let count = input.len().div_ceil(RECORD_SIZE);
+    for (piece, written) in input
+        .chunks(RECORD_SIZE)
+        .zip(out.chunks_exact_mut(OUTPUT_SIZE))
+    {
+        write_record(piece, written);
     }
     OUTPUT_SIZE * count
 }

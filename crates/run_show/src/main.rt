@@ -23,8 +23,8 @@ fn numbers_in(input: &[u8]) -> [u16; NUMBERS]
     ensures { result ≡ made (number_in input.now) number_count }
 {
     let mut numbers = [0u16; NUMBERS];
-    for k in 0..NUMBERS {
-        numbers[k] = u16_at(input, 2 * k);
+    for (k, number) in numbers.iter_mut().enumerate() {
+        *number = u16_at(input, 2 * k);
     }
     numbers
 }
@@ -54,8 +54,8 @@ fn put_answer(answer: u8, values: [u16; Picture::VALUES], out: &mut [u8])
     requires { output_size ≤ length out.old }
     ensures { out.new ≡ made (picture_byte answer values) output_size ++ drop output_size out.old }
 {
-    for k in 0..OUTPUT_SIZE {
-        out[k] = byte_of(answer, values, k);
+    for (k, byte) in out[..OUTPUT_SIZE].iter_mut().enumerate() {
+        *byte = byte_of(answer, values, k);
     }
 }
 

@@ -1,7 +1,5 @@
 -- `run_show::numbers_in` meets its contract: one number a turn. Assumes nothing.
-use borrow.Author.Rules.{rules}
 use mathlib.Core.Path.{refl}
-use Prim.Native.Nat.{◌-◌, ◌≤◌}
 use native.Mathlib.Omega.{arith}
 use lib.Dec.{lit≤}
 use Rattle.laws.proofs.Rows.{made_none, made_store, made_all}
@@ -9,11 +7,11 @@ use Rattle.run_show.specs.Picture.{number_in}
 use Rattle.run_show.proofs.numbers_in.Goals as goal
 
 pub loop-k-init : goal.loop-k-init
-loop-k-init c = (search rules, made_none _ _)
+loop-k-init c = made_none _ _
 
 pub loop-k-preserved : goal.loop-k-preserved
 unfolding number_in
-loop-k-preserved c = (search rules, made_store _ _ _ _ _ _ c.loop-k.invariant.1 refl c.u16_at.ensures (omega arith))
+loop-k-preserved c = made_store _ _ _ _ _ _ c.loop-k.invariant refl c.u16_at.ensures (omega arith)
 
 pub returns : goal.returns
-returns c = made_all _ _ _ _ _ c.loop-k.invariant.1 (omega arith) (omega arith) (lit≤ tt)
+returns c = made_all _ _ _ _ _ c.loop-k.invariant (omega arith) (omega arith) (lit≤ tt)

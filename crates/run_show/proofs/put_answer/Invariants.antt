@@ -1,14 +1,10 @@
 -- `run_show::put_answer` meets its contract: one byte a turn. Assumes nothing.
 use mathlib.Core.Path.{◌≡◌}
 use mathlib.Core.List.{◌++◌}
-use Prim.Native.Nat.{◌-◌, ◌≤◌}
-use lib.ListN.{length, drop}
+use lib.ListN.{drop}
 use Rattle.laws.specs.Made.{made}
 use Rattle.run_show.specs.Picture.{picture_byte}
 use Rattle.run_show.proofs.put_answer.Given as goal
 
 abbrev pub invariant-loop-k : goal.invariant-loop-k
-invariant-loop-k l = (l.k ≤ 97) × ((length l.out ≡ length l.initial.out) × (l.out ≡ made (picture_byte l.answer l.values) l.k ++ drop l.k l.initial.out))
-
-abbrev pub decreases-loop-k : goal.decreases-loop-k
-decreases-loop-k l = 97 - l.k
+invariant-loop-k l = l.byte-items ≡ made (picture_byte l.answer l.values) l.k ++ drop l.k l.initial.byte-items

@@ -15,15 +15,11 @@ fn print_next(rt: &impl Print, n: u64) -> io::Result<()> {
 
 // How many values from `from` on are not as they were lent.
 fn changed(values: &[u16], from: usize) -> usize {
-    let mut count = 0;
-    let mut i = from;
-    while i < values.len() {
-        if values[i] != UNTOUCHED {
-            count += 1;
-        }
-        i += 1;
-    }
-    count
+    values
+        .iter()
+        .skip(from)
+        .filter(|value| **value != UNTOUCHED)
+        .count()
 }
 
 fn print_call(

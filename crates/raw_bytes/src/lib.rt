@@ -1,7 +1,7 @@
 // Bytes: wider numbers of them, numbers read from them with the lowest byte first, and bytes compared and copied.
 #![tactic(auto)]
 
-ghost use Rattle.std.specs.Prelude.{◌≡◌, ◌+◌, ◌/◌, ◌%◌, ◌≤◌, ◌<◌, length, drop};
+ghost use Rattle.std.specs.Prelude.{◌≡◌, ◌+◌, ◌%◌, ◌≤◌, ◌<◌, length, drop};
 ghost use Rattle.std.proofs.Math.Seq.{paste};
 ghost use Rattle.laws.specs.Every.{same};
 ghost use Rattle.raw_bytes.specs.Bytes.{low_first, low_or_high};
@@ -71,18 +71,6 @@ pub fn u64_at(bytes: &[u8], at: usize) -> u64
 }
 
 // ---- the two bytes of a number
-
-pub fn low_byte(value: u16) -> u8
-    ensures { result ≡ value % 256 }
-{
-    (value % 256) as u8
-}
-
-pub fn high_byte(value: u16) -> u8
-    ensures { result ≡ value / 256 }
-{
-    (value / 256) as u8
-}
 
 // The low byte at an even place, the high byte at an odd one.
 pub fn low_or_high(value: u16, k: usize) -> u8

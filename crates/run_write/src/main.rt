@@ -3,7 +3,7 @@
 // the block, zeros on a refusal. A last piece below 44 bytes is no record, and refused as an invalid one.
 #![tactic(auto)]
 
-ghost use Rattle.std.specs.Prelude.{◌≡◌, ◌++◌, ◌+◌, ◌*◌, ◌/◌, ◌^◌, ◌<◌, ◌≤◌, length, drop};
+ghost use Rattle.std.specs.Prelude.{◌≡◌, ◌++◌, ◌+◌, ◌*◌, ◌/◌, ◌<◌, ◌≤◌, length, drop};
 ghost use Rattle.laws.specs.Made.{made};
 ghost use Rattle.bc6_numbers.specs.Numbers.{number_count};
 ghost use Rattle.run_write.specs.Record.{number_in, fields_in, answer_byte, record_bytes};

@@ -21,11 +21,6 @@ unfolding finish_u
 finish_u_is (pos n) s = ap (λ (k : ℕ). pos (k / 64)) (mul_comm n 31)
 finish_u_is (negsuc n) s = absurd s
 
-pub small : (x : ℤ) → mag x < 65536 → finish_u (nat_abs x) < 65536
-unfolding finish_u
-small (pos n) h = omega arith
-small (negsuc n) h = omega arith
-
 -- ---- the lowest bits
 wraps : (b m : ℕ) → b ≤ 32 → m < 4294967296 → (4294967296 - suc m) % 2 ^ b ≡ (2 ^ b - 1) - m % 2 ^ b
 wraps b m h l =

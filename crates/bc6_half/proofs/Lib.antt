@@ -2,5 +2,5 @@ pub mod Laws
 pub mod Extend
 pub mod Sized
 pub mod Told
-pub mod Weights
 pub mod Words
+pub mod Formats

@@ -1,4 +1,4 @@
--- The magnitude of a number, and the signed pattern by it. Assumes nothing.
+-- The signed pattern of a number, by its magnitude. Assumes nothing.
 use mathlib.Core.Path.{◌≡◌, refl, sym, ap, subst}
 use mathlib.Core.Bool.{true, false}
 use Prim.Native.Nat.{ℕ, zero, suc, ◌+◌, ◌*◌, ◌/◌, ◌<◌, ◌≤◌}
@@ -7,17 +7,9 @@ use native.Mathlib.Omega.{arith}
 use lib.Dec.{T}
 use lib.IntN.{ℤ, pos, negsuc, neg_ℤ, nat_abs, ◌*ℤ◌}
 use lib.Signed.{mag, shr_z, lt_z}
-use borrow.Author.Tests.{ltb-true, ltb-false}
+use borrow.Author.Tests.{ltb-false}
 use Rattle.laws.proofs.Num.{abs_neg}
 use Rattle.bc6h_spec.specs.Half.{with_sign, pattern, scaled, finish_s}
-
-pub mag_neg : (x : ℤ) → lt_z x (pos 0) ≡ true → neg_ℤ x ≡ pos (nat_abs x)
-mag_neg (pos n) e = let l : n < 0 = ltb-true n 0 e in absurd (omega arith)
-mag_neg (negsuc n) e = refl
-
-pub mag_pos : (x : ℤ) → lt_z x (pos 0) ≡ false → x ≡ pos (nat_abs x)
-mag_pos (pos n) e = refl
-mag_pos (negsuc n) e = absurd (subst T e tt)
 
 pub shrunk : (n : ℕ) → shr_z (pos n *ℤ pos 31) 32 ≡ pos (31 * n / 32)
 shrunk n = ap (λ (k : ℕ). pos (k / 32)) (mul_comm n 31)

@@ -1,18 +1,15 @@
 -- A number of 16 bits as a word, and back. Assumes nothing.
-use mathlib.Core.Path.{◌≡◌, ◌∙◌, refl, sym, ap, subst}
+use mathlib.Core.Path.{◌≡◌, ◌∙◌, refl, sym, ap}
 use mathlib.Core.Bool.{Bool, true, false}
 use Prim.Native.Nat.{ℕ, suc, ◌-◌, ◌%◌, ◌<◌}
 use native.Mathlib.Nat.{mod-eq_of_lt}
 use native.Mathlib.Decide.{ℕ_discrete}
 use native.Mathlib.Omega.{arith}
-use lib.Dec.{T, eqb, lit<}
-use lib.IntN.{ℤ, pos, negsuc, nat_abs}
-use lib.Signed.{mag, non_neg}
-use mir.Syntax.{w16, w32}
-use mir.Val.{Fits, to_z, of_z}
+use lib.Dec.{eqb, lit<}
+use lib.IntN.{ℤ, pos, negsuc}
 use borrow.Author.Tests.{lt-ltb, le-ltb, ne_eqb}
 use Rattle.laws.specs.Ranges.{InBits}
-use Rattle.laws.proofs.Num.{minus, read, abs_below}
+use Rattle.laws.proofs.Num.{minus}
 use Rattle.bc6h_spec.specs.Half.{sign_extend, keep, is_lowest}
 use Rattle.bc6h_spec.specs.Picture.{first_end}
 use Rattle.bc6h_spec.proofs.Ranges.{first_in}
@@ -50,14 +47,8 @@ lowest_kept (negsuc n) r = rw (below n (omega arith)) (by (ℕ_discrete n 32767)
     by (yes e) = rw e refl
     by (no f) = ne_eqb (65535 - n) 32768 (λ e. f (omega arith)) ∙ sym (ne_eqb n 32767 f)
 
--- a number that is not below zero, as it is read and cast to `u16`
-pub word_fits : {z y : ℤ} → mag z < 2147483648 → z ≡ y → InBits false 16 y → T (non_neg (to_z w32 (of_z w32 z))) × Fits w16 (nat_abs (to_z w32 (of_z w32 z)))
-word_fits {z} {y} f e r =
-    subst (λ (x : ℤ). T (non_neg x) × Fits w16 (nat_abs x)) (sym (read f e)) (r.sign, record { fits = abs_below y r.sign r.inside })
-
-pub word_is : {z y : ℤ} → mag z < 2147483648 → z ≡ y → InBits false 16 y → pos (nat_abs (to_z w32 (of_z w32 z))) ≡ y
-word_is {z} {y} f e r = ap (λ (x : ℤ). pos (nat_abs x)) (read f e) ∙ whole y r.sign
-  where
-    whole : (y : ℤ) → T (non_neg y) → pos (nat_abs y) ≡ y
-    whole (pos n) s = refl
-    whole (negsuc n) s = absurd s
+-- no number of the unsigned format is −32768
+pub none_lowest : (z : ℤ) → false ≡ is_lowest false z
+unfolding is_lowest
+none_lowest (pos n) = refl
+none_lowest (negsuc n) = refl

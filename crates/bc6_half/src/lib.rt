@@ -2,12 +2,11 @@
 // Each step is worked out first and chosen after, so that no jump depends on the data.
 #![tactic(auto)]
 
-ghost use Rattle.std.specs.Prelude.{◌≡◌, true, false, ◌^◌, ◌<◌, ◌≤◌, pos, nat_abs, get_or};
+ghost use Rattle.std.specs.Prelude.{◌≡◌, true, ◌^◌, ◌<◌, ◌≤◌, pos, nat_abs, get_or};
 ghost use Rattle.laws.specs.Pick.{pick};
 ghost use Rattle.laws.specs.Ranges.{Below, Within, InBits};
-ghost use Rattle.bc6h_spec.specs.Half.{sign_extend, keep, interpolated, finish_s};
-ghost use Rattle.bcn_spec.specs.Weights.{weights8, weights16};
-ghost use Rattle.bc6_half.specs.Halves.{half_of, black};
+ghost use Rattle.bc6h_spec.specs.Half.{sign_extend, keep, interpolated, finish_u, finish_s};
+ghost use Rattle.bc6_half.specs.Halves.{weights_of, signed_number, half_of, black};
 
 // The number that `bits` bits with the value `x` stand for in two's complement.
 pub fn sign_extend(x: i32, bits: u8) -> i32
@@ -36,20 +35,13 @@ pub fn magnitude(x: i32) -> i32
     x
 }
 
-// 0, 9, 18, 27, 37, 46, 55, 64.
-pub fn weight_3(i: u16) -> u16
-    requires { i < 8 }
-    ensures { (result ≡ get_or weights8 i 0) × (result ≤ 64) }
+// The weight of an index of so many bits. Of three: 0, 9, 18, 27, 37, 46, 55, 64. Of four: 0, 4, 9, 13, 17, 21, 26, 30, 34, 38, 43, 47, 51, 55, 60, 64.
+pub fn weight<const BITS: u8>(i: u16) -> u16
+    requires { ((3 ≤ BITS) × (BITS ≤ 4)) × (i < 2 ^ BITS) }
+    ensures { (result ≡ get_or (weights_of BITS) i 0) × (result ≤ 64) }
 {
-    (37 * i) >> 2
-}
-
-// 0, 4, 9, 13, 17, 21, 26, 30, 34, 38, 43, 47, 51, 55, 60, 64.
-pub fn weight_4(i: u16) -> u16
-    requires { i < 16 }
-    ensures { (result ≡ get_or weights16 i 0) × (result ≤ 64) }
-{
-    (17 * i + 2) >> 2
+    let eighths = if BITS == 3 { 73 } else { 34 };
+    (eighths * i + 4) >> 3
 }
 
 // (a (64 − w) + b w + 32) div 64, rounded down. (64 − w is taken before it is widened, so that each product is of two numbers of 16 bits.)
@@ -68,17 +60,27 @@ pub fn kept_16(x: i32) -> u16
 }
 
 // The number that 16 bits stand for.
-pub fn number_16(u: u16) -> i32
-    ensures { result ≡ sign_extend 16 u }
+pub fn number<const SIGNED: bool>(u: u16) -> i32
+    ensures { result ≡ signed_number SIGNED u }
 {
-    sign_extend(u as i32, 16)
+    if SIGNED {
+        return sign_extend(u as i32, 16);
+    }
+    u as i32
+}
+
+// 31 x div 64.
+fn pattern_unsigned(u: u16) -> u16
+    ensures { result ≡ finish_u u }
+{
+    (((u as i32) * 31) >> 6) as u16
 }
 
 // 31 |x| div 32 and the sign. At −1 the scaled number is 0 already, so the sign is added below −1.
 fn pattern_signed(u: u16) -> u16
     ensures { result ≡ finish_s (sign_extend 16 u) }
 {
-    let x = number_16(u);
+    let x = number::<true>(u);
     let t = ((magnitude(x) * 31) >> 5) as u16;
     let sign: u16 = if x < -1 { 0x8000 } else { 0 };
     sign + t
@@ -99,7 +101,7 @@ impl Half {
     pub fn black() -> [Half; 3]
         ensures { result ≡ black }
     {
-        [finish_unsigned(0); 3]
+        [finish::<false>(0); 3]
     }
 
     // 1 for minus infinity.
@@ -110,25 +112,22 @@ impl Half {
     }
 }
 
-// 31 x div 64.
-pub fn finish_unsigned(x: u16) -> Half
-    ensures { result ≡ half_of false (pos x) }
-{
-    Half {
-        pattern: (((x as i32) * 31) >> 6) as u16,
-        infinite: false,
-    }
-}
-
-// The pattern, and whether the number was −32768. (It goes through 16 bits, so that the compiler takes eight at a time from here on.)
-pub fn finish_signed(x: i32) -> Half
-    requires { InBits true 16 x }
-    ensures { result ≡ half_of true x }
+// The pattern, and whether the number was −32768, which no number of the unsigned format is. (It goes through 16 bits, so that the compiler takes
+// eight at a time from here on.)
+pub fn finish<const SIGNED: bool>(x: i32) -> Half
+    requires { InBits SIGNED 16 x }
+    ensures { result ≡ half_of SIGNED x }
 {
     let u = kept_16(x);
+    if SIGNED {
+        return Half {
+            pattern: pattern_signed(u),
+            infinite: u == Half::LOWEST,
+        };
+    }
     Half {
-        pattern: pattern_signed(u),
-        infinite: u == Half::LOWEST,
+        pattern: pattern_unsigned(u),
+        infinite: false,
     }
 }
 
@@ -138,7 +137,7 @@ pub fn finish_unquantize(x: i32, signed: bool) -> Half
     ensures { result ≡ half_of signed x }
 {
     if signed {
-        return finish_signed(x);
+        return finish::<true>(x);
     }
-    finish_unsigned(x as u16)
+    finish::<false>(x)
 }

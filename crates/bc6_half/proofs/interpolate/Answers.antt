@@ -8,23 +8,6 @@ use Rattle.bc6h_spec.specs.Half.{interpolated}
 use Rattle.laws.proofs.Num.{Num, arg, lit, add, mul, shr, need, kept, diff, wide}
 use Rattle.bc6_half.proofs.interpolate.Goals as goal
 
-pub overflow_mul-result : goal.overflow_mul-result
-overflow_mul-result c =
-    let low : Num = mul (arg 65536 c.ranges.a c.requires.0.0.inside) (wide 64 {f = 64 - c.args.w} (omega arith) tt) in
-    need low tt
-
-pub overflow_mul-result-2 : goal.overflow_mul-result-2
-overflow_mul-result-2 c =
-    let high : Num = mul (arg 65536 c.ranges.b c.requires.0.1.inside) (wide 64 c.requires.1 tt) in
-    need high tt
-
-pub overflow_add-result : goal.overflow_add-result
-overflow_add-result c =
-    let low : Num = mul (arg 65536 c.ranges.a c.requires.0.0.inside) (wide 64 {f = 64 - c.args.w} (omega arith) tt) in
-    let high : Num = mul (arg 65536 c.ranges.b c.requires.0.1.inside) (wide 64 c.requires.1 tt) in
-    let both : Num = add (kept low tt) (kept high tt) in
-    need both tt
-
 pub overflow_add-result-2 : goal.overflow_add-result-2
 overflow_add-result-2 c =
     let low : Num = mul (arg 65536 c.ranges.a c.requires.0.0.inside) (wide 64 {f = 64 - c.args.w} (omega arith) tt) in

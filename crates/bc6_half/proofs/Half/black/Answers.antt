@@ -7,4 +7,4 @@ use Rattle.bc6_half.proofs.Half.black.Goals as goal
 
 pub returns : goal.returns
 unfolding half_of finished finish_u is_lowest
-returns c = ap (replicate 3) c.finish_unsigned.ensures
+returns c = ap (replicate 3) c.finish.ensures

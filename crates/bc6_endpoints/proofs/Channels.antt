@@ -6,7 +6,7 @@ use Prim.Native.Nat.{ℕ, ◌^◌, ◌≤◌, ◌<◌}
 use native.Mathlib.Omega.{arith}
 use lib.Dec.{lit<, lit≤}
 use lib.IntN.{ℤ, pos, nat_abs}
-use lib.Pow.{pow_mono, pow_pos}
+use lib.Pow.{pow_mono}
 use lib.Signed.{mag, pos-nat_abs}
 use mir.Syntax.{w32}
 use mir.Val.{to_z, of_z}
@@ -29,12 +29,9 @@ module _ {k : ℕ} {z : ℤ} (b : Below k z) where
   pub size : nat_abs z < k
   size = abs_below z b.nonneg b.below
 
-  -- as it is handed to a callee
+  -- as a callee reads it
   pub back : k ≤ 65536 → to_z w32 (of_z w32 z) ≡ z
   back h = to_z-of_z w32 z (record { sfits = omega (arith, b.below) })
-
-  pub handed : k ≤ 65536 → Below k (to_z w32 (of_z w32 z))
-  handed h = subst (Below k) (sym (back h)) b
 
 bits_16 : (p : ℕ) → p ≤ 16 → 2 ^ p ≤ 65536
 bits_16 p h = pow_mono {i = p} {j = 16} h
@@ -53,9 +50,6 @@ module _ {p w : ℕ} {base x : ℤ} (a : Apart p w base x) where
 
   pub field_back : to_z w32 (of_z w32 x) ≡ x
   field_back = back a.few wide_w
-
-  pub extend_asks : (0 < w) × (w ≤ 31) × Below (2 ^ w) (to_z w32 (of_z w32 x))
-  extend_asks = (a.narrow.some, omega (arith, a.narrow.most, a.narrow.own), handed a.few wide_w)
 
   module _ (d : ℤ) (ok : mag d < 2147483648) (told : d ≡ sign_extend w (nat_abs (to_z w32 (of_z w32 x)))) where
     pub difference : to_z w32 (of_z w32 d) ≡ sign_extend w (nat_abs x)
@@ -80,9 +74,10 @@ module _ {p w : ℕ} {base x : ℤ} (a : Apart p w base x) where
       pub inside : InBits s p (to_z w32 (of_z w32 t))
       inside = subst (InBits s p) (sym moved) (transformed_in s p base (sign_extend w (nat_abs x)) (omega (arith, a.narrow.some, a.narrow.own)))
 
-      pub end_is : (r : ℤ) → mag r < 2147483648 → r ≡ unquantized s p (to_z w32 (of_z w32 t)) → to_z w32 (of_z w32 r) ≡ end_of s p w base x
+      -- as the branch of its format has it
+      pub end_is : {b : Bool} → s ≡ b → (r : ℤ) → mag r < 2147483648 → r ≡ unquantized b p (to_z w32 (of_z w32 t)) → to_z w32 (of_z w32 r) ≡ end_of s p w base x
       unfolding end_of
-      end_is r l e = read l (e ∙ ap (unquantized s p) moved)
+      end_is f r l e = read l (e ∙ (λ i. unquantized (sym f i) p (moved i)))
 
 -- unsigned, as its callee asks and tells
 pub narrow_asks : {p : ℕ} {z : ℤ} → 0 < p → p < 15 → InBits false p z → (0 < p) × (p < 15) × Below (2 ^ p) z
@@ -110,12 +105,6 @@ module _ {p w : ℕ} {n : List ℤ} (k : Channel p w n) where
   other_is : (e : ℕ) → 1 ≤ e → e < 4 → to_z w32 (of_z w32 (end_at n e)) ≡ pos (stored_in n e)
   other_is e l h = back (other e h l) few_w ∙ whole_number (other e h l)
 
-  pub first_asks : Apart p w (to_z w32 (of_z w32 (end_at n 0))) (pos 0)
-  first_asks = record { narrow = k.narrow; whole = handed k.first few_p; few = record { nonneg = tt; below = pow_pos w } }
-
-  pub other_asks : (e : ℕ) → 1 ≤ e → e < 4 → Apart p w (to_z w32 (of_z w32 (end_at n 0))) (to_z w32 (of_z w32 (end_at n e)))
-  other_asks e l h = record { narrow = k.narrow; whole = handed k.first few_p; few = handed (other e h l) few_w }
-
   module _ (s : Bool) where
     first_done : (r : ℤ) → r ≡ end_of s p w (to_z w32 (of_z w32 (end_at n 0))) (pos 0) → r ≡ whole_of s p (stored_in n 0)
     first_done r e = e ∙ ap (λ (z : ℤ). end_of s p w z (pos 0)) base_is ∙ unmoved s p w (stored_in n 0) (size k.first)
@@ -142,9 +131,6 @@ module _ {p : ℕ} {n : List ℤ} (k : StoredWhole p n) where
 
   few_bits : 2 ^ p ≤ 65536
   few_bits = bits_16 p (omega (arith, k.narrow.most))
-
-  pub whole_asks : (e : ℕ) → e < 4 → Apart p p (pos 0) (to_z w32 (of_z w32 (end_at n e)))
-  whole_asks e h = record { narrow = k.narrow; whole = record { nonneg = tt; below = pow_pos p }; few = handed (each e h) few_bits }
 
   module _ (s : Bool) where
     one_done : (e : ℕ) → e < 4 → (r : ℤ) → r ≡ end_of s p p (pos 0) (to_z w32 (of_z w32 (end_at n e))) → r ≡ whole_of s p (stored_in n e)

@@ -1,7 +1,7 @@
 -- The transform of sixteen bits by a difference of four. Assumes nothing.
 use mathlib.Core.Path.{◌≡◌, ◌∙◌, sym, ap, subst}
-use mathlib.Core.Bool.{true, false}
-use mathlib.Core.List.{List, [], ◌∷◌}
+use mathlib.Core.Bool.{true}
+use mathlib.Core.List.{List}
 use Prim.Native.Nat.{◌^◌, ◌<◌, ◌≤◌}
 use native.Mathlib.Omega.{arith}
 use lib.Dec.{lit<, lit≤}
@@ -11,14 +11,11 @@ use mir.Syntax.{w32}
 use mir.Val.{to_z, of_z}
 use Rattle.laws.specs.Ranges.{Below, Within}
 use Rattle.laws.proofs.Num.{read}
-use Rattle.bc6h_spec.specs.Half.{sign_extend, transform}
+use Rattle.bc6h_spec.specs.Half.{sign_extend}
 use Rattle.bc6h_spec.specs.Picture.{delta}
 use Rattle.bc6h_spec.proofs.Ranges.{delta_within}
-use Rattle.bc6_endpoints.specs.Ends.{end_at, stored_in, Sixteen}
-use Rattle.bc6_endpoints.proofs.Channels.{size, back, handed}
-
-pub extend_asks : {x : ℤ} → Below (2 ^ 4) x → (0 < 4) × (4 ≤ 31) × Below (2 ^ 4) (to_z w32 (of_z w32 x))
-extend_asks b = (lit< tt, lit≤ tt, handed b (lit≤ tt))
+use Rattle.bc6_endpoints.specs.Ends.{end_at, stored_in}
+use Rattle.bc6_endpoints.proofs.Channels.{size, back}
 
 module _ (n : List ℤ) (whole : Below (2 ^ 16) (end_at n 0)) (few : Below (2 ^ 4) (end_at n 1)) (d : ℤ) (ok : mag d < 2147483648)
     (told : d ≡ sign_extend 4 (nat_abs (to_z w32 (of_z w32 (end_at n 1))))) where
@@ -38,6 +35,3 @@ module _ (n : List ℤ) (whole : Below (2 ^ 16) (end_at n 0)) (few : Below (2 ^ 
     lit≤ tt,
     (subst (Within 65536) (sym first_is) (record { inside = omega (arith, whole.below) }), subst (Within 65536) (sym difference) within),
   )
-
-  pub sum_done : {t x y : ℤ} → t ≡ transform false 16 (to_z w32 (of_z w32 (end_at n 0))) (to_z w32 (of_z w32 d)) → Sixteen n (to_z w32 (of_z w32 (end_at n 0)) ∷ t ∷ x ∷ y ∷ [])
-  sum_done e = record { first = first_is; second = e ∙ (λ i. transform false 16 (first_is i) (difference i)) }

@@ -1,10 +1,10 @@
 // A channel's ends, from the numbers that a block stores: sign extension, transform and unquantising on i32. The arithmetic is bc6_half's and
 // bc6_colour's, which serves the field record too.
 //
-// The bits of a mode come as literals, and each format has functions of its own: the compiler then works out four ends at once.
+// The bits of a mode come as literals, and the format as a const parameter: the compiler then works out four ends at once.
 #![tactic(auto)]
 
-ghost use Rattle.std.specs.Prelude.{◌≡◌, true, false, ◌^◌};
+ghost use Rattle.std.specs.Prelude.{◌≡◌, ◌^◌};
 ghost use Rattle.laws.specs.Ranges.{Below};
 ghost use Rattle.bc6_endpoints.specs.Ends.{end_at, end_of, Apart, Channel, ChannelEnds, StoredWhole, WholeEnds, Sixteen};
 
@@ -19,71 +19,42 @@ pub struct Ends {
     pub blue: [i32; 4],
 }
 
-// The end, in unsigned format, that is stored as a difference of `width` bits from `base`, which has p bits.
-fn end_unsigned(base: i32, x: i32, width: u8, p: u8) -> i32
+// The end that is stored as a difference of `width` bits from `base`, which has p bits. The difference is added to the bits of the base as they
+// are stored, and in signed format the sign is extended after it.
+fn end<const SIGNED: bool>(base: i32, x: i32, width: u8, p: u8) -> i32
     requires { Apart p width base x }
-    ensures { result ≡ end_of false p width base x }
+    ensures { result ≡ end_of SIGNED p width base x }
 {
-    unquantize_narrow(transform_one(base, sign_extend(x, width), p, false), p)
+    let moved = transform_one(base, sign_extend(x, width), p, SIGNED);
+    if SIGNED {
+        return unquantize_signed(moved, p);
+    }
+    unquantize_narrow(moved, p)
 }
 
-// The same in signed format. The difference is added to the bits of the base as they are stored, and the sign is extended after it.
-fn end_signed(base: i32, x: i32, width: u8, p: u8) -> i32
-    requires { Apart p width base x }
-    ensures { result ≡ end_of true p width base x }
-{
-    unquantize_signed(transform_one(base, sign_extend(x, width), p, true), p)
-}
-
-// A channel whose first end is stored whole and whose others are differences from it, in unsigned format. The first is its own difference of 0.
-pub fn moved_unsigned(n: [i32; 4], width: u8, p: u8) -> [i32; 4]
+// A channel whose first end is stored whole and whose others are differences from it. The first is its own difference of 0.
+pub fn moved<const SIGNED: bool>(n: [i32; 4], width: u8, p: u8) -> [i32; 4]
     requires { Channel p width n }
-    ensures { ChannelEnds false p width n result }
+    ensures { ChannelEnds SIGNED p width n result }
 {
     [
-        end_unsigned(n[0], 0, width, p),
-        end_unsigned(n[0], n[1], width, p),
-        end_unsigned(n[0], n[2], width, p),
-        end_unsigned(n[0], n[3], width, p),
+        end::<SIGNED>(n[0], 0, width, p),
+        end::<SIGNED>(n[0], n[1], width, p),
+        end::<SIGNED>(n[0], n[2], width, p),
+        end::<SIGNED>(n[0], n[3], width, p),
     ]
 }
 
-// The same in signed format.
-pub fn moved_signed(n: [i32; 4], width: u8, p: u8) -> [i32; 4]
-    requires { Channel p width n }
-    ensures { ChannelEnds true p width n result }
-{
-    [
-        end_signed(n[0], 0, width, p),
-        end_signed(n[0], n[1], width, p),
-        end_signed(n[0], n[2], width, p),
-        end_signed(n[0], n[3], width, p),
-    ]
-}
-
-// A channel whose ends are all stored whole, which is a difference from 0, in unsigned format.
-pub fn whole_unsigned(n: [i32; 4], p: u8) -> [i32; 4]
+// A channel whose ends are all stored whole, which is a difference from 0.
+pub fn whole<const SIGNED: bool>(n: [i32; 4], p: u8) -> [i32; 4]
     requires { StoredWhole p n }
-    ensures { WholeEnds false p n result }
+    ensures { WholeEnds SIGNED p n result }
 {
     [
-        end_unsigned(0, n[0], p, p),
-        end_unsigned(0, n[1], p, p),
-        end_unsigned(0, n[2], p, p),
-        end_unsigned(0, n[3], p, p),
-    ]
-}
-
-// The same in signed format.
-pub fn whole_signed(n: [i32; 4], p: u8) -> [i32; 4]
-    requires { StoredWhole p n }
-    ensures { WholeEnds true p n result }
-{
-    [
-        end_signed(0, n[0], p, p),
-        end_signed(0, n[1], p, p),
-        end_signed(0, n[2], p, p),
-        end_signed(0, n[3], p, p),
+        end::<SIGNED>(0, n[0], p, p),
+        end::<SIGNED>(0, n[1], p, p),
+        end::<SIGNED>(0, n[2], p, p),
+        end::<SIGNED>(0, n[3], p, p),
     ]
 }
 

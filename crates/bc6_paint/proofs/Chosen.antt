@@ -1,18 +1,11 @@
 -- A mask selects one of two numbers. Assumes nothing.
 use mathlib.Core.Path.{◌≡◌, ◌∙◌, ap₂}
 use mathlib.Core.Bool.{Bool, true, false}
-use Prim.Native.Nat.{ℕ, ◌*◌, ◌<◌}
+use Prim.Native.Nat.{ℕ, ◌<◌}
 use native.Mathlib.Nat.{mod-eq_of_lt, lt_of_le_of_lt}
 use lib.Bits.{bit_and, bit_or, bit_xor, and_comm, and_le_l, and_mask, and_zero_l, or_lt, or_zero_r}
-use lib.Dec.{eqb, eqb→eq}
 use Rattle.laws.specs.Pick.{pick}
-use Rattle.laws.proofs.Tests.{below_at}
 use Rattle.bc6_paint.specs.Values.{region_mask, selected}
-
--- ---- the mask of a region
-
-pub mask_is : (b : ℕ) → b < 2 → b * 0xFFFF ≡ region_mask (eqb b 1)
-mask_is b h = eqb→eq _ _ (below_at (λ b. eqb (b * 0xFFFF) (region_mask (eqb b 1))) 2 b tt h)
 
 -- all bits, and none
 all : (a : ℕ) → a < 65536 → bit_and a 0xFFFF ≡ a

@@ -167,7 +167,7 @@ digit_high : (b n k : ℕ) → packed_at b (n / 2 ^ (b * 8)) k ≡ packed_at b n
 digit_high b n k =
     ap (λ (m : ℕ). m % 2 ^ b) (shr-shr n (b * 8) (b * k)) ∙ ap (λ (m : ℕ). n / 2 ^ m % 2 ^ b) (sym (mul-add b 8 k))
 
--- a weight by an index of the low half, of the high half, and of a high half that is kept by itself
+-- a weight by an index of the low half, and of the high half
 module _ (ws : List ℕ) (b word half k i w : ℕ) (ei : i ≡ packed_at b half k) (ew : w ≡ get_or ws i 0) where
   weighed : (n : ℕ) → packed_at b half k ≡ n → w ≡ get_or ws n 0
   weighed n e = ew ∙ ap (λ (m : ℕ). get_or ws m 0) (ei ∙ e)
@@ -175,11 +175,8 @@ module _ (ws : List ℕ) (b word half k i w : ℕ) (ei : i ≡ packed_at b half 
   pub weight_low : half ≡ word % 2 ^ (b * 8) → k < 8 → w ≡ get_or ws (packed_at b word k) 0
   weight_low e l = weighed _ (ap (λ (n : ℕ). packed_at b n k) e ∙ digit_low b word k l)
 
-  pub weight_high : half ≡ word / 2 ^ (b * 8) → w ≡ get_or ws (packed_at b word (8 + k)) 0
-  weight_high e = weighed _ (ap (λ (n : ℕ). packed_at b n k) e ∙ digit_high b word k)
-
-  pub weight_upper : half ≡ word / 2 ^ (b * 8) % 2 ^ (b * 8) → k < 8 → w ≡ get_or ws (packed_at b word (8 + k)) 0
-  weight_upper e l = weighed _ (ap (λ (n : ℕ). packed_at b n k) e ∙ digit_low b (word / 2 ^ (b * 8)) k l ∙ digit_high b word k)
+  pub weight_high : half ≡ word / 2 ^ (b * 8) % 2 ^ (b * 8) → k < 8 → w ≡ get_or ws (packed_at b word (8 + k)) 0
+  weight_high e l = weighed _ (ap (λ (n : ℕ). packed_at b n k) e ∙ digit_low b (word / 2 ^ (b * 8)) k l ∙ digit_high b word k)
 
 -- the map's high half, for the pixels from 8 on
 pub mask_above : (map k : ℕ) → region_mask (eqb (bit (map / 2 ^ 8) k) 1) ≡ region_mask (eqb (bit map (8 + k)) 1)

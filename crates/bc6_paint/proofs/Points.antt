@@ -58,6 +58,13 @@ pub record Drawn (ends : List ℤ) (a b c d : ℕ) : Type 0 where
   pub front_second : c ≡ held_at ends 2
   pub back_second : d ≡ held_at ends 3
 
+-- of the ends as they are read
+pub drawn_of : (l : List ℤ) (us : List Val) → shadow (each ℤ (SInt w32).own_val l us) → {a b c d : ℕ}
+    → a ≡ keep 16 (to_z w32 (of_z w32 (get_or l 0 (pos 0)))) → b ≡ keep 16 (to_z w32 (of_z w32 (get_or l 1 (pos 0))))
+    → c ≡ keep 16 (to_z w32 (of_z w32 (get_or l 2 (pos 0)))) → d ≡ keep 16 (to_z w32 (of_z w32 (get_or l 3 (pos 0)))) → Drawn l a b c d
+drawn_of l us p ea eb ec ed =
+    record { front = held_is l us 0 p ea; back = held_is l us 1 p eb; front_second = held_is l us 2 p ec; back_second = held_is l us 3 p ed }
+
 module _ (s : Bool) {ends : List ℤ} {a b c d : ℕ} (n : Drawn ends a b c d) (mask w : ℕ) (hw : w ≤ 64) where
   end_lt : {x y : ℕ} (e g : ℕ) → x ≡ held_at ends e → y ≡ held_at ends g → selected mask x y < 65536
   end_lt e g ex ey =

@@ -1,12 +1,11 @@
 -- S-21 to S-27: the values of a block, worked out of its endpoints and its pixels' indices. Assumes nothing.
-use Rattle.std.specs.Prelude.{Bool, true, false, List, ◌++◌, ◌≡◌, ℕ, ◌+◌, ◌*◌, ◌/◌, ◌%◌, ◌^◌, ◌≤◌, eqb, ℤ, pos, length, get_or, set, drop}
+use Rattle.std.specs.Prelude.{Bool, List, ◌++◌, ◌≡◌, ℕ, ◌+◌, ◌*◌, ◌/◌, ◌%◌, ◌^◌, ◌≤◌, eqb, ℤ, pos, length, get_or, set, drop}
 use Rattle.std.specs.Int.Bits.{bit_and, bit_or, bit_xor}
 use Rattle.laws.specs.Pick.{pick}
 use Rattle.laws.specs.Bit.{bit}
 use Rattle.laws.specs.Made.{count_of}
 use Rattle.bc6h_spec.specs.Half.{minus_infinity, interpolated, finished}
-use Rattle.bcn_spec.specs.Weights.{weights8, weights16}
-use Rattle.bc6_half.specs.Halves.{signed_number}
+use Rattle.bc6_half.specs.Halves.{weights_of, signed_number}
 use Rattle.bc6_paint.specs.declared.Turn.{Turn}
 use Rattle.bc6_endpoints.specs.Ends.{held_at}
 
@@ -16,17 +15,13 @@ use Rattle.bc6_endpoints.specs.Ends.{held_at}
 abbrev pub packed_at : ℕ → ℕ → ℕ → ℕ
 packed_at bits word k = word / 2 ^ (bits * k) % 2 ^ bits
 
-abbrev pub one_second : ℕ → Bool
-one_second k = false
+-- S-12: by the map of the regions, which is 0 for a block of one
+abbrev pub in_second : ℕ → ℕ → Bool
+in_second map k = eqb (bit map k) 1
 
-abbrev pub one_weight : ℕ → ℕ → ℕ
-one_weight word k = get_or weights16 (packed_at 4 word k) 0
-
-abbrev pub two_second : ℕ → ℕ → Bool
-two_second map k = eqb (bit map k) 1
-
-abbrev pub two_weight : ℕ → ℕ → ℕ
-two_weight word k = get_or weights8 (packed_at 3 word k) 0
+-- S-22: by an index of so many bits
+abbrev pub weight_in : ℕ → ℕ → ℕ → ℕ
+weight_in bits word k = get_or (weights_of bits) (packed_at bits word k) 0
 
 -- S-12: a region as a mask of 16 bits
 abbrev pub region_mask : Bool → ℕ
@@ -60,12 +55,9 @@ painted_value signed ends second weight j =
     let c = j % 3 in
     shade_of signed (pick t (ends 2 c) (ends 0 c)) (pick t (ends 3 c) (ends 1 c)) (weight (j / 3))
 
--- of a block of one region, all of it region 0, and of one of two
-abbrev pub one_value : Bool → (ℕ → ℕ → ℕ) → ℕ → ℕ → ℕ
-one_value signed ends word = painted_value signed ends one_second (one_weight word)
-
-abbrev pub two_value : Bool → (ℕ → ℕ → ℕ) → ℕ → ℕ → ℕ → ℕ
-two_value signed ends map word = painted_value signed ends (two_second map) (two_weight word)
+-- by the map of its regions, and its indices of so many bits
+abbrev pub block_value : Bool → ℕ → (ℕ → ℕ → ℕ) → ℕ → ℕ → ℕ → ℕ
+block_value signed bits ends map word = painted_value signed ends (in_second map) (weight_in bits word)
 
 -- ---- two values are stored, one 24 behind the other
 
@@ -85,16 +77,11 @@ pair_painted signed t ends at out = set (set out at (shade_in signed ends t.seco
 abbrev pub counted : ℕ → ℕ
 counted value = pick (eqb value minus_infinity) 1 0
 
--- the two in unsigned format
-pub record PairStored (t : Turn) (ends : List ℤ) (at : ℕ) (out after : List ℕ) : Type 0 where
-  pub holds : after ≡ pair_painted false t ends at out
+-- the two, and how many of them are minus infinity
+pub record PairPainted (signed : Bool) (t : Turn) (ends : List ℤ) (at : ℕ) (out : List ℕ) (infinite : ℕ) (after : List ℕ) : Type 0 where
+  pub holds : after ≡ pair_painted signed t ends at out
   pub long : length after ≡ length out
-
--- the two in signed format, and how many of them are minus infinity
-pub record PairCounted (t : Turn) (ends : List ℤ) (at : ℕ) (out : List ℕ) (infinite : ℕ) (after : List ℕ) : Type 0 where
-  pub holds : after ≡ pair_painted true t ends at out
-  pub long : length after ≡ length out
-  pub counts : infinite ≡ counted (shade_in true ends t.second t.w) + counted (shade_in true ends t.second8 t.w8)
+  pub counts : infinite ≡ counted (shade_in signed ends t.second t.w) + counted (shade_in signed ends t.second8 t.w8)
   pub few : infinite ≤ 2
 
 -- ---- what is written
@@ -103,3 +90,8 @@ pub record PairCounted (t : Turn) (ends : List ℤ) (at : ℕ) (out : List ℕ) 
 pub record PaintedAs (values out : List ℕ) (infinite : ℕ) (after : List ℕ) : Type 0 where
   pub holds : after ≡ values ++ drop 48 out
   pub counts : infinite ≡ count_of minus_infinity values
+
+-- S-27: the values are written, and those of a block of one region, whose indices have four bits, are counted so
+pub record BlockPainted (bits : ℕ) (values out : List ℕ) (infinite : ℕ) (after : List ℕ) : Type 0 where
+  pub holds : after ≡ values ++ drop 48 out
+  pub counts : bits ≡ 4 → infinite ≡ count_of minus_infinity values

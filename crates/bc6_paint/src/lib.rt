@@ -1,58 +1,41 @@
-// What a block's values are (specs), what its pixels have, and the values of a channel of two of them. A turn of the loops, which are in
-// `one_region` and `two_regions`, paints pixels k and k + 8. Names that end in 8 are of pixel k + 8.
+// The values of a block. Each is worked out from its pixel's index and lies between two ends: ends 0 and 1 in region 0, ends 2 and 3 in region 1.
+// There is no palette.
+//
+// A turn of the loop paints pixels k and k + 8, one channel of both after the other: of that the compiler makes vector code of eight pixels whose
+// numbers stay in registers. Each format and each width of index has an instance of its own with one caller, into which it is inlined: the ends
+// then never go through memory. Names that end in 8 are of pixel k + 8.
 #![tactic(auto)]
 
-pub mod one_region;
-pub mod two_regions;
-
-ghost use Rattle.std.specs.Prelude.{◌≡◌, true, false, ◌+◌, ◌/◌, ◌%◌, ◌^◌, ◌≤◌, ◌<◌, eqb, pos, length};
+ghost use Rattle.std.specs.Prelude.{◌≡◌, ◌+◌, ◌*◌, ◌/◌, ◌%◌, ◌^◌, ◌≤◌, ◌<◌, eqb, length};
 ghost use Rattle.laws.specs.Bit.{bit};
-ghost use Rattle.bc6_paint.specs.Values.{packed_at, one_second, one_weight, two_second, two_weight, region_mask, TurnOf, point_of, selected, PairStored, PairCounted};
+ghost use Rattle.laws.specs.Made.{made};
+ghost use Rattle.bc6_endpoints.specs.Ends.{end_in};
+ghost use Rattle.bc6_paint.specs.Values.{packed_at, in_second, weight_in, region_mask, TurnOf, point_of, selected, PairPainted, block_value, BlockPainted};
 
-use bc6_half::{
-    finish_signed, finish_unsigned, interpolate, kept_16, number_16, weight_3, weight_4,
-};
+use bc6_endpoints::Ends;
+use bc6_half::{finish, interpolate, kept_16, number, weight};
 
-// The first eight of sixteen indices of three bits, pixel 0 lowest.
-fn low_24(word: u64) -> u32
-    ensures { result ≡ word % 2 ^ 24 }
+// The first eight of sixteen indices of so many bits, pixel 0 lowest.
+fn low<const BITS: u8>(word: u64) -> u32
+    requires { BITS ≤ 4 }
+    ensures { result ≡ word % 2 ^ (BITS * 8) }
 {
-    (word % 0x100_0000) as u32
+    (word % (1u64 << (BITS * 8))) as u32
 }
 
 // The other eight.
-fn high_24(word: u64) -> u32
-    ensures { result ≡ word / 2 ^ 24 % 2 ^ 24 }
+fn high<const BITS: u8>(word: u64) -> u32
+    requires { BITS ≤ 4 }
+    ensures { result ≡ word / 2 ^ (BITS * 8) % 2 ^ (BITS * 8) }
 {
-    ((word >> 24) % 0x100_0000) as u32
+    low::<BITS>(word >> (BITS * 8))
 }
 
-// The first eight of sixteen indices of four bits, pixel 0 lowest.
-fn low_32(word: u64) -> u32
-    ensures { result ≡ word % 2 ^ 32 }
+fn index<const BITS: u8>(word: u32, k: usize) -> u16
+    requires { (BITS ≤ 4) × (k < 8) }
+    ensures { (result ≡ packed_at BITS word k) × (result < 2 ^ BITS) }
 {
-    (word % 0x1_0000_0000) as u32
-}
-
-// The other eight.
-fn high_32(word: u64) -> u32
-    ensures { result ≡ word / 2 ^ 32 }
-{
-    (word >> 32) as u32
-}
-
-fn index_3(word: u32, k: usize) -> u16
-    requires { k < 8 }
-    ensures { (result ≡ packed_at 3 word k) × (result < 8) }
-{
-    ((word >> (3 * k)) % 8) as u16
-}
-
-fn index_4(word: u32, k: usize) -> u16
-    requires { k < 8 }
-    ensures { (result ≡ packed_at 4 word k) × (result < 16) }
-{
-    ((word >> (4 * k)) % 16) as u16
+    ((word >> ((BITS as usize) * k)) % (1u32 << BITS)) as u16
 }
 
 // All ones for a pixel of region 1, else 0.
@@ -72,29 +55,16 @@ pub struct Turn {
     pub w8: u16,
 }
 
-// Turn k of a block of one region, by its indices.
-fn turn_one(word: u64, k: usize) -> Turn
-    requires { k < 8 }
-    ensures { TurnOf one_second (one_weight word) k result }
-{
-    Turn {
-        second: 0,
-        second8: 0,
-        w: weight_4(index_4(low_32(word), k)),
-        w8: weight_4(index_4(high_32(word), k)),
-    }
-}
-
-// Turn k of a block of two regions, by their map and its indices.
-fn turn_two(word: u64, map: u16, k: usize) -> Turn
-    requires { k < 8 }
-    ensures { TurnOf (two_second map) (two_weight word) k result }
+// Turn k of a block, by the map of its regions and its indices of so many bits.
+fn turn_at<const BITS: u8>(map: u16, word: u64, k: usize) -> Turn
+    requires { ((3 ≤ BITS) × (BITS ≤ 4)) × (k < 8) }
+    ensures { TurnOf (in_second map) (weight_in BITS word) k result }
 {
     Turn {
         second: region_mask(map, k),
         second8: region_mask(map >> 8, k),
-        w: weight_3(index_3(low_24(word), k)),
-        w8: weight_3(index_3(high_24(word), k)),
+        w: weight::<BITS>(index::<BITS>(low::<BITS>(word), k)),
+        w8: weight::<BITS>(index::<BITS>(high::<BITS>(word), k)),
     }
 }
 
@@ -107,52 +77,58 @@ fn select(second: u16, a: u16, c: u16) -> u16
 }
 
 // The number at weight w: between a and b in region 0, between c and d in region 1.
-fn point_unsigned(second: u16, a: u16, b: u16, c: u16, d: u16, w: u16) -> u16
+fn point<const SIGNED: bool>(second: u16, a: u16, b: u16, c: u16, d: u16, w: u16) -> i32
     requires { w ≤ 64 }
-    ensures { pos result ≡ point_of false (selected second a c) (selected second b d) w }
-{
-    interpolate(select(second, a, c) as i32, select(second, b, d) as i32, w) as u16
-}
-
-fn point_signed(second: u16, a: u16, b: u16, c: u16, d: u16, w: u16) -> i32
-    requires { w ≤ 64 }
-    ensures { result ≡ point_of true (selected second a c) (selected second b d) w }
+    ensures { result ≡ point_of SIGNED (selected second a c) (selected second b d) w }
 {
     interpolate(
-        number_16(select(second, a, c)),
-        number_16(select(second, b, d)),
+        number::<SIGNED>(select(second, a, c)),
+        number::<SIGNED>(select(second, b, d)),
         w,
     )
 }
 
-// A channel of a turn's pixels by its four ends, in unsigned format: the values go to `at` and 24 behind it. The ends go through 16 bits, so
-// that the compiler takes eight at a time.
-fn channel_unsigned(t: Turn, ends: [i32; 4], at: usize, out: &mut [u16])
+// A channel of a turn's pixels by its four ends: the values go to `at` and 24 behind it. It answers how many of the two are minus infinity. The
+// ends go through 16 bits, so that the compiler takes eight at a time.
+fn channel<const SIGNED: bool>(t: Turn, ends: [i32; 4], at: usize, out: &mut [u16]) -> u16
     requires { (t.w ≤ 64) × (t.w8 ≤ 64) × (at + 24 < length out.old) }
-    ensures { PairStored t ends at out.old out.new }
+    ensures { PairPainted SIGNED t ends at out.old result out.new }
 {
     let a = kept_16(ends[0]);
     let b = kept_16(ends[1]);
     let c = kept_16(ends[2]);
     let d = kept_16(ends[3]);
-    let low = finish_unsigned(point_unsigned(t.second, a, b, c, d, t.w));
-    out[at] = low.pattern;
-    let high = finish_unsigned(point_unsigned(t.second8, a, b, c, d, t.w8));
+    let high = finish::<SIGNED>(point::<SIGNED>(t.second8, a, b, c, d, t.w8));
     out[at + 24] = high.pattern;
-}
-
-// The same in signed format. It answers how many of the two values are minus infinity.
-fn channel_signed(t: Turn, ends: [i32; 4], at: usize, out: &mut [u16]) -> u16
-    requires { (t.w ≤ 64) × (t.w8 ≤ 64) × (at + 24 < length out.old) }
-    ensures { PairCounted t ends at out.old result out.new }
-{
-    let a = kept_16(ends[0]);
-    let b = kept_16(ends[1]);
-    let c = kept_16(ends[2]);
-    let d = kept_16(ends[3]);
-    let high = finish_signed(point_signed(t.second8, a, b, c, d, t.w8));
-    out[at + 24] = high.pattern;
-    let low = finish_signed(point_signed(t.second, a, b, c, d, t.w));
+    let low = finish::<SIGNED>(point::<SIGNED>(t.second, a, b, c, d, t.w));
     out[at] = low.pattern;
     low.counted() + high.counted()
+}
+
+// The values of a block. Of one region it has indices of four bits and the map 0, and the number of its values that are minus infinity comes
+// back. Of two it has indices of three bits, and nothing is counted: no number between ends of fewer than sixteen bits is minus infinity.
+pub fn paint<const SIGNED: bool, const BITS: u8>(
+    ends: Ends,
+    map: u16,
+    word: u64,
+    out: &mut [u16],
+) -> u16
+    requires { ((3 ≤ BITS) × (BITS ≤ 4)) × (48 ≤ length out.old) }
+    ensures { BlockPainted BITS (made (block_value SIGNED BITS (end_in ends) map word) 48) out.old result out.new }
+{
+    let red = ends.red;
+    let green = ends.green;
+    let blue = ends.blue;
+    let mut infinite = 0u16;
+    for k in 0..8usize {
+        let t = turn_at::<BITS>(map, word, k);
+        let at = 3 * k;
+        let r = channel::<SIGNED>(t, red, at, out);
+        let g = channel::<SIGNED>(t, green, at + 1, out);
+        let b = channel::<SIGNED>(t, blue, at + 2, out);
+        if BITS == 4 {
+            infinite = infinite + r + g + b;
+        }
+    }
+    infinite
 }

@@ -3,7 +3,7 @@ use mathlib.Core.Path.{◌≡◌, ◌∙◌, refl, sym, ap, subst}
 use mathlib.Core.Bool.{Bool, true, false}
 use mathlib.Core.List.{List, [], ◌∷◌, ◌++◌}
 use Prim.Native.Nat.{ℕ, zero, suc, zero-le, ◌+◌, ◌*◌, ◌/◌, ◌%◌, ◌^◌, ◌≤◌, ◌<◌}
-use native.Mathlib.Nat.{mod-lt}
+use native.Mathlib.Nat.{mod-lt, zero-div}
 use native.Mathlib.Omega.{arith}
 use borrow.Author.Tests.{le-leb, lt-leb}
 use lib.Dec.{eqb, lit<, lit≤}
@@ -39,7 +39,7 @@ use Rattle.bcn_data.proofs.Fixups.{fixup_range}
 use Rattle.bc6_runs.proofs.Partition.{partition_at}
 use Rattle.bc6_endpoints.specs.Ends.{word_of, end_in}
 use Rattle.bc6_runs.specs.Ends.{places_of}
-use Rattle.bc6_paint.specs.Values.{packed_at, shade_of, painted_value, one_value, two_value, PaintedAs}
+use Rattle.bc6_paint.specs.Values.{packed_at, shade_of, painted_value, block_value, BlockPainted, PaintedAs}
 use Rattle.bc6_paint.proofs.Points.{worked_out}
 use Rattle.bc6_paint.proofs.Link.{painted_as}
 use Rattle.bc6.specs.Shown.{partition_in, Picked, OnePicked}
@@ -47,6 +47,10 @@ use Rattle.bc6.specs.declared.Picks.{Picks}
 use Rattle.bc6_endpoints.specs.declared.Ends.{Ends}
 use Rattle.bc6_by_mode.specs.Words.{end_word, EndsOf, BlockEnds}
 use Rattle.bc6.proofs.Codes.{two_codes, one_codes}
+
+-- a map with no pixel of region 1
+unmapped : (k : ℕ) → bit 0 k ≡ 0
+unmapped k = ap (λ (n : ℕ). n % 2) (zero-div (2 ^ k))
 
 -- ---- a record's values
 
@@ -71,19 +75,21 @@ module _ (s : Bool) (f : Fields) (v : Valid f) where
 
   module _ (ends : ℕ → ℕ → ℕ) (indices : ℕ) where
     one_shown : two_regions f.mode ≡ false → ((c e : ℕ) → c < 3 → e < 2 → ends e c ≡ word e c)
-        → ((k : ℕ) → k < 16 → packed_at 4 indices k ≡ index_of f k) → (j : ℕ) → j < 48 → one_value s ends indices j ≡ value s f j
+        → ((k : ℕ) → k < 16 → packed_at 4 indices k ≡ index_of f k) → (j : ℕ) → j < 48 → block_value s 4 ends 0 indices j ≡ value s f j
     unfolding painted_value value region_of
     one_shown t et ei j h =
         let w : weights16 ≡ weights f.mode = rw t refl in
         let c = j % 3 in
         let hc : j % 3 < 3 = mod-lt j (lit< tt) in
-        (λ i. shade_of s (ends 0 c) (ends 1 c) (get_or (w i) (ei (j / 3) (omega arith) i) 0))
+        (λ i.
+        let none = unmapped (j / 3) i in
+        shade_of s (pick (eqb none 1) (ends 2 c) (ends 0 c)) (pick (eqb none 1) (ends 3 c) (ends 1 c)) (get_or (w i) (ei (j / 3) (omega arith) i) 0))
         ∙ shown 0 c (index_of f (j / 3)) _ _ (lit< tt) hc (et c 0 hc (lit< tt)) (et c 1 hc (lit< tt))
         ∙ ap (λ (r : ℕ). palette s f r c (index_of f (j / 3))) (sym (rw t refl))
 
     two_shown : two_regions f.mode ≡ true → ((c e : ℕ) → c < 3 → e < 4 → ends e c ≡ word e c)
         → ((k : ℕ) → k < 16 → packed_at 3 indices k ≡ index_of f k) → (map : ℕ) → map ≡ map_of f.partition → (j : ℕ) → j < 48
-        → two_value s ends map indices j ≡ value s f j
+        → block_value s 3 ends map indices j ≡ value s f j
     unfolding painted_value value region_of
     two_shown t et ei map em j h =
         let w : weights8 ≡ weights f.mode = rw t refl in
@@ -125,7 +131,7 @@ module _ (s : Bool) (format m n : ℕ) (known_format : format ≤ 1) (low : 1 �
       (other_end s (transformed m) (precision m) (own_width m c) (first_end s (precision m) (stored_is 0 c (lit< tt) hc i)) (stored_is e c he hc i))))
 
   pub two_picture : m ≤ 10 → {r : Ends} → EndsOf 4 s m n r → (picks : Picks) → Picked n picks
-      → made (two_value s (end_in r) picks.map picks.indices) 48 ≡ picture_as s f
+      → made (block_value s 3 (end_in r) picks.map picks.indices) 48 ≡ picture_as s f
   unfolding picture_as fields_at
   two_picture h {r} t picks k =
       let two : two_regions m ≡ true = le-leb m 10 h in
@@ -139,7 +145,7 @@ module _ (s : Bool) (format m n : ℕ) (known_format : format ≤ 1) (low : 1 �
       ∙ sym (at_index format m n low high i hi))
       picks.map (k.regions ∙ ap map_of (sym part)))
 
-  pub one_picture : 10 < m → {r : Ends} → EndsOf 2 s m n r → (word : ℕ) → OnePicked n word → made (one_value s (end_in r) word) 48 ≡ picture_as s f
+  pub one_picture : 10 < m → {r : Ends} → EndsOf 2 s m n r → (word : ℕ) → OnePicked n word → made (block_value s 4 (end_in r) 0 word) 48 ≡ picture_as s f
   unfolding picture_as fields_at
   one_picture h {r} t word k =
       let one : two_regions m ≡ false = lt-leb m 10 h in
@@ -166,34 +172,23 @@ module _ (s : Bool) (format n : ℕ) (known_format : format ≤ 1) (some : 1 ≤
   high : mode_in n ≤ 14
   high = mode_range n
 
-  pub two_painted : (n % 4 ≡ 3 → ⊥) → (picks : Picks) → Picked n picks → {out after : List ℕ}
-      → after ≡ made (two_value s (end_in ends) picks.map picks.indices) 48 ++ drop 48 out
-      → PaintedAs (picture_as s g) out 0 after
+  pub two_painted : (n % 4 ≡ 3 → ⊥) → (picks : Picks) → Picked n picks → {out after : List ℕ} {r : ℕ}
+      → BlockPainted 3 (made (block_value s 3 (end_in ends) picks.map picks.indices) 48) out r after → PaintedAs (picture_as s g) out 0 after
   unfolding fields_at
-  two_painted h picks k {out} e =
+  two_painted h picks k {out} w =
       let few : mode_in n ≤ 10 = two_codes n h in
       let same = two_picture s format (mode_in n) n known_format some high few (told.two few) picks k in
       record {
-        holds = e ∙ ap (λ (l : List ℕ). l ++ drop 48 out) same;
+        holds = w.holds ∙ ap (λ (l : List ℕ). l ++ drop 48 out) same;
         counts = sym (none_infinite s g (read_valid format (mode_in n) n some high known_format) (λ q. absurd (omega arith)));
       }
 
-  module _ (h : n % 4 ≡ 3) (word : ℕ) (k : OnePicked n word) where
-    same : made (one_value s (end_in ends) word) 48 ≡ picture_as s g
-    same = let many : 10 < mode_in n = one_codes n some h in one_picture s format (mode_in n) n known_format some high many (told.one many) word k
-
-    pub one_painted : {out after : List ℕ} {r : ℕ} → PaintedAs (made (one_value s (end_in ends) word) 48) out r after → PaintedAs (picture_as s g) out r after
-    one_painted w = painted_as w same
-
-    -- in unsigned format none of them is counted
-    pub one_written : {out after : List ℕ} → s ≡ false → after ≡ made (one_value s (end_in ends) word) 48 ++ drop 48 out → PaintedAs (picture_as s g) out 0 after
-    one_written {out} e w =
-        record {
-          holds = w ∙ ap (λ (l : List ℕ). l ++ drop 48 out) same;
-          counts =
-              sym
-              (subst (λ (b : Bool). count_of minus_infinity (picture_as b g) ≡ 0) (sym e) (unsigned_finite g (read_valid format (mode_in n) n some high known_format)));
-        }
+  pub one_painted : n % 4 ≡ 3 → (word : ℕ) → OnePicked n word → {out after : List ℕ} {r : ℕ}
+      → BlockPainted 4 (made (block_value s 4 (end_in ends) 0 word) 48) out r after → PaintedAs (picture_as s g) out r after
+  one_painted h word k w =
+      let many : 10 < mode_in n = one_codes n some h in
+      painted_as (record { holds = w.holds; counts = w.counts refl })
+      (one_picture s format (mode_in n) n known_format some high many (told.one many) word k)
 
 -- ---- what the bits say of the pixels
 

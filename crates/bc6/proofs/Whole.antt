@@ -1,12 +1,12 @@
 -- What is shown of a block's number is what the block shows. Assumes nothing.
 use mathlib.Core.Path.{◌≡◌, ◌∙◌, refl, sym, ap}
-use mathlib.Core.Bool.{Bool, false}
+use mathlib.Core.Bool.{Bool}
 use mathlib.Core.List.{List, ◌++◌}
-use Prim.Native.Nat.{ℕ, zero, suc, ◌%◌, ◌≤◌}
+use Prim.Native.Nat.{ℕ, ◌≤◌}
 use native.Mathlib.Decide.{ℕ_discrete}
 use native.Mathlib.Omega.{arith}
 use borrow.Author.Tests.{ne_eqb}
-use lib.ListN.{get_or, drop, replicate}
+use lib.ListN.{drop, replicate}
 use Rattle.bcn_spec.specs.Bits.{number_of}
 use Rattle.bc6h_spec.specs.Fields.{mode_in, mode_of, fields_at}
 use Rattle.bc6h_spec.specs.Picture.{picture_as}
@@ -15,8 +15,6 @@ use Rattle.bc6h_spec.proofs.Reading.{fields_are}
 use Rattle.bc6h_spec.proofs.Pixel.{pixels_none, shows_as}
 use Rattle.laws.specs.Made.{count_of}
 use Rattle.bc6h_spec.specs.Half.{minus_infinity}
-use Rattle.bc6_half.specs.declared.Half.{Half}
-use Rattle.bc6_half.specs.Halves.{black}
 use Rattle.bc6_paint.specs.Values.{PaintedAs}
 use Rattle.bc6_paint.proofs.Link.{painted_as}
 use Rattle.bc6.specs.Shown.{shown_of}
@@ -54,17 +52,3 @@ some_mode m z = omega (arith, z)
 pub shown_picture : (s b : Bool) (n : ℕ) {out after : List ℕ} {r : ℕ} → s ≡ b → 1 ≤ mode_in n
     → PaintedAs (picture_as b (fields_at (format_number b) (mode_in n) n)) out r after → PaintedAs (shown_of s n) out r after
 shown_picture s b n es some w = painted_as w (sym (shown_some b n (λ q. absurd (omega (arith, q)))) ∙ ap (λ (x : Bool). shown_of x n) (sym es))
-
--- the zero colour's values
-pub zero_value : (l : List Half) (j : ℕ) → l ≡ black → (get_or l (j % 3) (record { pattern = 0; infinite = false })).pattern ≡ 0
-zero_value l j e = ap (λ (x : List Half). (get_or x (j % 3) (record { pattern = 0; infinite = false })).pattern) e ∙ channel (j % 3)
-  where
-    channel : (c : ℕ) → (get_or black c (record { pattern = 0; infinite = false })).pattern ≡ 0
-    channel zero = refl
-    channel (suc zero) = refl
-    channel (suc (suc zero)) = refl
-    channel (suc (suc (suc c))) = refl
-
--- a loop that wrote j zeros, up to 48
-pub all_black : (l out : List ℕ) (j : ℕ) → out ≡ replicate j 0 ++ drop j l → j ≤ 48 → 48 ≤ j → out ≡ replicate 48 0 ++ drop 48 l
-all_black l out j e h k = let same : j ≡ 48 = omega arith in rw same at e

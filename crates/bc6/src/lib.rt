@@ -1,13 +1,14 @@
 // The pixels call: from a block's bits to the values that it shows, with no palette.
 //
-// The ends are worked out on i32, four of a channel in an array. Each format has a function of its own, and painters that it alone calls: the
+// The ends are worked out on i32, four of a channel in an array. Each format has instances of its own of what works them out and paints: the
 // compiler then works them out with the format known, and they never go through memory.
 #![tactic(auto)]
 
-ghost use Rattle.std.specs.Prelude.{◌≡◌, true, false, ◌++◌, ◌≤◌, length, drop, replicate};
+ghost use Rattle.std.specs.Prelude.{◌≡◌, ◌++◌, ◌≤◌, length, drop, replicate};
 ghost use Rattle.bcn_util.specs.Stream.{number};
 ghost use Rattle.bc6h_spec.specs.Fields.{mode_in, fields_at};
 ghost use Rattle.bc6h_spec.specs.Picture.{picture_as};
+ghost use Rattle.bc6h_spec.specs.Block.{format_number};
 ghost use Rattle.bc6_paint.specs.Values.{PaintedAs};
 ghost use Rattle.bc6.specs.Shown.{Picked, OnePicked, shown_of};
 ghost use Rattle.bc6.specs.Call.{Painted};
@@ -45,33 +46,19 @@ fn one_indices(stream: BitStream) -> u64
     indexes.uncompressed
 }
 
-fn show_unsigned(lo: u64, hi: u64, out: &mut [u16]) -> u16
+// A block whose mode is not reserved, in one format.
+fn show_as<const SIGNED: bool>(lo: u64, hi: u64, out: &mut [u16]) -> u16
     requires { (1 ≤ mode_in (number (record { lo = lo; hi = hi }))) × (48 ≤ length out.old) }
-    ensures { PaintedAs (picture_as false (fields_at 0 (mode_in (number (record { lo = lo; hi = hi }))) (number (record { lo = lo; hi = hi })))) out.old result out.new }
+    ensures { PaintedAs (picture_as SIGNED (fields_at (format_number SIGNED) (mode_in (number (record { lo = lo; hi = hi }))) (number (record { lo = lo; hi = hi })))) out.old result out.new }
 {
     let stream = BitStream::of(lo, hi);
-    let ends = bc6_by_mode::unsigned_ends(lo, hi);
+    let ends = bc6_by_mode::ends::<SIGNED>(lo, hi);
     if lo % 4 != 3 {
         let picks = two_picks(stream);
-        bc6_paint::two_regions::paint_two_unsigned(ends, picks.map, picks.indices, out);
+        bc6_paint::paint::<SIGNED, 3>(ends, picks.map, picks.indices, out);
         return 0;
     }
-    bc6_paint::one_region::paint_one_unsigned(ends, one_indices(stream), out);
-    0
-}
-
-fn show_signed(lo: u64, hi: u64, out: &mut [u16]) -> u16
-    requires { (1 ≤ mode_in (number (record { lo = lo; hi = hi }))) × (48 ≤ length out.old) }
-    ensures { PaintedAs (picture_as true (fields_at 1 (mode_in (number (record { lo = lo; hi = hi }))) (number (record { lo = lo; hi = hi })))) out.old result out.new }
-{
-    let stream = BitStream::of(lo, hi);
-    let ends = bc6_by_mode::signed_ends(lo, hi);
-    if lo % 4 != 3 {
-        let picks = two_picks(stream);
-        bc6_paint::two_regions::paint_two_signed(ends, picks.map, picks.indices, out);
-        return 0;
-    }
-    bc6_paint::one_region::paint_one_signed(ends, one_indices(stream), out)
+    bc6_paint::paint::<SIGNED, 4>(ends, 0, one_indices(stream), out)
 }
 
 // Sixteen black pixels: 48 zeros.
@@ -80,10 +67,7 @@ fn write_black(out: &mut [u16])
     ensures { out.new ≡ replicate 48 0 ++ drop 48 out.old }
 {
     let black = Half::black();
-    for j in 0..48usize {
-        let value = black[j % 3];
-        out[j] = value.pattern;
-    }
+    out[..Picture::VALUES].fill(black[0].pattern);
 }
 
 // What is shown of a block, from its mode and its bits: its values, and how many of them are minus infinity. (It takes the two words, and
@@ -97,9 +81,9 @@ pub fn show(mode: u8, lo: u64, hi: u64, signed: bool, out: &mut [u16]) -> u16
         return 0;
     }
     if signed {
-        return show_signed(lo, hi, out);
+        return show_as::<true>(lo, hi, out);
     }
-    show_unsigned(lo, hi, out)
+    show_as::<false>(lo, hi, out)
 }
 
 // What the pixels call answers.

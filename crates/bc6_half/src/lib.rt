@@ -40,8 +40,11 @@ pub fn weight<const BITS: u8>(i: u16) -> u16
     requires { ((3 ≤ BITS) × (BITS ≤ 4)) × (i < 2 ^ BITS) }
     ensures { (result ≡ get_or (weights_of BITS) i 0) × (result ≤ 64) }
 {
-    let eighths = if BITS == 3 { 73 } else { 34 };
-    (eighths * i + 4) >> 3
+    if BITS == 3 {
+        (37 * i) >> 2
+    } else {
+        (17 * i + 2) >> 2
+    }
 }
 
 // (a (64 − w) + b w + 32) div 64, rounded down. (64 − w is taken before it is widened, so that each product is of two numbers of 16 bits.)

@@ -23,9 +23,6 @@ overflow_cast-mode c =
     let few : c.extract_mode-mode.result ≤ 14 = rw c.extract_mode-mode.ensures (mode_range _) in
     let h = few in record { fits = omega arith }
 
-pub show-infinite-requires : goal.show-infinite-requires
-show-infinite-requires c = (c.extract_mode-mode.ensures, omega arith)
-
 pub returns : goal.returns
 unfolding mode_of
 returns c =

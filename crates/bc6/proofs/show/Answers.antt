@@ -7,14 +7,8 @@ use Rattle.bc6.proofs.show.Goals as goal
 pub returns-then-mode-eq0 : goal.returns-then-mode-eq0
 returns-then-mode-eq0 c = shown_black c.args.signed _ (sym c.requires.0 ∙ c.if-mode-eq0.true) c.write_black.ensures
 
-pub show_signed-requires : goal.show_signed-requires
-show_signed-requires c = (rw c.requires.0 at (some_mode _ c.if-mode-eq0.false), c.requires.1)
-
 pub returns-then-signed : goal.returns-then-signed
-returns-then-signed c = shown_picture c.args.signed true _ c.if-signed.true (rw c.requires.0 at (some_mode _ c.if-mode-eq0.false)) c.show_signed.ensures
-
-pub show_unsigned-requires : goal.show_unsigned-requires
-show_unsigned-requires c = (rw c.requires.0 at (some_mode _ c.if-mode-eq0.false), c.requires.1)
+returns-then-signed c = shown_picture c.args.signed true _ c.if-signed.true (rw c.requires.0 at (some_mode _ c.if-mode-eq0.false)) c.show_as.ensures
 
 pub returns : goal.returns
-returns c = shown_picture c.args.signed false _ c.if-signed.false (rw c.requires.0 at (some_mode _ c.if-mode-eq0.false)) c.show_unsigned.ensures
+returns c = shown_picture c.args.signed false _ c.if-signed.false (rw c.requires.0 at (some_mode _ c.if-mode-eq0.false)) c.show_as-2.ensures

@@ -2,22 +2,21 @@
 // triples made, passed and returned by value. (Decoding a block builds no palette: bc6.)
 #![tactic(auto)]
 
-ghost use Rattle.std.specs.Prelude.{◌≡◌, true, false, ◌++◌, ◌<◌, ◌≤◌, pos, length, drop};
+ghost use Rattle.std.specs.Prelude.{◌≡◌, true, false, ◌++◌, ◌^◌, ◌<◌, ◌≤◌, pos, length, drop};
 ghost use Rattle.laws.specs.Made.{made};
 ghost use Rattle.laws.specs.Ranges.{InBits};
 ghost use Rattle.bc6h_spec.specs.Layout.{two_regions};
 ghost use Rattle.bc6h_spec.specs.Fields.{Valid};
 ghost use Rattle.bc6h_spec.specs.Half.{interpolated, finished};
-ghost use Rattle.bcn_spec.specs.Weights.{weights8, weights16};
 ghost use Rattle.bc6h_spec.specs.Picture.{picture_as, picture};
-ghost use Rattle.bc6_half.specs.Halves.{marked};
+ghost use Rattle.bc6_half.specs.Halves.{weights_of, marked};
 ghost use Rattle.bc6_colour.specs.Colours.{unquantized_of, OfBits};
 ghost use Rattle.bc6_palette.specs.Palettes.{blend_of, palette_entry};
 ghost use Rattle.bc6_palette.specs.Triples.{IndicesBelow, one_pixel, two_pixel, flat, in_triples};
 ghost use Rattle.bc6_palette.specs.Call.{FieldsShown};
 
 use bc6_colour::Colour;
-use bc6_half::{Half, finish_unquantize, interpolate, weight_3, weight_4};
+use bc6_half::{Half, finish_unquantize, interpolate, weight};
 use bc6_mode::ModeBits;
 use bc6_valid::is_valid;
 use bc6h_spec::{Fields, Picture};
@@ -43,42 +42,22 @@ fn between(a: Colour, b: Colour, w: u16, signed: bool) -> [Half; 3]
     [red, green, blue]
 }
 
-// The sixteen colours between the ends of a block of one region.
-fn generate_palette_unquantized_one(
+// The colours between the ends of a block of one region, sixteen, or of one of two regions, eight: one for each index of so many bits.
+fn generate_palette_unquantized<const BITS: u8, const COUNT: usize>(
     c1: Colour,
     c2: Colour,
     prec: u8,
     signed: bool,
-) -> [[Half; 3]; 16]
-    requires { (0 < prec) × (prec ≤ 16) × (OfBits signed prec c1 × OfBits signed prec c2) }
-    ensures { result ≡ made (palette_entry signed (unquantized_of signed prec c1) (unquantized_of signed prec c2) weights16) 16 }
+) -> [[Half; 3]; COUNT]
+    requires { ((3 ≤ BITS) × (BITS ≤ 4) × (COUNT ≤ 2 ^ BITS)) × ((0 < prec) × (prec ≤ 16) × (OfBits signed prec c1 × OfBits signed prec c2)) }
+    ensures { result ≡ made (palette_entry signed (unquantized_of signed prec c1) (unquantized_of signed prec c2) (weights_of BITS)) COUNT }
 {
     let a = c1.unquantize(prec, signed);
     let b = c2.unquantize(prec, signed);
     let black = Half::black();
-    let mut palette = [black; 16];
-    for i in 0..16usize {
-        palette[i] = between(a, b, weight_4(i as u16), signed);
-    }
-    palette
-}
-
-// The eight colours between the ends of one of two regions.
-fn generate_palette_unquantized_two(
-    c1: Colour,
-    c2: Colour,
-    prec: u8,
-    signed: bool,
-) -> [[Half; 3]; 8]
-    requires { (0 < prec) × (prec ≤ 16) × (OfBits signed prec c1 × OfBits signed prec c2) }
-    ensures { result ≡ made (palette_entry signed (unquantized_of signed prec c1) (unquantized_of signed prec c2) weights8) 8 }
-{
-    let a = c1.unquantize(prec, signed);
-    let b = c2.unquantize(prec, signed);
-    let black = Half::black();
-    let mut palette = [black; 8];
-    for i in 0..8usize {
-        palette[i] = between(a, b, weight_3(i as u16), signed);
+    let mut palette = [black; COUNT];
+    for i in 0..COUNT {
+        palette[i] = between(a, b, weight::<BITS>(i as u16), signed);
     }
     palette
 }
@@ -127,7 +106,7 @@ fn decode_one(f: Fields, signed: bool) -> [[Half; 3]; 16]
     let bits = ModeBits::of(f.mode);
     let a = Colour::first(f, bits, signed);
     let b = a.other(f, 1, bits, signed);
-    let palette = generate_palette_unquantized_one(a, b, bits.a0, signed);
+    let palette = generate_palette_unquantized::<4, 16>(a, b, bits.a0, signed);
     let indices = f.indices;
     paint_one(palette, indices)
 }
@@ -141,8 +120,8 @@ fn decode_two(f: Fields, signed: bool) -> [[Half; 3]; 16]
     let b = a.other(f, 1, bits, signed);
     let c = a.other(f, 2, bits, signed);
     let d = a.other(f, 3, bits, signed);
-    let palette0 = generate_palette_unquantized_two(a, b, bits.a0, signed);
-    let palette1 = generate_palette_unquantized_two(c, d, bits.a0, signed);
+    let palette0 = generate_palette_unquantized::<3, 8>(a, b, bits.a0, signed);
+    let palette1 = generate_palette_unquantized::<3, 8>(c, d, bits.a0, signed);
     let partition = Subset2Map::of(f.partition as usize);
     let indices = f.indices;
     paint_two(palette0, palette1, partition, indices)

@@ -6,22 +6,12 @@ use mir.Syntax.{w32}
 use mir.Val.{to_z, of_z}
 use mir.ValLaws.{to_z-of_z}
 use Prim.Native.Nat.{◌<◌}
-use Rattle.laws.specs.Ranges.{Within, InBits}
+use Rattle.laws.specs.Ranges.{InBits}
 use Rattle.bc6h_spec.specs.Half.{interpolated}
-use Rattle.laws.proofs.Num.{passed}
-use Rattle.bc6h_spec.proofs.Ranges.{interpolated_in, in_16}
+use Rattle.bc6h_spec.proofs.Ranges.{interpolated_in}
 use Rattle.bc6_half.specs.Halves.{half_of}
 use Rattle.bc6_half.proofs.Told.{half_marked}
 use Rattle.bc6_palette.proofs.entry.Goals as goal
-
-pub interpolate-requires : goal.interpolate-requires
-interpolate-requires c = (
-  (
-    passed (Within 65536) c.ranges.a (in_16 c.args.signed c.requires.0.0),
-    passed (Within 65536) c.ranges.b (in_16 c.args.signed c.requires.0.1),
-  ),
-  c.requires.1,
-)
 
 pub finish_unquantize-requires : goal.finish_unquantize-requires
 finish_unquantize-requires c =

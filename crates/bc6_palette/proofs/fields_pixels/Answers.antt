@@ -4,15 +4,6 @@ use Rattle.bc6_valid.proofs.Verdict.{is_known}
 use Rattle.bc6_palette.proofs.Calls as laws
 use Rattle.bc6_palette.proofs.fields_pixels.Goals as goal
 
-pub returns-then-fields-gt1 : goal.returns-then-fields-gt1
-returns-then-fields-gt1 c = laws.bad_format_lem _ _ (search rules)
-
-pub returns-then-not-is_valid : goal.returns-then-not-is_valid
-returns-then-not-is_valid c = laws.bad_record _ _ (search rules) c.is_valid.ensures (c.if-not-is_valid.true)
-
-pub returns-then-out-lt-VALUES : goal.returns-then-out-lt-VALUES
-returns-then-out-lt-VALUES c = laws.short_output_lem _ _ (search rules) c.is_valid.ensures (c.if-not-is_valid.false) (search rules)
-
 pub picture_of-requires : goal.picture_of-requires
 picture_of-requires c = is_known _ c.is_valid.ensures (c.if-not-is_valid.false)
 

@@ -3,12 +3,11 @@ use borrow.Author.Rules.{rules}
 use borrow.Author.Tests.{eq-eqb, ne_eqb}
 use mathlib.Core.Path.{◌≡◌, refl}
 use mathlib.Core.List.{List, []}
-use Prim.Native.Nat.{ℕ, ◌<◌}
+use Prim.Native.Nat.{ℕ}
 use native.Mathlib.Omega.{arith}
-use lib.Dec.{lit≤}
 use lib.ListN.{get_or}
 use Rattle.laws.specs.Bit.{bit}
-use Rattle.laws.proofs.Rows.{made_none, made_store, made_all}
+use Rattle.laws.proofs.Rows.{made_none, made_store}
 use Rattle.bc6_half.specs.declared.Half.{Half}
 use Rattle.bc6_palette.specs.Triples.{one_pixel, two_pixel}
 use Rattle.bc6_palette.proofs.paint_two.Goals.{then-get_subset_index-eq0, else-get_subset_index-eq0}
@@ -26,26 +25,6 @@ module _ (p₀ p₁ : List (List Half)) (map k region : ℕ) (indices : List ℕ
 pub loop-k-init : goal.loop-k-init
 loop-k-init c = (search rules, made_none _ _)
 
-pub offset_bounds-palette0-at : goal.offset_bounds-palette0-at
-offset_bounds-palette0-at c =
-    let index-lt : get_or c.args.indices c.loop-k.k 0 < 8 = c.requires c.loop-k.k (omega arith) in
-    omega (arith, index-lt)
-
-pub bounds-palette0-at : goal.bounds-palette0-at
-bounds-palette0-at c =
-    let index-lt : get_or c.args.indices c.loop-k.k 0 < 8 = c.requires c.loop-k.k (omega arith) in
-    omega (arith, index-lt)
-
-pub offset_bounds-palette1-at : goal.offset_bounds-palette1-at
-offset_bounds-palette1-at c =
-    let index-lt : get_or c.args.indices c.loop-k.k 0 < 8 = c.requires c.loop-k.k (omega arith) in
-    omega (arith, index-lt)
-
-pub bounds-palette1-at : goal.bounds-palette1-at
-bounds-palette1-at c =
-    let index-lt : get_or c.args.indices c.loop-k.k 0 < 8 = c.requires c.loop-k.k (omega arith) in
-    omega (arith, index-lt)
-
 pub loop-k-preserved : goal.loop-k-preserved
 loop-k-preserved c =
     let l = c.loop-k in
@@ -56,6 +35,3 @@ loop-k-preserved c =
         | else-get_subset_index-eq0 w ↦ made_store _ _ _ _ _ _ l.invariant.1 w.picture-is (in_region_1 _ _ _ _ _ _ r w.if-get_subset_index-eq0.false) (omega arith)
       ],
     )
-
-pub returns : goal.returns
-returns c = made_all _ _ _ _ _ c.loop-k.invariant.1 (omega arith) (omega arith) (lit≤ tt)

@@ -107,27 +107,27 @@ fn delta_of(field: u16, width: u8, moved: bool, signed: bool) -> i32
     x
 }
 
-// Another endpoint, from the first one and its stored field.
-fn end_at(a: i32, field: u16, width: u8, bits: u8, moved: bool, signed: bool) -> i32
+// Another endpoint, from the first one and its stored field, with the format known when it is compiled: the channels of a block then share one test.
+fn end_at<const SIGNED: bool>(a: i32, field: u16, width: u8, bits: u8, moved: bool) -> i32
     requires { ((0 < bits) × (bits ≤ 16)) × ((0 < width) × (width ≤ 16) × (field < 2 ^ width)) × Within 65536 a }
-    ensures { result ≡ other_end signed moved bits width a field }
+    ensures { result ≡ other_end SIGNED moved bits width a field }
 {
-    let d = delta_of(field, width, moved, signed);
+    let d = delta_of(field, width, moved, SIGNED);
     if moved {
-        return transform_one(a, d, bits, signed);
+        return transform_one(a, d, bits, SIGNED);
     }
     d
 }
 
-// The same with the format tested first: the channels of a block then share one test.
+// The same in either format.
 fn other_end(a: i32, field: u16, width: u8, bits: u8, moved: bool, signed: bool) -> i32
     requires { ((0 < bits) × (bits ≤ 16)) × ((0 < width) × (width ≤ 16) × (field < 2 ^ width)) × Within 65536 a }
     ensures { result ≡ other_end signed moved bits width a field }
 {
     if signed {
-        end_at(a, field, width, bits, moved, true)
+        end_at::<true>(a, field, width, bits, moved)
     } else {
-        end_at(a, field, width, bits, moved, false)
+        end_at::<false>(a, field, width, bits, moved)
     }
 }
 

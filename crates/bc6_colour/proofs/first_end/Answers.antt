@@ -1,17 +1,11 @@
 -- `bc6_colour::first_end` meets its contract: by the format. Assumes nothing.
-use mathlib.Core.Path.{sym, ap, subst, ◌∙◌}
+use mathlib.Core.Path.{sym, ap, ◌∙◌}
 use mathlib.Core.Bool.{Bool}
-use native.Mathlib.Omega.{arith}
-use Prim.Native.Nat.{◌^◌}
 use lib.IntN.{ℤ, nat_abs}
-use Rattle.laws.specs.Ranges.{Below}
 use Rattle.bc6h_spec.specs.Half.{sign_extend}
 use Rattle.bc6h_spec.specs.Picture.{first_end}
 use Rattle.laws.proofs.Num.{widened, read}
 use Rattle.bc6_colour.proofs.first_end.Goals as goal
-
-pub sign_extend-requires : goal.sign_extend-requires
-sign_extend-requires c = (c.requires.0, omega arith, subst (Below (2 ^ c.args.bits)) (sym (widened c.ranges.field.fits)) (record { nonneg = tt; below = c.requires.2 }))
 
 pub returns-then-signed : goal.returns-then-signed
 unfolding first_end

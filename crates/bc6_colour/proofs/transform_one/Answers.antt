@@ -9,14 +9,9 @@ use mir.Val.{to_z, of_z}
 use mir.ValLaws.{to_z-of_z}
 use Rattle.laws.specs.Ranges.{Below}
 use Rattle.bc6h_spec.specs.Half.{keep, sign_extend, transform}
-use Rattle.laws.proofs.Num.{Num, arg, add, need, kept}
+use Rattle.laws.proofs.Num.{Num, arg, add, kept}
 use Rattle.bc6h_spec.proofs.Ranges.{keep_lt}
 use Rattle.bc6_colour.proofs.transform_one.Goals as goal
-
-pub overflow_add-a : goal.overflow_add-a
-overflow_add-a c =
-    let sum : Num = add (arg 65536 c.ranges.a c.requires.2.0.inside) (arg 65536 c.ranges.d c.requires.2.1.inside) in
-    need sum tt
 
 pub sign_extend-requires : goal.sign_extend-requires
 sign_extend-requires c =

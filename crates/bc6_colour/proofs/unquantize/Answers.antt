@@ -1,16 +1,14 @@
 -- `bc6_colour::unquantize` meets its contract: by the format and the width. Assumes nothing.
 use mathlib.Core.Path.{◌≡◌, sym, ap, subst, ◌∙◌}
-use mathlib.Core.Bool.{Bool, true}
-use native.Mathlib.Omega.{arith}
-use Prim.Native.Nat.{ℕ, ◌^◌}
+use mathlib.Core.Bool.{Bool}
+use Prim.Native.Nat.{ℕ}
 use lib.IntN.{ℤ, pos, nat_abs}
 use mir.Syntax.{w32}
 use mir.ValLaws.{to_z-of_z}
 use borrow.Author.Tests.{le-leb}
-use Rattle.laws.specs.Ranges.{Below, InBits}
+use Rattle.laws.specs.Ranges.{InBits}
 use Rattle.laws.specs.Pick.{pick}
 use Rattle.bc6h_spec.specs.Half.{with_sign, unquantize_u, unquantize_m, unquantized}
-use Rattle.laws.proofs.Num.{passed}
 use Rattle.bc6_colour.proofs.unquantize.Goals as goal
 
 -- the range, where the format is known
@@ -20,11 +18,6 @@ at {bits = p} {c = x} e h = subst (λ (t : Bool). InBits t p x) e h
 -- the definition, where the format is known
 told : {signed t : Bool} (bits : ℕ) (c : ℤ) → signed ≡ t → unquantized t bits c ≡ unquantized signed bits c
 told p x e = sym (ap (λ (t : Bool). unquantized t p x) e)
-
-pub unquantize_unsigned-requires : goal.unquantize_unsigned-requires
-unquantize_unsigned-requires c =
-    let r = at c.if-not-signed.true c.requires.2 in
-    (c.requires.0, c.requires.1, passed (Below (2 ^ c.args.bits)) c.ranges.c (record { nonneg = r.sign; below = r.inside }))
 
 pub returns-then-not-signed : goal.returns-then-not-signed
 unfolding unquantized
@@ -39,14 +32,4 @@ unfolding unquantized
 returns-then-bits-ge16 c =
     to_z-of_z w32 c.args.c c.ranges.c
     ∙ sym (ap (λ (t : Bool). pick t c.args.c (with_sign c.args.c (unquantize_m c.args.bits (nat_abs c.args.c)))) (le-leb 16 c.args.bits c.if-bits-ge16.true))
-    ∙ told c.args.bits c.args.c (c.if-not-signed.false)
-
-pub unquantize_signed-requires : goal.unquantize_signed-requires
-unquantize_signed-requires c = (c.requires.0, omega (arith, c.if-bits-ge16.false), passed (InBits true c.args.bits) c.ranges.c (at c.if-not-signed.false c.requires.2))
-
-pub returns : goal.returns
-returns c =
-    to_z-of_z w32 c.unquantize_signed.result (record { sfits = c.unquantize_signed.type_inv })
-    ∙ c.unquantize_signed.ensures
-    ∙ ap (unquantized true c.args.bits) (to_z-of_z w32 c.args.c c.ranges.c)
     ∙ told c.args.bits c.args.c (c.if-not-signed.false)

@@ -5,23 +5,10 @@ use native.Mathlib.Nat.{mul_comm}
 use Prim.Native.Nat.{ℕ, ◌+◌, ◌-◌, ◌*◌, ◌/◌, ◌^◌, ◌<◌, ◌≤◌}
 use lib.IntN.{ℤ, pos, nat_abs}
 use lib.Pow.{pow_mono}
-use Rattle.laws.proofs.Num.{Num, arg, lit, add, shl, shr, ones, need, kept, le_flag}
+use Rattle.laws.proofs.Num.{Num, arg, lit, add, shl, shr, ones, kept, le_flag}
 use Rattle.bc6_colour.proofs.Unquantising.{nonzero, is_zero, le_nat, u_m_zero, u_m_top, u_m_mid}
 use Rattle.laws.proofs.Num.{abs_below}
 use Rattle.bc6_colour.proofs.unquantize_magnitude.Goals as goal
-
-pub overflow_add-mid : goal.overflow_add-mid
-overflow_add-mid c =
-    let power : 2 ^ (c.args.bits - 1) ≤ 16384 = pow_mono {j = 14} (omega arith) in
-    let room : nat_abs c.args.m * 32768 ≤ 536903680 = let h : nat_abs c.args.m < 2 ^ (c.args.bits - 1) + 1 = abs_below c.args.m c.requires.2.nonneg c.requires.2.below in
-    omega (arith, power) in
-    let sum : ℤ → Num = λ k. add (shl c.args.m c.requires.2.nonneg 32768 536903680 room tt) (lit k) in
-    need (sum _) tt
-
-pub overflow_sub-top-2 : goal.overflow_sub-top-2
-overflow_sub-top-2 c =
-    let mask : Num = ones (c.args.bits - 1) (omega arith) in
-    need mask tt
 
 pub returns-then-m-eq0 : goal.returns-then-m-eq0
 returns-then-m-eq0 c = ap pos (sym (u_m_zero c.args.bits (nat_abs c.args.m) (is_zero c.args.m c.requires.2.nonneg c.if-m-eq0.true)))

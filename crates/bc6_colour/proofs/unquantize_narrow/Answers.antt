@@ -9,27 +9,6 @@ use Rattle.laws.proofs.Num.{Num, arg, lit, add, sub, shl, shl_of, shr, ones, nam
 use Rattle.bc6_colour.proofs.Stepped.{some_of, top_of, Summed, summed}
 use Rattle.bc6_colour.proofs.unquantize_narrow.Goals as goal
 
-pub overflow_sub-some : goal.overflow_sub-some
-overflow_sub-some c =
-    let p : ℕ = c.args.bits in
-    let mask : Num = ones p (omega arith) in
-    need mask tt
-
-pub overflow_add-some : goal.overflow_add-some
-overflow_add-some c =
-    let p : ℕ = c.args.bits in
-    let number : Num = let l : 2 ^ p ≤ 16384 = pow_mono {j = 14} (omega arith) in arg 16384 c.ranges.c (omega (arith, l, c.requires.2.below)) in
-    let mask : Num = ones p (omega arith) in
-    let above : Num = add number (kept mask tt) in
-    need above tt
-
-pub overflow_add-top : goal.overflow_add-top
-overflow_add-top c =
-    let p : ℕ = c.args.bits in
-    let number : Num = let l : 2 ^ p ≤ 16384 = pow_mono {j = 14} (omega arith) in arg 16384 c.ranges.c (omega (arith, l, c.requires.2.below)) in
-    let further : ℤ → Num = λ one. add number (lit one) in
-    need (further _) tt
-
 pub overflow_add-result : goal.overflow_add-result
 overflow_add-result c =
     let p : ℕ = c.args.bits in

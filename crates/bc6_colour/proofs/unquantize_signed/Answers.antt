@@ -1,8 +1,8 @@
 -- `bc6_colour::unquantize_signed` meets its contract: by the sign. Assumes nothing.
-use mathlib.Core.Path.{◌≡◌, sym, ap, subst, ◌∙◌}
+use mathlib.Core.Path.{◌≡◌, sym, ap, ◌∙◌}
 use mathlib.Core.Bool.{Bool, true}
 use native.Mathlib.Omega.{arith}
-use Prim.Native.Nat.{◌+◌, ◌-◌, ◌^◌, ◌<◌, ◌≤◌}
+use Prim.Native.Nat.{◌-◌, ◌^◌, ◌<◌, ◌≤◌}
 use lib.IntN.{ℤ, pos, neg_ℤ, nat_abs}
 use lib.Pow.{pow_mono}
 use lib.Signed.{mag}
@@ -10,38 +10,12 @@ use mir.Syntax.{w32}
 use mir.Val.{to_z, of_z}
 use mir.ValLaws.{to_z-of_z}
 use borrow.Author.Tests.{lt-leb}
-use Rattle.laws.specs.Ranges.{Below, Within}
 use Rattle.laws.specs.Pick.{pick}
 use Rattle.bc6h_spec.specs.Half.{with_sign, unquantize_m, unquantized}
-use Rattle.laws.proofs.Num.{Num, arg, lit, neg, given, need, kept, lt_flag, passed, upto_mag}
+use Rattle.laws.proofs.Num.{Num, arg, lit, neg, given, kept, lt_flag}
 use Rattle.bc6_colour.proofs.Unquantising.{sign_neg, sign_pos}
 use Rattle.bc6h_spec.proofs.Ranges.{u_m_le}
 use Rattle.bc6_colour.proofs.unquantize_signed.Goals as goal
-
-pub magnitude-requires : goal.magnitude-requires
-magnitude-requires c =
-    let half : mag c.args.c < 2 ^ (c.args.bits - 1) = c.requires.2.inside in
-    let l : 2 ^ (c.args.bits - 1) ≤ 16384 = pow_mono {j = 14} (omega arith) in
-    passed (Within 65536) c.ranges.c (record { inside = omega (arith, half) })
-
-pub unquantize_magnitude-t-requires : goal.unquantize_magnitude-t-requires
-unquantize_magnitude-t-requires c =
-    let half : mag c.args.c < 2 ^ (c.args.bits - 1) = c.requires.2.inside in
-    let size : to_z w32 (of_z w32 c.magnitude.result) ≡ pos (nat_abs c.args.c) = to_z-of_z w32 c.magnitude.result (record { sfits = c.magnitude.type_inv }) ∙ c.magnitude.ensures
-    ∙ ap (λ (z : ℤ). pos (nat_abs z)) (to_z-of_z w32 c.args.c c.ranges.c) in
-    let u : nat_abs c.args.c ≤ 2 ^ (c.args.bits - 1) = (upto_mag {n = 2 ^ (c.args.bits - 1)} {z = c.args.c} half).upto in (
-      c.requires.0,
-      c.requires.1,
-      subst (Below (2 ^ (c.args.bits - 1) + 1)) (sym size) (record { nonneg = tt; below = omega (arith, u) }),
-    )
-
-pub overflow_sub-result : goal.overflow_sub-result
-overflow_sub-result c =
-    let size : to_z w32 (of_z w32 c.magnitude.result) ≡ pos (nat_abs c.args.c) = to_z-of_z w32 c.magnitude.result (record { sfits = c.magnitude.type_inv }) ∙ c.magnitude.ensures
-    ∙ ap (λ (z : ℤ). pos (nat_abs z)) (to_z-of_z w32 c.args.c c.ranges.c) in
-    let made : c.unquantize_magnitude-t.result ≡ pos (unquantize_m c.args.bits (nat_abs c.args.c)) = c.unquantize_magnitude-t.ensures ∙ ap (λ (z : ℤ). pos (unquantize_m c.args.bits (nat_abs z))) size in
-    let result : Num = given 32767 c.unquantize_magnitude-t.result (record { sfits = c.unquantize_magnitude-t.type_inv }) (rw made (u_m_le _ _)) in
-    need (neg result) tt
 
 pub returns-then-c-lt0 : goal.returns-then-c-lt0
 unfolding unquantized

@@ -1,25 +1,26 @@
 -- Where the pixels of a face stand: no two in one place, and what is stored block by block is the face. Assumes nothing.
 use mathlib.Core.Path.{◌≡◌, ◌∙◌, refl, sym, ap, ap₂}
 use mathlib.Core.Bool.{Bool, true, false}
-use mathlib.Core.List.{List, [], ◌++◌, append-nil}
+use mathlib.Core.List.{List, [], ◌++◌, append-nil, append_assoc}
 use Prim.Native.Nat.{ℕ, zero, suc, ◌+◌, ◌-◌, ◌*◌, ◌/◌, ◌%◌, ◌≤◌, ◌<◌}
 use native.Mathlib.Nat.{add-zero, mul-add, mul_comm, mul_assoc, mul_left_comm, mul-le-mul_left, mul-le-mul_right, mul-pos, mul-add-div, mul-add-mod_self_left, div-eq_of_lt, mod-eq_of_lt, mod-lt, mod-le, div-le_self, div-add-mod, div-lt_iff_lt-mul}
 use native.Mathlib.Numerals.{add-one, add-two, add-three}
 use native.Mathlib.Omega.{arith}
-use lib.ListN.{length, get_or, set}
-use lib.Seq.{sets}
+use lib.ListN.{length, get_or, set, take, drop, length-drop}
+use lib.Seq.{sets, sets-eq, length-take-le, get_or-drop, drop-drop}
+use borrow.Rule.Slice.PartMut.{put_mid}
 use lib.Dec.{ltb}
 use borrow.Author.Tests.{ltb-true, lt-ltb}
 use Rattle.laws.proofs.Tests.{cases, both_true}
 use Rattle.laws.proofs.Sameness.{true_false}
-use Rattle.laws.proofs.Rows.{made_each}
+use Rattle.laws.proofs.Rows.{made-cong, made_each}
+use Rattle.laws.proofs.Taken.{made_taken}
 use Rattle.laws.proofs.Joined.{run_length, run_value}
-use Rattle.laws.specs.Made.{made, count_of, join}
-use Rattle.bc6h_spec.specs.Half.{minus_infinity}
-use Rattle.bc6_blocks.specs.Run.{shown_at, run_of}
+use Rattle.laws.specs.Made.{made, join}
+use Rattle.bc6_blocks.specs.Run.{shown_at}
 use Rattle.bc6_image.specs.Face.{lanes, opaque, lane_of, lane_at, row_size, FaceShown, in_face, image_value, image_in}
-use Rattle.bc6_image.specs.Stores.{stored_cells, pixel_of, pixel_in, block_row, plain_value, pixel_place, block_put, corner, place_at, cell_at, face_put, FaceWritten, Fitting}
-use Rattle.bc6_image.proofs.Scatter.{sets_made, sets_run, scattered_length, scattered_on, scattered_run, scattered_miss, scattered_hit}
+use Rattle.bc6_image.specs.Stores.{stored_cells, pixel_of, pixel_in, block_row, plain_value, pixel_place, block_put, corner, place_at, cell_at, face_put, Fitting}
+use Rattle.bc6_image.proofs.Scatter.{sets_run, scattered_length, scattered_on, scattered_run, scattered_miss, scattered_hit}
 
 -- ---- rows of one length: which row, and where in it
 
@@ -38,9 +39,6 @@ lanes_low false = omega arith
 pub lanes_high : (alpha : Bool) → lanes alpha ≤ 4
 lanes_high true = omega arith
 lanes_high false = omega arith
-
-pub lanes_are : (alpha : Bool) {b : Bool} → alpha ≡ b → lanes alpha ≡ lanes b
-lanes_are alpha e = rw e
 
 pub length_pixel : (alpha : Bool) (values : List ℕ) (k : ℕ) → length (pixel_of alpha values k) ≡ lanes alpha
 unfolding pixel_of
@@ -88,17 +86,23 @@ plain_row values row = sym (made_each (plain_value values row) (block_row false 
 -- ---- the loops over a row
 
 module _ (values : List ℕ) (row : ℕ) (out : List ℕ) (at : ℕ) where
-  pub plain_start : out ≡ sets out at (made (plain_value values row) 0)
-  unfolding made
-  plain_start = refl
-
-  pub plain_step : {lent : List ℕ} (x : ℕ) → lent ≡ sets out at (made (plain_value values row) x)
-      → set lent (at + x) (get_or values (12 * row + x) 0) ≡ sets out at (made (plain_value values row) (x + 1))
+  -- the twelve values are copied
+  pub plain_put : {part : List ℕ} → length values ≡ 48 → row < 4 → at + 12 ≤ length out → part ≡ take (12 * row + 12 - 12 * row) (drop (12 * row) values)
+      → put_mid at (at + 12 - at) out part ≡ sets out at (block_row false values row)
   unfolding plain_value
-  plain_step x e = ap (λ (l : List ℕ). set l (at + x) (plain_value values row x)) e ∙ sets_made (plain_value values row) out at x
-
-  pub plain_end : {after : List ℕ} (x : ℕ) → after ≡ sets out at (made (plain_value values row) x) → x ≤ 12 → 12 ≤ x → after ≡ sets out at (block_row false values row)
-  plain_end x e h l = let same : x ≡ 12 = omega arith in rw same at e ∙ ap (sets out at) (plain_row values row)
+  plain_put {part} size few room e =
+      let left : 12 ≤ length (drop (12 * row) values) = let l = length-drop (12 * row) values in omega (arith, l, size, few) in
+      let twelve : 12 * row + 12 - 12 * row ≡ 12 = omega arith in
+      let also : at + 12 - at ≡ 12 = omega arith in
+      let is : part ≡ take 12 (drop (12 * row) values) = e ∙ ap (λ (n : ℕ). take n (drop (12 * row) values)) twelve in
+      let long : length part ≡ 12 = ap length is ∙ length-take-le 12 (drop (12 * row) values) left in
+      let same : part ≡ made (plain_value values row) 12 =
+      is ∙ sym (made_taken (drop (12 * row) values) 12 left) ∙ made-cong _ _ (λ k. get_or-drop (12 * row) values k 0) 12 in
+      ap (λ (n : ℕ). put_mid at n out part) (also ∙ sym long)
+      ∙ ap (λ (l : List ℕ). take at out ++ (part ++ l)) (drop-drop (length part) at out)
+      ∙ sym (append_assoc (take at out) part (drop (at + length part) out))
+      ∙ sym (sets-eq part out at (rw long room))
+      ∙ ap (sets out at) (same ∙ plain_row values row)
 
   pub opaque_start : out ≡ sets out at (join (made (pixel_in true values row) 0))
   unfolding made
@@ -307,9 +311,6 @@ module _ (signed alpha : Bool) (blocks : List ℕ) (width height pitch : ℕ) (o
 
 -- ---- the loop over a block's rows
 
-pub row_room : (pitch row : ℕ) → row < 4 → pitch * row ≤ pitch * 3
-row_room pitch row h = mul-le-mul_left pitch (omega arith)
-
 module _ (alpha : Bool) (pitch : ℕ) (values : List ℕ) (at : ℕ) (out : List ℕ) where
   pub block_start : out ≡ stored_cells (pixel_place alpha pitch at) (pixel_of alpha values) (4 * 0) out
   unfolding stored_cells
@@ -352,10 +353,6 @@ module _ (signed alpha : Bool) (blocks : List ℕ) (width pitch : ℕ) (out : Li
 
       cell_in : (j : ℕ) → j < 16 → pixel_of alpha (shown_at signed blocks n) j ≡ cell_at signed alpha blocks (16 * n + j)
       cell_in j h = rw (row_div 16 n j h, row_mod 16 n j h)
-
-  pub put_end : {infinite : ℕ} {after : List ℕ} (n count : ℕ) → after ≡ face_put signed alpha blocks width pitch n out
-      → infinite ≡ count_of minus_infinity (run_of signed blocks n) → n ≤ count → count ≤ n → FaceWritten signed alpha blocks width pitch count out infinite after
-  put_end n count e f h l = let same : n ≡ count = omega arith in record { holds = rw same at e; counts = rw same at f }
 
 -- ---- where block n of a face stands: its numbers are small, and its four rows lie in the room
 

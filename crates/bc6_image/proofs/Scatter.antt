@@ -1,25 +1,17 @@
 -- Lists stored one after the other, each from its own place on: what then stands in a place of one, and in a place of none. Assumes nothing.
 use mathlib.Core.Path.{◌≡◌, ◌∙◌, refl, sym, ap, ap₂}
-use mathlib.Core.List.{List, [], ◌∷◌}
+use mathlib.Core.List.{List}
 use mathlib.Core.Logic.{⊎_elim}
 use Prim.Native.Nat.{ℕ, zero, suc, ◌+◌, ◌*◌, ◌<◌}
 use native.Mathlib.Nat.{add-zero, add-suc, le_of_suc-le-suc, not-suc-le-zero, eq-or-lt_of_le}
 use native.Mathlib.Numerals.{add-one}
 use native.Mathlib.Omega.{arith}
-use lib.ListN.{length, get_or, set}
+use lib.ListN.{length, get_or}
 use lib.Seq.{sets, length-sets}
 use Rattle.laws.specs.Made.{made, join}
-use Rattle.laws.proofs.Rows.{length_made}
 use Rattle.laws.proofs.Joined.{run_length, run_more}
 use Rattle.laws.proofs.Stores.{sets_append, sets_miss, sets_hit}
 use Rattle.bc6_image.specs.Stores.{stored_cells}
-
--- one value more
-pub sets_made : (f : ℕ → ℕ) (l : List ℕ) (at n : ℕ) → set (sets l at (made f n)) (at + n) (f n) ≡ sets l at (made f (n + 1))
-unfolding made
-sets_made f l at n =
-    ap (λ (k : ℕ). set (sets l at (made f n)) (at + k) (f n)) (sym (length_made f n)) ∙ sets_append (made f n) (f n ∷ []) l at _ refl
-    ∙ ap (λ (k : ℕ). sets l at (made f k)) (sym (add-one n))
 
 -- ---- lists of one length, each behind the one before it
 

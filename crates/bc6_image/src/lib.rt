@@ -48,9 +48,8 @@ fn put_plain_row(values: &[u16; 48], row: usize, out: &mut [u16], at: usize)
     requires { (row < 4) × (at + 12 ≤ length out.old) }
     ensures { out.new ≡ sets out.old at (block_row false values.now row) }
 {
-    for x in 0..12usize {
-        out[at + x] = values[12 * row + x];
-    }
+    let from = 12 * row;
+    out[at..at + 12].copy_from_slice(&values[from..from + 12]);
 }
 
 // Pixel k of a block with its alpha.

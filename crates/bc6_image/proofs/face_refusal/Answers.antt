@@ -1,6 +1,5 @@
 -- `bc6_image::face_refusal` meets its contract: a law for each return. Assumes nothing.
 use borrow.Author.Rules.{rules}
-use borrow.Author.Tests.{eqb-true}
 use mathlib.Core.Path.{◌≡◌, ap, sym, ◌∙◌}
 use mathlib.Core.Bool.{true}
 use Prim.Native.Nat.{ℕ, ◌-◌, ◌*◌, ◌/◌}
@@ -8,7 +7,7 @@ use native.Mathlib.Omega.{arith}
 use lib.Dec.{eqb}
 use Rattle.bcn_spec.specs.Bits.{block_size}
 use Rattle.bc6_image.specs.Face.{row_size}
-use Rattle.bc6_image.proofs.Calls.{row_small, Sides, sides, refused_format, refused_blocks, done_empty, positive, refused_pitch, refused_row, refused_last, done_room}
+use Rattle.bc6_image.proofs.Calls.{refused_format, refused_blocks, done_empty, refused_pitch, refused_row, refused_last, done_room}
 use Rattle.bc6_image.proofs.face_refusal.Goals as goal
 
 pub returns-then-format-gt1 : goal.returns-then-format-gt1
@@ -25,23 +24,6 @@ returns-then-size-eq0 c =
     done_empty s.alpha s.size s.format s.width s.height s.pitch s.room (search rules)
     (sym c.holds_face.ensures ∙ c.if-not-holds_face.false) (search rules)
 
-pub overflow_mul-row : goal.overflow_mul-row
-overflow_mul-row c =
-    let whole : (let s = c.args in eqb s.size (block_size * (s.width * s.height)) ≡ true) = sym c.holds_face.ensures ∙ c.if-not-holds_face.false in
-    let known : (let s = c.args in Sides s.size s.width s.height) = let s = c.args in sides s.size s.width s.height (eqb-true _ _ whole) c.if-size-eq0.false in
-    let d = known in record { fits = omega arith }
-
-pub overflow_mul-row-2 : goal.overflow_mul-row-2
-overflow_mul-row-2 c =
-    let whole : (let s = c.args in eqb s.size (block_size * (s.width * s.height)) ≡ true) = sym c.holds_face.ensures ∙ c.if-not-holds_face.false in
-    let known : (let s = c.args in Sides s.size s.width s.height) = let s = c.args in sides s.size s.width s.height (eqb-true _ _ whole) c.if-size-eq0.false in
-    let row : (let s = c.args in c.lanes_of.result * (4 * s.width) ≡ row_size s.alpha s.width) = let s = c.args in ap (λ (k : ℕ). k * (4 * s.width)) c.lanes_of.ensures in
-    let s = c.args in
-    let d = known in
-    let r = row in
-    let l = row_small s.alpha s.width in
-    record { fits = omega arith }
-
 pub returns-then-pitch-row : goal.returns-then-pitch-row
 returns-then-pitch-row c =
     let whole : (let s = c.args in eqb s.size (block_size * (s.width * s.height)) ≡ true) = sym c.holds_face.ensures ∙ c.if-not-holds_face.false in
@@ -57,25 +39,6 @@ returns-then-room-row c =
     let s = c.args in
     let r = row in
     refused_row s.alpha s.size s.format s.width s.height s.pitch s.room (search rules) whole c.if-size-eq0.false (omega arith) (omega arith)
-
-pub nonzero_div-room : goal.nonzero_div-room
-nonzero_div-room c =
-    let whole : (let s = c.args in eqb s.size (block_size * (s.width * s.height)) ≡ true) = sym c.holds_face.ensures ∙ c.if-not-holds_face.false in
-    let row : (let s = c.args in c.lanes_of.result * (4 * s.width) ≡ row_size s.alpha s.width) = let s = c.args in ap (λ (k : ℕ). k * (4 * s.width)) c.lanes_of.ensures in
-    let s = c.args in
-    positive s.alpha s.size s.format s.width s.height s.pitch s.room (search rules) whole c.if-size-eq0.false (let r = row in omega arith)
-
-pub overflow_mul-height : goal.overflow_mul-height
-overflow_mul-height c =
-    let whole : (let s = c.args in eqb s.size (block_size * (s.width * s.height)) ≡ true) = sym c.holds_face.ensures ∙ c.if-not-holds_face.false in
-    let known : (let s = c.args in Sides s.size s.width s.height) = let s = c.args in sides s.size s.width s.height (eqb-true _ _ whole) c.if-size-eq0.false in
-    let d = known in record { fits = omega arith }
-
-pub overflow_sub-height : goal.overflow_sub-height
-overflow_sub-height c =
-    let whole : (let s = c.args in eqb s.size (block_size * (s.width * s.height)) ≡ true) = sym c.holds_face.ensures ∙ c.if-not-holds_face.false in
-    let known : (let s = c.args in Sides s.size s.width s.height) = let s = c.args in sides s.size s.width s.height (eqb-true _ _ whole) c.if-size-eq0.false in
-    let d = known in search rules
 
 pub returns-then-room-row-2 : goal.returns-then-room-row-2
 returns-then-room-row-2 c =

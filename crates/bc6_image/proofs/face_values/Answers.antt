@@ -1,9 +1,6 @@
 -- `bc6_image::face_values` meets its contract: a law for each return. Assumes nothing.
-use Rattle.bc6_image.proofs.Calls.{painted_refused, known_done, painted_done}
+use Rattle.bc6_image.proofs.Calls.{known_done, painted_done}
 use Rattle.bc6_image.proofs.face_values.Goals as goal
-
-pub returns-then-answer-ne-DONE : goal.returns-then-answer-ne-DONE
-returns-then-answer-ne-DONE c = painted_refused _ _ _ _ _ _ _ c.face_refusal-answer.ensures c.if-answer-ne-DONE.true c.refused.ensures
 
 pub paint_face-infinite-requires : goal.paint_face-infinite-requires
 paint_face-infinite-requires c =

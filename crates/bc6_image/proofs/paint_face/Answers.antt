@@ -9,44 +9,14 @@ use Rattle.bc6h_spec.specs.Block.{pixels_of, infinities_of}
 use Rattle.bc6_blocks.specs.Run.{shown_at}
 use Rattle.bc6_blocks.proofs.Runs.{none_counted, run_counted, counted_most}
 use Rattle.bc6_blocks.proofs.Decoded.{decoded, decoded_count}
-use Rattle.bc6_image.proofs.Places.{put_start, put_step, put_end, Cornered, cornered}
+use Rattle.bc6_image.proofs.Places.{put_start, put_step, Cornered, cornered}
 use Rattle.bc6_image.proofs.paint_face.Goals as goal
 
 pub loop-n-init : goal.loop-n-init
 loop-n-init c = (search rules, put_start _ _ _ _ _ _, refl, none_counted _ _)
 
-pub nonzero_div-at : goal.nonzero_div-at
-nonzero_div-at c =
-    let corner : (let s = c.args in Cornered s.width s.pitch c.lanes_of-step.result c.loop-n.n (length s.out.now)) = cornered c.args.alpha c.args.width c.args.height c.args.pitch c.lanes_of-step.result _ (length c.args.out.now) c.loop-n.n
-    c.requires.1 c.lanes_of-step.ensures (search rules) in
-    corner.wide
-
-pub overflow_mul-at : goal.overflow_mul-at
-overflow_mul-at c =
-    let corner : (let s = c.args in Cornered s.width s.pitch c.lanes_of-step.result c.loop-n.n (length s.out.now)) = cornered c.args.alpha c.args.width c.args.height c.args.pitch c.lanes_of-step.result _ (length c.args.out.now) c.loop-n.n
-    c.requires.1 c.lanes_of-step.ensures (search rules) in
-    let d = corner in record { fits = omega arith }
-
 pub overflow_mul-at-in-loop-n : goal.overflow_mul-at-in-loop-n
 overflow_mul-at-in-loop-n c =
-    let corner : (let s = c.args in Cornered s.width s.pitch c.lanes_of-step.result c.loop-n.n (length s.out.now)) = cornered c.args.alpha c.args.width c.args.height c.args.pitch c.lanes_of-step.result _ (length c.args.out.now) c.loop-n.n
-    c.requires.1 c.lanes_of-step.ensures (search rules) in
-    let d = corner in record { fits = omega arith }
-
-pub nonzero_rem-at : goal.nonzero_rem-at
-nonzero_rem-at c =
-    let corner : (let s = c.args in Cornered s.width s.pitch c.lanes_of-step.result c.loop-n.n (length s.out.now)) = cornered c.args.alpha c.args.width c.args.height c.args.pitch c.lanes_of-step.result _ (length c.args.out.now) c.loop-n.n
-    c.requires.1 c.lanes_of-step.ensures (search rules) in
-    corner.wide
-
-pub overflow_mul-at-in-loop-n-2 : goal.overflow_mul-at-in-loop-n-2
-overflow_mul-at-in-loop-n-2 c =
-    let corner : (let s = c.args in Cornered s.width s.pitch c.lanes_of-step.result c.loop-n.n (length s.out.now)) = cornered c.args.alpha c.args.width c.args.height c.args.pitch c.lanes_of-step.result _ (length c.args.out.now) c.loop-n.n
-    c.requires.1 c.lanes_of-step.ensures (search rules) in
-    let d = corner in record { fits = omega arith }
-
-pub overflow_mul-at-in-loop-n-3 : goal.overflow_mul-at-in-loop-n-3
-overflow_mul-at-in-loop-n-3 c =
     let corner : (let s = c.args in Cornered s.width s.pitch c.lanes_of-step.result c.loop-n.n (length s.out.now)) = cornered c.args.alpha c.args.width c.args.height c.args.pitch c.lanes_of-step.result _ (length c.args.out.now) c.loop-n.n
     c.requires.1 c.lanes_of-step.ensures (search rules) in
     let d = corner in record { fits = omega arith }
@@ -87,6 +57,3 @@ loop-n-preserved c =
           (decoded_count shown.ensures (search rules) (simp (length-take, length-drop) (omega arith)) (search rules)
           ∙ ap (λ (n : ℕ). infinities_of (is_signed s.format) (take n (drop (16 * l.n) s.blocks.now))) size),
     )
-
-pub returns : goal.returns
-returns c = let l = c.loop-n in put_end _ _ _ _ _ _ l.n _ l.invariant.1 l.invariant.3 (search rules) (search rules)

@@ -1,159 +1,47 @@
 // A block's ends, from its two words: read, transformed and unquantised on i32, four of a channel in an array. A block of one region has the
 // first two.
 //
-// Each mode has a function of its own, so that its numbers are literals, with the format as a const parameter. What such a function promises is
-// what its calls promise, and no more: the prover finds it by itself, and one law over the modes makes of it what a block's ends are.
+// The format and the bits of each mode are const parameters, so that every instance has them as literals. One law over the modes makes of what
+// it promises what a block's ends are.
 #![tactic(auto)]
 
 ghost use Rattle.std.specs.Prelude.{◌≤◌};
 ghost use Rattle.bcn_util.specs.Stream.{number};
 ghost use Rattle.bc6h_spec.specs.Fields.{mode_in};
-ghost use Rattle.bc6_by_mode.specs.Words.{MovedEnds, StoredEnds, SixteenEnds, BlockEnds};
+ghost use Rattle.bc6_endpoints.specs.Ends.{Channel, ChannelEnds, StoredWhole, WholeEnds};
+ghost use Rattle.bc6_by_mode.specs.Words.{SixteenEnds, BlockEnds};
 
 use bc6_endpoints::{Ends, moved, moved_16, whole};
-use bc6_runs::Channels;
 use bc6_runs::one_region::read_pair;
+use bc6_runs::{
+    Channels, channels_1, channels_2, channels_3, channels_4, channels_5, channels_6, channels_7,
+    channels_8, channels_9, channels_10,
+};
 
-fn ends_1<const SIGNED: bool>(lo: u64, hi: u64) -> Ends
-    ensures { MovedEnds SIGNED 1 (number (record { lo = lo; hi = hi })) result }
+// The ends of a mode whose first endpoint is stored whole, in P bits, and whose others are differences from it: of R bits in red, G in green and B
+// in blue.
+fn moved_ends<const SIGNED: bool, const R: u8, const G: u8, const B: u8, const P: u8>(
+    stored: Channels,
+) -> Ends
+    requires { Channel P R stored.red × Channel P G stored.green × Channel P B stored.blue }
+    ensures { ChannelEnds SIGNED P R stored.red result.red × ChannelEnds SIGNED P G stored.green result.green × ChannelEnds SIGNED P B stored.blue result.blue }
 {
-    let Channels { red, green, blue } = bc6_runs::channels_1(lo, hi);
     Ends {
-        red: moved::<SIGNED>(red, 5, 10),
-        green: moved::<SIGNED>(green, 5, 10),
-        blue: moved::<SIGNED>(blue, 5, 10),
+        red: moved::<SIGNED>(stored.red, R, P),
+        green: moved::<SIGNED>(stored.green, G, P),
+        blue: moved::<SIGNED>(stored.blue, B, P),
     }
 }
 
-fn ends_2<const SIGNED: bool>(lo: u64, hi: u64) -> Ends
-    ensures { MovedEnds SIGNED 2 (number (record { lo = lo; hi = hi })) result }
+// The ends of a mode that stores all of them whole, in P bits.
+fn whole_ends<const SIGNED: bool, const P: u8>(stored: Channels) -> Ends
+    requires { StoredWhole P stored.red × StoredWhole P stored.green × StoredWhole P stored.blue }
+    ensures { WholeEnds SIGNED P stored.red result.red × WholeEnds SIGNED P stored.green result.green × WholeEnds SIGNED P stored.blue result.blue }
 {
-    let Channels { red, green, blue } = bc6_runs::channels_2(lo, hi);
     Ends {
-        red: moved::<SIGNED>(red, 6, 7),
-        green: moved::<SIGNED>(green, 6, 7),
-        blue: moved::<SIGNED>(blue, 6, 7),
-    }
-}
-
-fn ends_3<const SIGNED: bool>(lo: u64, hi: u64) -> Ends
-    ensures { MovedEnds SIGNED 3 (number (record { lo = lo; hi = hi })) result }
-{
-    let Channels { red, green, blue } = bc6_runs::channels_3(lo, hi);
-    Ends {
-        red: moved::<SIGNED>(red, 5, 11),
-        green: moved::<SIGNED>(green, 4, 11),
-        blue: moved::<SIGNED>(blue, 4, 11),
-    }
-}
-
-fn ends_4<const SIGNED: bool>(lo: u64, hi: u64) -> Ends
-    ensures { MovedEnds SIGNED 4 (number (record { lo = lo; hi = hi })) result }
-{
-    let Channels { red, green, blue } = bc6_runs::channels_4(lo, hi);
-    Ends {
-        red: moved::<SIGNED>(red, 4, 11),
-        green: moved::<SIGNED>(green, 5, 11),
-        blue: moved::<SIGNED>(blue, 4, 11),
-    }
-}
-
-fn ends_5<const SIGNED: bool>(lo: u64, hi: u64) -> Ends
-    ensures { MovedEnds SIGNED 5 (number (record { lo = lo; hi = hi })) result }
-{
-    let Channels { red, green, blue } = bc6_runs::channels_5(lo, hi);
-    Ends {
-        red: moved::<SIGNED>(red, 4, 11),
-        green: moved::<SIGNED>(green, 4, 11),
-        blue: moved::<SIGNED>(blue, 5, 11),
-    }
-}
-
-fn ends_6<const SIGNED: bool>(lo: u64, hi: u64) -> Ends
-    ensures { MovedEnds SIGNED 6 (number (record { lo = lo; hi = hi })) result }
-{
-    let Channels { red, green, blue } = bc6_runs::channels_6(lo, hi);
-    Ends {
-        red: moved::<SIGNED>(red, 5, 9),
-        green: moved::<SIGNED>(green, 5, 9),
-        blue: moved::<SIGNED>(blue, 5, 9),
-    }
-}
-
-fn ends_7<const SIGNED: bool>(lo: u64, hi: u64) -> Ends
-    ensures { MovedEnds SIGNED 7 (number (record { lo = lo; hi = hi })) result }
-{
-    let Channels { red, green, blue } = bc6_runs::channels_7(lo, hi);
-    Ends {
-        red: moved::<SIGNED>(red, 6, 8),
-        green: moved::<SIGNED>(green, 5, 8),
-        blue: moved::<SIGNED>(blue, 5, 8),
-    }
-}
-
-fn ends_8<const SIGNED: bool>(lo: u64, hi: u64) -> Ends
-    ensures { MovedEnds SIGNED 8 (number (record { lo = lo; hi = hi })) result }
-{
-    let Channels { red, green, blue } = bc6_runs::channels_8(lo, hi);
-    Ends {
-        red: moved::<SIGNED>(red, 5, 8),
-        green: moved::<SIGNED>(green, 6, 8),
-        blue: moved::<SIGNED>(blue, 5, 8),
-    }
-}
-
-fn ends_9<const SIGNED: bool>(lo: u64, hi: u64) -> Ends
-    ensures { MovedEnds SIGNED 9 (number (record { lo = lo; hi = hi })) result }
-{
-    let Channels { red, green, blue } = bc6_runs::channels_9(lo, hi);
-    Ends {
-        red: moved::<SIGNED>(red, 5, 8),
-        green: moved::<SIGNED>(green, 5, 8),
-        blue: moved::<SIGNED>(blue, 6, 8),
-    }
-}
-
-fn ends_10<const SIGNED: bool>(lo: u64, hi: u64) -> Ends
-    ensures { StoredEnds SIGNED 10 (number (record { lo = lo; hi = hi })) result }
-{
-    let Channels { red, green, blue } = bc6_runs::channels_10(lo, hi);
-    Ends {
-        red: whole::<SIGNED>(red, 6),
-        green: whole::<SIGNED>(green, 6),
-        blue: whole::<SIGNED>(blue, 6),
-    }
-}
-
-fn ends_11<const SIGNED: bool>(lo: u64, hi: u64) -> Ends
-    ensures { StoredEnds SIGNED 11 (number (record { lo = lo; hi = hi })) result }
-{
-    let Channels { red, green, blue } = read_pair(lo, hi, 0);
-    Ends {
-        red: whole::<SIGNED>(red, 10),
-        green: whole::<SIGNED>(green, 10),
-        blue: whole::<SIGNED>(blue, 10),
-    }
-}
-
-fn ends_12<const SIGNED: bool>(lo: u64, hi: u64) -> Ends
-    ensures { MovedEnds SIGNED 12 (number (record { lo = lo; hi = hi })) result }
-{
-    let Channels { red, green, blue } = read_pair(lo, hi, 1);
-    Ends {
-        red: moved::<SIGNED>(red, 9, 11),
-        green: moved::<SIGNED>(green, 9, 11),
-        blue: moved::<SIGNED>(blue, 9, 11),
-    }
-}
-
-fn ends_13<const SIGNED: bool>(lo: u64, hi: u64) -> Ends
-    ensures { MovedEnds SIGNED 13 (number (record { lo = lo; hi = hi })) result }
-{
-    let Channels { red, green, blue } = read_pair(lo, hi, 2);
-    Ends {
-        red: moved::<SIGNED>(red, 8, 12),
-        green: moved::<SIGNED>(green, 8, 12),
-        blue: moved::<SIGNED>(blue, 8, 12),
+        red: whole::<SIGNED>(stored.red, P),
+        green: whole::<SIGNED>(stored.green, P),
+        blue: whole::<SIGNED>(stored.blue, P),
     }
 }
 
@@ -175,19 +63,19 @@ pub fn ends<const SIGNED: bool>(lo: u64, hi: u64) -> Ends
     ensures { BlockEnds SIGNED (number (record { lo = lo; hi = hi })) result }
 {
     match lo % 32 {
-        0 | 4 | 8 | 12 | 16 | 20 | 24 | 28 => ends_1::<SIGNED>(lo, hi),
-        1 | 5 | 9 | 13 | 17 | 21 | 25 | 29 => ends_2::<SIGNED>(lo, hi),
-        2 => ends_3::<SIGNED>(lo, hi),
-        6 => ends_4::<SIGNED>(lo, hi),
-        10 => ends_5::<SIGNED>(lo, hi),
-        14 => ends_6::<SIGNED>(lo, hi),
-        18 => ends_7::<SIGNED>(lo, hi),
-        22 => ends_8::<SIGNED>(lo, hi),
-        26 => ends_9::<SIGNED>(lo, hi),
-        30 => ends_10::<SIGNED>(lo, hi),
-        3 => ends_11::<SIGNED>(lo, hi),
-        7 => ends_12::<SIGNED>(lo, hi),
-        11 => ends_13::<SIGNED>(lo, hi),
+        0 | 4 | 8 | 12 | 16 | 20 | 24 | 28 => moved_ends::<SIGNED, 5, 5, 5, 10>(channels_1(lo, hi)),
+        1 | 5 | 9 | 13 | 17 | 21 | 25 | 29 => moved_ends::<SIGNED, 6, 6, 6, 7>(channels_2(lo, hi)),
+        2 => moved_ends::<SIGNED, 5, 4, 4, 11>(channels_3(lo, hi)),
+        6 => moved_ends::<SIGNED, 4, 5, 4, 11>(channels_4(lo, hi)),
+        10 => moved_ends::<SIGNED, 4, 4, 5, 11>(channels_5(lo, hi)),
+        14 => moved_ends::<SIGNED, 5, 5, 5, 9>(channels_6(lo, hi)),
+        18 => moved_ends::<SIGNED, 6, 5, 5, 8>(channels_7(lo, hi)),
+        22 => moved_ends::<SIGNED, 5, 6, 5, 8>(channels_8(lo, hi)),
+        26 => moved_ends::<SIGNED, 5, 5, 6, 8>(channels_9(lo, hi)),
+        30 => whole_ends::<SIGNED, 6>(channels_10(lo, hi)),
+        3 => whole_ends::<SIGNED, 10>(read_pair(lo, hi, 0)),
+        7 => moved_ends::<SIGNED, 9, 9, 9, 11>(read_pair(lo, hi, 1)),
+        11 => moved_ends::<SIGNED, 8, 8, 8, 12>(read_pair(lo, hi, 2)),
         _ => ends_14(lo, hi),
     }
 }

@@ -22,7 +22,7 @@ use Rattle.bc6_runs.proofs.Stored.{first_bits}
 use Rattle.bc6_endpoints.specs.Ends.{word_of, whole_of, moved_of, end_at, stored_in, ChannelEnds, WholeEnds, Sixteen, end_in, channel_of}
 use Rattle.bc6_endpoints.proofs.Adding.{whole_16, moved_16_is}
 use Rattle.bc6_endpoints.specs.declared.Ends.{Ends}
-use Rattle.bc6_by_mode.specs.Words.{end_word, EndsOf, MovedEnds, StoredEnds, SixteenEnds}
+use Rattle.bc6_by_mode.specs.Words.{end_word, EndsOf, SixteenEnds}
 
 -- ---- channels
 
@@ -47,19 +47,21 @@ module _ {m n : ℕ} {stored : Channels} (read : ChannelsRead m n stored) where
 
 -- ---- differences from the first
 
-module _ {s : Bool} {m n : ℕ} {r : Ends} where
-  pub moved_done : transformed m ≡ true → MovedEnds s m n r → EndsOf 4 s m n r
+module _ {s : Bool} {m n : ℕ} {stored : Channels} {r : Ends} (read : ChannelsRead m n stored) where
+  pub moved_done : transformed m ≡ true
+      → ChannelEnds s (precision m) (own_width m 0) stored.red r.red × ChannelEnds s (precision m) (own_width m 1) stored.green r.green
+      × ChannelEnds s (precision m) (own_width m 2) stored.blue r.blue → EndsOf 4 s m n r
   unfolding end_word whole_of moved_of word_of
   moved_done told k =
       record {
         each = λ c e hc he.
             let p = precision m in
-            let first = place_is k.read c 0 hc (lit< tt) in
-            ap (keep 16) ((by_channel (λ c l q. ChannelEnds s p (own_width m c) l q) k.stored r k.red k.green k.blue c hc).each e he)
+            let first = place_is read c 0 hc (lit< tt) in
+            ap (keep 16) ((by_channel (λ c l q. ChannelEnds s p (own_width m c) l q) stored r k.0 k.1 k.2 c hc).each e he)
             ∙ (λ i.
             keep 16
             (pick (eqb e 0) (unquantized s p (first_end s p (first i)))
-            (unquantized s p (other_end s (sym told i) p (own_width m c) (first_end s p (first i)) (place_is k.read c e hc he i)))))
+            (unquantized s p (other_end s (sym told i) p (own_width m c) (first_end s p (first i)) (place_is read c e hc he i)))))
             ∙ inside (eqb e 0) _ _;
       }
     where
@@ -76,15 +78,17 @@ whole_word s m n zero c t w = refl
 whole_word true m n (suc e) c t w = rw (eqb-suc-zero e, t) (ap (λ (p : ℕ). word_of true (precision m) (sign_extend p (places_of m n c (suc e)))) (sym w))
 whole_word false m n (suc e) c t w = rw (eqb-suc-zero e, t) refl
 
-module _ {s : Bool} {m n : ℕ} {r : Ends} where
-  pub whole_done : 1 ≤ m → m ≤ 14 → transformed m ≡ false → StoredEnds s m n r → EndsOf 4 s m n r
+module _ {s : Bool} {m n : ℕ} {stored : Channels} {r : Ends} (read : ChannelsRead m n stored) where
+  pub whole_done : 1 ≤ m → m ≤ 14 → transformed m ≡ false
+      → WholeEnds s (precision m) stored.red r.red × WholeEnds s (precision m) stored.green r.green × WholeEnds s (precision m) stored.blue r.blue
+      → EndsOf 4 s m n r
   unfolding whole_of word_of
   whole_done low high told k =
       record {
         each = λ c e hc he.
             let p = precision m in
-            ap (keep 16) ((by_channel (λ c l q. WholeEnds s p l q) k.stored r k.red k.green k.blue c hc).each e he)
-            ∙ ap (λ (j : ℕ). keep 16 (unquantized s p (first_end s p j))) (place_is k.read c e hc he)
+            ap (keep 16) ((by_channel (λ c l q. WholeEnds s p l q) stored r k.0 k.1 k.2 c hc).each e he)
+            ∙ ap (λ (j : ℕ). keep 16 (unquantized s p (first_end s p j))) (place_is read c e hc he)
             ∙ whole_word s m n e c told ((mode_facts m low high).whole told c hc);
       }
 

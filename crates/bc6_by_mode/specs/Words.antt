@@ -6,7 +6,7 @@ use Rattle.bc6h_spec.specs.Fields.{mode_in}
 use Rattle.bc6h_spec.specs.Picture.{first_end, other_end}
 use Rattle.bc6_runs.specs.declared.Channels.{Channels}
 use Rattle.bc6_runs.specs.Ends.{places_of, ChannelsRead}
-use Rattle.bc6_endpoints.specs.Ends.{word_of, ChannelEnds, WholeEnds, Sixteen, end_in}
+use Rattle.bc6_endpoints.specs.Ends.{word_of, Sixteen, end_in}
 use Rattle.bc6_endpoints.specs.declared.Ends.{Ends}
 
 -- channel c of endpoint e of mode m in the bits n: after the transform, unquantised, as 16 bits
@@ -24,24 +24,6 @@ pub record EndsOf (count : ℕ) (s : Bool) (m n : ℕ) (r : Ends) : Type 0 where
 pub record BlockEnds (s : Bool) (n : ℕ) (r : Ends) : Type 0 where
   pub two : mode_in n ≤ 10 → EndsOf 4 s (mode_in n) n r
   pub one : 10 < mode_in n → EndsOf 2 s (mode_in n) n r
-
--- ---- worked out of the numbers that mode m stores
-
--- the first endpoint whole, the others as differences from it
-pub record MovedEnds (s : Bool) (m n : ℕ) (r : Ends) : Type 0 where
-  pub stored : Channels
-  pub read : ChannelsRead m n stored
-  pub red : ChannelEnds s (precision m) (own_width m 0) stored.red r.red
-  pub green : ChannelEnds s (precision m) (own_width m 1) stored.green r.green
-  pub blue : ChannelEnds s (precision m) (own_width m 2) stored.blue r.blue
-
--- all of them whole
-pub record StoredEnds (s : Bool) (m n : ℕ) (r : Ends) : Type 0 where
-  pub stored : Channels
-  pub read : ChannelsRead m n stored
-  pub red : WholeEnds s (precision m) stored.red r.red
-  pub green : WholeEnds s (precision m) stored.green r.green
-  pub blue : WholeEnds s (precision m) stored.blue r.blue
 
 -- mode 14, in either format: sixteen bits, and a difference from them
 pub record SixteenEnds (n : ℕ) (r : Ends) : Type 0 where

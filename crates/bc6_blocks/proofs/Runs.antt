@@ -19,7 +19,7 @@ use Rattle.bc6_paint.specs.Values.{PaintedAs}
 use Rattle.bc6.specs.Shown.{shown_of}
 use Rattle.bc6.proofs.Whole.{block_shown}
 use Rattle.bcn_spec.specs.Bits.{block_at}
-use Rattle.bc6_blocks.specs.Run.{shown_at, run_of, RunWritten}
+use Rattle.bc6_blocks.specs.Run.{shown_at, run_of}
 
 -- what is painted into the part that was lent, and what is counted of it
 module _ (signed : Bool) (n size : ℕ) (blocks out : List ℕ) (number infinite : ℕ) (after : List ℕ)
@@ -80,11 +80,6 @@ module _ (signed : Bool) (blocks : List ℕ) where
       → put_mid (48 * n) (length out - 48 * n) out part ≡ run_of signed blocks (n + 1) ++ drop (48 * (n + 1)) out₀
   unfolding run_of
   run_step = joined.run_step (shown_at signed blocks) 48 length_shown
-
-  -- every block is written and counted
-  pub run_end : (out₀ out : List ℕ) (infinite count n : ℕ) → out ≡ run_of signed blocks n ++ drop (48 * n) out₀
-      → infinite ≡ count_of minus_infinity (run_of signed blocks n) → n ≤ count → count ≤ n → RunWritten signed blocks count out₀ infinite out
-  run_end out₀ out infinite count n e f h l = let same : n ≡ count = omega arith in record { holds = rw same at e; counts = rw same at f }
 
   -- the 48 values of block n stand behind those of the blocks before it
   pub run_at_lem : (count n : ℕ) (rest : List ℕ) → n < count → take 48 (drop (48 * n) (run_of signed blocks count ++ rest)) ≡ shown_at signed blocks n

@@ -12,8 +12,5 @@ returns-then-blocks-ne0 c = painted_blocks _ _ _ _ (omega arith) c.if-blocks-ne0
 pub returns-then-out-count : goal.returns-then-out-count
 returns-then-out-count c = painted_output _ _ _ _ (omega arith) (omega arith) (omega arith) c.refused-then-out-count.ensures
 
-pub paint_run-infinite-requires : goal.paint_run-infinite-requires
-paint_run-infinite-requires c = (omega arith, omega arith)
-
 pub returns : goal.returns
 returns c = painted_done _ _ _ _ _ (omega arith) (omega arith) (omega arith) c.paint_run-infinite.ensures

@@ -1,20 +1,23 @@
 -- Runs of stores, one after the other, and the bytes of words. Assumes nothing.
-use mathlib.Core.Path.{◌≡◌, refl, ap, ◌∙◌}
-use mathlib.Core.List.{List, ◌++◌}
-use Prim.Native.Nat.{ℕ, ◌+◌, ◌/◌, ◌%◌}
-use native.Mathlib.Numerals.{towards_suc}
+use mathlib.Core.Path.{◌≡◌, refl, sym, ap, ◌∙◌}
+use mathlib.Core.List.{List, ◌++◌, append_assoc}
+use Prim.Native.Nat.{ℕ, ◌+◌, ◌≤◌}
 use native.Mathlib.Omega.{arith}
 use lib.Ieee.{binary32, to_bits}
-use lib.ListN.{length, set}
+use lib.ListN.{length, take, drop}
 use lib.Seq.{sets}
+use borrow.Rule.Slice.PartMut.{put_mid}
+use Rattle.std.proofs.lemmas.List.Edits.{paste_all, sets-eq}
+use Rattle.std.proofs.lemmas.Slice.{put_mid-paste}
 pub use Rattle.laws.proofs.Stores.{sets_append}
 use Rattle.pfm_floats.specs.declared.Rgb.{Rgb}
 use Rattle.pfm_floats.specs.Bytes.{word_bytes, rgb_bytes}
 
--- four stores at n, n + 1, .., as code has them
-pub word_stores : (l : List ℕ) (n w : ℕ)
-    → set (set (set (set l n (w % 256)) (n + 1) (w / 256 % 256)) (n + 2) (w / 65536 % 256)) (n + 3) (w / 16777216 % 256) ≡ sets l n (word_bytes w)
-word_stores l n w = simp towards_suc
+-- what a copy into a part leaves: its bytes, stored one after the other
+pub part_stored : (l part bytes : List ℕ) (at k : ℕ) → part ≡ bytes → k ≡ length bytes → at + length bytes ≤ length l → put_mid at k l part ≡ sets l at bytes
+part_stored l part bytes at k e n room =
+    put_mid-paste at k l part bytes (length bytes) e (sym n) refl ∙ paste_all l at bytes (length bytes) refl
+    ∙ sym (append_assoc (take at l) bytes (drop (at + length bytes) l)) ∙ sym (sets-eq bytes l at room)
 
 -- three words, one after the other
 pub three_words : (l l1 l2 l3 : List ℕ) (n : ℕ) (p : Rgb) → l1 ≡ sets l n (word_bytes (to_bits binary32 p.r))

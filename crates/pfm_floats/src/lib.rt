@@ -59,10 +59,7 @@ fn put_word(word: u32, out: &mut [u8], at: usize)
     requires { at + 4 ≤ length out.old }
     ensures { out.new ≡ sets out.old at (word_bytes word) }
 {
-    out[at] = (word % 256) as u8;
-    out[at + 1] = (word / 256 % 256) as u8;
-    out[at + 2] = (word / 65536 % 256) as u8;
-    out[at + 3] = (word / 16777216 % 256) as u8;
+    out[at..at + 4].copy_from_slice(&word.to_le_bytes());
 }
 
 // The twelve bytes of three floats, at and after `at`.

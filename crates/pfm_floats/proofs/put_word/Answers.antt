@@ -1,17 +1,12 @@
 -- `pfm_floats::put_word` meets its contract. Assumes nothing.
+use mathlib.Core.Path.{◌∙◌}
+use Prim.Native.Nat.{◌+◌, ◌-◌}
 use native.Mathlib.Omega.{arith}
-use lib.ListN.{length-set}
-use Rattle.pfm_floats.proofs.Stores.{word_stores}
+use Rattle.pfm_floats.specs.Bytes.{word_bytes}
+use Rattle.pfm_floats.proofs.Stores.{part_stored}
 use Rattle.pfm_floats.proofs.put_word.Goals as goal
 
-pub bounds-out-at-2 : goal.bounds-out-at-2
-bounds-out-at-2 c = simp length-set (omega arith)
-
-pub bounds-out-at-3 : goal.bounds-out-at-3
-bounds-out-at-3 c = simp length-set (omega arith)
-
-pub bounds-out-at-4 : goal.bounds-out-at-4
-bounds-out-at-4 c = simp length-set (omega arith)
-
 pub returns : goal.returns
-returns c = word_stores c.args.out.now c.args.at c.args.word
+returns c =
+    part_stored c.args.out.now _ (word_bytes c.args.word) c.args.at (c.args.at + 4 - c.args.at)
+    (c.copy_from_slice.ensures.after ∙ c.to_le_bytes.ensures) (omega arith) c.requires

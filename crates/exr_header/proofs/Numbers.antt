@@ -1,11 +1,14 @@
 -- Numbers as bytes, the front's length, and what each function that writes it shows. Assumes nothing.
 use mathlib.Core.Path.{◌≡◌, refl, sym, ap, ap₂, ◌∙◌}
-use mathlib.Core.List.{List, ◌++◌}
-use Prim.Native.Nat.{ℕ, suc, ◌+◌, ◌-◌, ◌*◌, ◌/◌, ◌%◌, ◌≤◌, ◌<◌}
-use native.Mathlib.Nat.{mul-le-mul}
+use mathlib.Core.List.{List, ◌∷◌, ◌++◌}
+use Prim.Native.Nat.{ℕ, zero, suc, ◌+◌, ◌-◌, ◌*◌, ◌/◌, ◌%◌, ◌^◌, ◌≤◌}
+use native.Mathlib.Nat.{mul-le-mul, div-one, div-div-eq-div-mul}
+use native.Mathlib.Numerals.{add-one}
 use native.Mathlib.Omega.{arith}
-use lib.ListN.{length, set, length-append}
+use lib.ListN.{length, length-append}
 use lib.Seq.{sets}
+use lib.Pow.{pow-add}
+use Rattle.std.specs.Int.{byte_at, bytes_low_first}
 use Rattle.laws.specs.Made.{made, join}
 use Rattle.laws.proofs.Joined.{run_more, run_length}
 use Rattle.laws.proofs.Digits.{length_low}
@@ -16,28 +19,21 @@ use Rattle.exr_header.specs.Header.{window_of, start_part, data_part, display_pa
 
 -- ---- a number
 
--- ---- the loop that stores a number: what is still to be stored
-
-pub number_more : (whole out : List ℕ) (at size k rest : ℕ) → whole ≡ sets out (at + k) (low_bytes (size - k) rest) → k < size
-    → whole ≡ sets (set out (at + k) (rest % 256)) (at + (k + 1)) (low_bytes (size - (k + 1)) (rest / 256))
+-- the library's bytes of a number, from byte i on, the lowest first
+low_first : (i k n : ℕ) → bytes_low_first i k n ≡ low_bytes k (n / 256 ^ i)
 unfolding low_bytes
-number_more whole out at size k rest e h =
-    let left : size - k ≡ suc (size - (k + 1)) = omega arith in
-    let place : suc (at + k) ≡ at + (k + 1) = omega arith in
-    e ∙ ap (λ (s : ℕ). sets out (at + k) (low_bytes s rest)) left
-    ∙ ap (λ (p : ℕ). sets (set out (at + k) (rest % 256)) p (low_bytes (size - (k + 1)) (rest / 256))) place
+low_first i zero n = refl
+low_first i (suc k) n = ap₂ (λ (b : ℕ) (bs : List ℕ). b ∷ bs) (here i) (low_first (suc i) k n ∙ ap (low_bytes k) (sym next))
+  where
+    here : (i : ℕ) → byte_at i n ≡ n / 256 ^ i % 256
+    here zero = ap (λ (x : ℕ). x % 256) (sym (div-one n))
+    here (suc i) = refl
 
-pub number_whole : (whole out : List ℕ) (at size k rest : ℕ) → whole ≡ sets out (at + k) (low_bytes (size - k) rest) → size ≤ k → out ≡ whole
-unfolding low_bytes
-number_whole whole out at size k rest e h =
-    let none : size - k ≡ 0 = omega arith in
-    sym (e ∙ ap (λ (s : ℕ). sets out (at + k) (low_bytes s rest)) none)
+    next : n / 256 ^ i / 256 ≡ n / 256 ^ suc i
+    next = div-div-eq-div-mul n (256 ^ i) 256 ∙ ap (λ (x : ℕ). n / x) (sym (pow-add 256 i 1) ∙ ap (λ (x : ℕ). 256 ^ x) (add-one i))
 
-pub number_start : (out : List ℕ) (at size n : ℕ) → sets out at (low_bytes size n) ≡ sets out (at + 0) (low_bytes (size - 0) n)
-number_start out at size n =
-    let p : at ≡ at + 0 = omega arith in
-    let s : size ≡ size - 0 = omega arith in
-    ap₂ (λ (a b : ℕ). sets out a (low_bytes b n)) p s
+pub low_first_all : (k n : ℕ) → bytes_low_first 0 k n ≡ low_bytes k n
+low_first_all k n = low_first 0 k n ∙ ap (low_bytes k) (div-one n)
 
 -- ---- the header
 

@@ -3,24 +3,11 @@
 
 ghost use Rattle.std.specs.Prelude.{◌≡◌, ◌≤◌, ◌+◌, length};
 ghost use Rattle.std.proofs.lemmas.List.Edits.{sets};
-ghost use Rattle.laws.specs.Bit.{low_bytes};
 ghost use Rattle.text.specs.Text.{Written};
 ghost use Rattle.exr_header.specs.Header.{start_part, data_part, display_part, corner_of, screen_part, header_of};
 ghost use Rattle.exr_header.specs.Header.{header_length, table_of, front_of, front_length, SizeFits};
 
 use text::put;
-
-// A number as `size` bytes, the lowest first, at and after `at`.
-pub fn put_number(n: u64, size: usize, out: &mut [u8], at: usize)
-    requires { at + size ≤ length out.old }
-    ensures { out.new ≡ sets out.old at (low_bytes size n) }
-{
-    let mut rest = n;
-    for k in 0..size {
-        out[at + k] = (rest % 256) as u8;
-        rest = rest / 256;
-    }
-}
 
 // The magic, the version and the three channels.
 fn put_start(out: &mut [u8])
@@ -63,8 +50,8 @@ fn put_corner(width: u32, height: u32, out: &mut [u8], at: usize)
     requires { SizeFits width height × (at + 8 ≤ length out.old) }
     ensures { out.new ≡ sets out.old at (corner_of width height) }
 {
-    put_number((width - 1) as u64, 4, out, at);
-    put_number((height - 1) as u64, 4, out, at + 4);
+    put(out, at, &(width - 1).to_le_bytes());
+    put(out, at + 4, &(height - 1).to_le_bytes());
 }
 
 // Lines from the top down, square pixels, and the screen window; the zero byte that ends the header.
@@ -101,7 +88,7 @@ fn put_table(width: u32, height: u32, out: &mut [u8])
     let first = front_length(height);
     let size = 8 + 6 * width as usize;
     for y in 0..lines {
-        put_number((first + y * size) as u64, 8, out, 313 + 8 * y);
+        put(out, 313 + 8 * y, &((first + y * size) as u64).to_le_bytes());
     }
 }
 

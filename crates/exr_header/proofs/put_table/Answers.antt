@@ -1,10 +1,11 @@
 -- `exr_header::put_table` meets its contract. Assumes nothing.
-use mathlib.Core.Path.{refl, ◌∙◌}
-use Prim.Native.Nat.{◌-◌}
+use mathlib.Core.Path.{refl, ◌∙◌, ap}
+use Prim.Native.Nat.{◌+◌, ◌*◌}
 use native.Mathlib.Omega.{arith}
+use lib.Seq.{sets}
 use borrow.Author.Rules.{rules}
 use Rattle.exr_header.specs.Header.{front_length}
-use Rattle.exr_header.proofs.Numbers.{start_is, start_small, table_start, table_more, table_all}
+use Rattle.exr_header.proofs.Numbers.{low_first_all, start_is, start_small, table_start, table_more, table_all}
 use Rattle.exr_header.proofs.put_table.Goals as goal
 
 pub loop-y-init : goal.loop-y-init
@@ -21,16 +22,16 @@ overflow_add-first c =
     let k = start_small c.args.width c.args.height c.loop-y.y (search rules) (search rules) in
     record { fits = omega arith }
 
-pub put_number-requires : goal.put_number-requires
+pub put-requires : goal.put-requires
 unfolding front_length
-put_number-requires c = search rules
+put-requires c = search rules
 
 pub loop-y-preserved : goal.loop-y-preserved
 loop-y-preserved c =
     let l = c.loop-y in
     let s = c.args in (
       search rules,
-      c.put_number.ensures
+      c.put.ensures.written.exit_is ∙ ap (sets l.out (313 + 8 * l.y)) (c.to_le_bytes.ensures ∙ low_first_all 8 _)
           ∙ table_more s.width s.height _ l.out l.y _ l.invariant.1 (start_is s.width s.height l.y c.front_length-first.ensures),
       search rules,
     )

@@ -1,10 +1,10 @@
 -- A row of blocks: the lengths of its parts, and the loop that fills four scan lines. Assumes nothing.
 use mathlib.Core.Path.{◌≡◌, ◌∙◌, refl, ap, ap₂}
 use mathlib.Core.List.{List, [], ◌++◌, append_assoc}
-use Prim.Native.Nat.{ℕ, suc, ◌+◌, ◌*◌, ◌/◌, ◌%◌, ◌≤◌, ◌<◌}
+use Prim.Native.Nat.{ℕ, ◌+◌, ◌*◌, ◌≤◌, ◌<◌}
 use native.Mathlib.Nat.{mul-le-mul, mul-le-mul_left, mul-add}
 use native.Mathlib.Omega.{arith}
-use lib.ListN.{length, get_or, set, take, drop, length-append, length-drop}
+use lib.ListN.{length, get_or, take, drop, length-append, length-drop}
 use lib.Seq.{sets, drop-drop, length-take-le}
 use Rattle.laws.proofs.Joined.{run_length, run_room}
 use Rattle.laws.specs.Bit.{low_bytes}
@@ -83,10 +83,6 @@ pub block_stores : (values : List ℕ) (across column : ℕ) (l l1 l2 l3 : List 
 block_stores values across column l l1 l2 l3 a b c =
     c ∙ ap (λ (x : List ℕ). channel_sets values 0 (8 + 24 * across) x (8 + 8 * column + 2 * (8 * across)))
     (b ∙ ap (λ (x : List ℕ). channel_sets values 1 (8 + 24 * across) x (8 + 8 * column + 8 * across)) a)
-
-pub half_stores : (l : List ℕ) (n half : ℕ) → set (set l n (half % 256)) (n + 1) (half / 256 % 256) ≡ sets l n (low_bytes 2 half)
-unfolding low_bytes
-half_stores l n half = let e : n + 1 ≡ suc n = omega arith in rw e
 
 pub head_stores : (width y : ℕ) {size : ℕ} (l l1 l2 : List ℕ) (n : ℕ) → size ≡ 6 * width → l1 ≡ sets l n (low_bytes 4 y) → l2 ≡ sets l1 (n + 4) (low_bytes 4 size)
     → l2 ≡ sets l n (head_of width y)

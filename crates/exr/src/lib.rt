@@ -10,8 +10,9 @@ ghost use Rattle.exr.specs.File.{head_of, length_of, write_refusal, PictureWritt
 
 use bc6::block_pixels;
 use bcn_spec::{Answer, Block};
-use exr_header::{front_length, put_front, put_number};
+use exr_header::{front_length, put_front};
 use pfm::{refusal_for, size_even};
+use text::put;
 
 // What the writing call answers: the file's bytes, 0 on a refusal.
 #[derive(Clone, Copy)]
@@ -33,8 +34,7 @@ pub fn put_half(half: u16, out: &mut [u8], at: usize)
     requires { at + 2 ≤ length out.old }
     ensures { out.new ≡ sets out.old at (low_bytes 2 half) }
 {
-    out[at] = (half % 256) as u8;
-    out[at + 1] = (half / 256 % 256) as u8;
+    out[at..at + 2].copy_from_slice(&half.to_le_bytes());
 }
 
 // One channel of the four pixels of a row of a block.
@@ -80,8 +80,8 @@ pub fn put_head(width: usize, y: usize, out: &mut [u8], at: usize)
     requires { (width ≤ size_limit) × (at + 8 ≤ length out.old) }
     ensures { out.new ≡ sets out.old at (head_of width y) }
 {
-    put_number(y as u64, 4, out, at);
-    put_number(6 * width as u64, 4, out, at + 4);
+    put(out, at, &y.to_le_bytes()[..4]);
+    put(out, at + 4, &(6 * width as u32).to_le_bytes());
 }
 
 // The heads of four lines.

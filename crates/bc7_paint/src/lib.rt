@@ -11,13 +11,7 @@ ghost use Rattle.laws.specs.Ranges.{AllBelow};
 ghost use Rattle.bc7_spec.specs.Bytes as spec;
 ghost use Rattle.bc7_paint.specs.Shades.{region_by, shade_at, shade_byte, turned_to, solo_at, put, Paintable};
 
-fn select(second: bool, a: u16, b: u16) -> u16
-    ensures { result ≡ pick second b a }
-{
-    if second { b } else { a }
-}
-
-fn select_byte(second: bool, a: u8, b: u8) -> u8
+fn select<T: Copy>(second: bool, a: T, b: T) -> T
     ensures { result ≡ pick second b a }
 {
     if second { b } else { a }
@@ -53,9 +47,9 @@ fn shade(ends: [u16; 24], c: usize, one: bool, two: bool, w: u16) -> u8
 fn fourth(rotation: u32, r: u8, g: u8, b: u8, a: u8) -> u8
     ensures { result ≡ turned_to rotation r g b a }
 {
-    select_byte(
+    select(
         rotation == 3,
-        select_byte(rotation == 2, select_byte(rotation == 1, a, r), g),
+        select(rotation == 2, select(rotation == 1, a, r), g),
         b,
     )
 }
@@ -103,9 +97,9 @@ fn paint_pixel(ends: [u16; 24], rotation: u32, colour: u16, alpha: u16, k: usize
     let b = shade(ends, 2, false, false, colour);
     let a = shade(ends, 3, false, false, alpha);
     let at = 4 * k;
-    out[at] = select_byte(rotation == 1, r, a);
-    out[at + 1] = select_byte(rotation == 2, g, a);
-    out[at + 2] = select_byte(rotation == 3, b, a);
+    out[at] = select(rotation == 1, r, a);
+    out[at + 1] = select(rotation == 2, g, a);
+    out[at + 2] = select(rotation == 3, b, a);
     out[at + 3] = fourth(rotation, r, g, b, a);
 }
 

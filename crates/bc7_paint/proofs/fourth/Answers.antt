@@ -8,6 +8,6 @@ use Rattle.bc7_paint.proofs.fourth.Goals as goal
 pub returns : goal.returns
 returns c =
     let a = c.args in
-    c.select_byte-3.ensures
+    c.select-3.ensures
     ∙ ap (λ (x : ℕ). pick (eqb a.rotation 3) a.b x)
-    (c.select_byte-2.ensures ∙ ap (λ (x : ℕ). pick (eqb a.rotation 2) a.g x) c.select_byte.ensures)
+    (c.select-2.ensures ∙ ap (λ (x : ℕ). pick (eqb a.rotation 2) a.g x) c.select.ensures)

@@ -28,9 +28,9 @@ returns c =
     let green : c.shade-g.result ≡ f 1 = c.shade-g.ensures in
     let blue : c.shade-b.result ≡ f 2 = c.shade-b.ensures in
     let alpha : c.shade-a.result ≡ f 3 = c.shade-a.ensures in
-    let first : c.select_byte.result ≡ f (turned rotation 0) = c.select_byte.ensures ∙ ap₂ (λ (p q : ℕ). pick (eqb rotation 1) p q) alpha red ∙ red_turned f rotation c.requires.3 in
-    let second : c.select_byte-2.result ≡ f (turned rotation 1) = c.select_byte-2.ensures ∙ ap₂ (λ (p q : ℕ). pick (eqb rotation 2) p q) alpha green ∙ green_turned f rotation c.requires.3 in
-    let third : c.select_byte-3.result ≡ f (turned rotation 2) = c.select_byte-3.ensures ∙ ap₂ (λ (p q : ℕ). pick (eqb rotation 3) p q) alpha blue ∙ blue_turned f rotation c.requires.3 in
+    let first : c.select.result ≡ f (turned rotation 0) = c.select.ensures ∙ ap₂ (λ (p q : ℕ). pick (eqb rotation 1) p q) alpha red ∙ red_turned f rotation c.requires.3 in
+    let second : c.select-2.result ≡ f (turned rotation 1) = c.select-2.ensures ∙ ap₂ (λ (p q : ℕ). pick (eqb rotation 2) p q) alpha green ∙ green_turned f rotation c.requires.3 in
+    let third : c.select-3.result ≡ f (turned rotation 2) = c.select-3.ensures ∙ ap₂ (λ (p q : ℕ). pick (eqb rotation 3) p q) alpha blue ∙ blue_turned f rotation c.requires.3 in
     let last : c.fourth.result ≡ f (turned rotation 3) = c.fourth.ensures
     ∙ ap₂ (λ (p q : ℕ). turned_to rotation p q c.shade-b.result c.shade-a.result) red green
     ∙ ap₂ (λ (p q : ℕ). turned_to rotation (f 0) (f 1) p q) blue alpha

@@ -113,9 +113,7 @@ fn write_black(out: &mut [u8])
     requires { 64 ≤ length out.old }
     ensures { out.new ≡ replicate 64 0 ++ drop 64 out.old }
 {
-    for j in 0..64usize {
-        out[j] = 0;
-    }
+    out[..64].fill(0);
 }
 
 // What is shown of a block, from its mode and its bits.

@@ -5,11 +5,11 @@
 // A wish that is not whole or not ours gets no answer, and a row of blocks that is not whole ends the file. One row of blocks is held at a time.
 #![tactic(auto)]
 
-ghost use Rattle.std.specs.Prelude.{◌≡◌, ◌≤◌, ◌<◌, ◌*◌, length};
+ghost use Rattle.std.specs.Prelude.{◌≡◌, ◌≤◌, ◌<◌, ◌*◌, MatchOption, false, length};
 ghost use Rattle.bcn_spec.specs.Bits.{block_size};
-ghost use Rattle.dds.specs.Dds.{blocks_along};
-ghost use Rattle.pfm_bands.specs.Bands.{rows_in};
-ghost use Rattle.run_export.specs.Export.{wish_ours, WishOurs, front_for, piece_for, Says};
+ghost use Rattle.dds.specs.Dds.{SizeOurs, blocks_along};
+ghost use Rattle.pfm_bands.specs.Bands as bands;
+ghost use Rattle.run_export.specs.Export.{wish_ours, Says};
 
 use bcn_spec::Block;
 use dds::{blocks_along, size_ours};
@@ -30,9 +30,6 @@ const BAND: usize = 16384;
 // The most bytes that a row of blocks shows: four rows of 4,096 pixels, twelve bytes each.
 const ROOM: usize = 196608;
 
-// A Portable Float Map.
-const PFM: u8 = 0;
-
 fn is_ours(kind: u8, format: u8, width: u32, height: u32) -> bool
     ensures { result ≡ wish_ours kind format width height }
 {
@@ -40,161 +37,162 @@ fn is_ours(kind: u8, format: u8, width: u32, height: u32) -> bool
     ((kind <= 1) & (format <= 1)) & size
 }
 
-// What stands before the rows of blocks; answers how many bytes that is.
-fn put_start(kind: u8, format: u8, width: u32, height: u32, out: &mut [u8]) -> usize
-    requires { WishOurs kind format width height × (196608 ≤ length out.old) }
-    ensures { Says (front_for kind width height) out.new result }
-{
-    if kind == PFM {
-        return put_header(width, height, out);
+// A Portable Float Map or an OpenEXR file.
+#[derive(Clone, Copy)]
+enum Kind {
+    Pfm,
+    Exr,
+}
+
+impl Kind {
+    ghost use Rattle.run_export.specs.Wishes.{kind_number};
+
+    fn numbered(number: u8) -> Kind
+        requires { number ≤ 1 }
+        ensures { kind_number result ≡ number }
+    {
+        if number == 0 { Kind::Pfm } else { Kind::Exr }
     }
-    put_front(width, height, out)
 }
 
-// How many of its four rows of pixels the picture has of row of blocks d.
-fn rows_in(height: u32, d: usize) -> usize
-    requires { d < blocks_along height }
-    ensures { result ≡ rows_in height d }
-{
-    let left = height as usize - 4 * d;
-    if left < 4 { left } else { 4 }
-}
-
-// What the file has of the row of blocks of turn n; answers how many bytes that is.
-fn put_piece(
-    kind: u8,
+// What is asked for, where it is ours.
+#[derive(Clone, Copy)]
+struct Wish {
+    kind: Kind,
     format: u8,
     width: u32,
     height: u32,
-    n: usize,
-    band: &[u8],
-    lines: &mut [u8],
-    out: &mut [u8],
-) -> usize
-    requires wish_ours { WishOurs kind format width height × (n < blocks_along height) × (block_size * blocks_along width ≤ length band.now) }
-    requires in_bounds { (196608 ≤ length lines.old) × (196608 ≤ length out.old) }
-    ensures { Says (piece_for kind format width height n band.now) out.new result }
-{
-    if kind == PFM {
-        let rows = rows_in(height, blocks_along(height) - 1 - n);
-        return put_rows(band, format, width as usize, rows, lines, out);
+    ghost known: { format ≤ 1 },
+    ghost size: { SizeOurs width height },
+}
+
+impl Wish {
+    ghost use Rattle.run_export.specs.Wishes.{IsAsked, front_asked, piece_asked};
+
+    fn asked(kind: u8, format: u8, width: u32, height: u32) -> Option<Wish>
+        ensures { MatchOption result (wish_ours kind format width height ≡ false) (IsAsked kind format width height) }
+    {
+        if !is_ours(kind, format, width, height) {
+            return None;
+        }
+        Some(Wish {
+            kind: Kind::numbered(kind),
+            format,
+            width,
+            height,
+        })
     }
-    put_lines(
-        band,
-        format,
-        width as usize,
-        4 * n,
-        rows_in(height, n),
-        lines,
-        out,
-    )
-}
 
-// What goes out first is what stands before the rows of blocks.
-fn write_start(
-    rt: &impl Print,
-    kind: u8,
-    width: u32,
-    height: u32,
-    out: &[u8],
-    end: usize,
-) -> io::Result<()>
-    requires { Says (front_for kind width height) out.now end }
-{
-    rt.write_all(&out[..end])
-}
-
-// What goes out then is the piece of the row of blocks that was read.
-fn write_piece(
-    rt: &impl Print,
-    kind: u8,
-    format: u8,
-    width: u32,
-    height: u32,
-    n: usize,
-    band: &[u8],
-    out: &[u8],
-    end: usize,
-) -> io::Result<()>
-    requires { Says (piece_for kind format width height n band.now) out.now end }
-{
-    rt.write_all(&out[..end])
-}
-
-// Reads the row of blocks of turn n and writes its piece; answers whether to go on.
-fn export_band(
-    rt: &(impl Input + Print),
-    kind: u8,
-    format: u8,
-    width: u32,
-    height: u32,
-    n: usize,
-    band: &mut [u8],
-    lines: &mut [u8],
-    out: &mut [u8],
-) -> io::Result<bool>
-    requires wish_ours { WishOurs kind format width height × (n < blocks_along height) }
-    requires in_bounds { (16384 ≤ length band.old) × (196608 ≤ length lines.old) × (196608 ≤ length out.old) }
-{
-    let size = Block::SIZE * blocks_along(width);
-    if read_full(&mut rt.reader(), &mut band[..size])? != size {
-        return Ok(false);
-    }
-    let end = put_piece(kind, format, width, height, n, &band[..size], lines, out);
-    write_piece(rt, kind, format, width, height, n, &band[..size], out, end)?;
-    Ok(true)
-}
-
-fn export_bands(
-    rt: &(impl Input + Print),
-    kind: u8,
-    format: u8,
-    width: u32,
-    height: u32,
-    band: &mut [u8],
-    lines: &mut [u8],
-    out: &mut [u8],
-) -> io::Result<()>
-    requires wish_ours { WishOurs kind format width height }
-    requires in_bounds { (16384 ≤ length band.old) × (196608 ≤ length lines.old) × (196608 ≤ length out.old) }
-{
-    let down = blocks_along(height);
-    for n in 0..down {
-        if !export_band(rt, kind, format, width, height, n, band, lines, out)? {
-            break;
+    // What stands before the rows of blocks; answers how many bytes that is.
+    fn put_start(self, out: &mut [u8]) -> usize
+        requires { 196608 ≤ length out.old }
+        ensures { Says (front_asked self) out.new result }
+    {
+        match self.kind {
+            Kind::Pfm => put_header(self.width, self.height, out),
+            Kind::Exr => put_front(self.width, self.height, out),
         }
     }
-    Ok(())
-}
 
-fn export(
-    rt: &(impl Input + Print),
-    kind: u8,
-    format: u8,
-    width: u32,
-    height: u32,
-) -> io::Result<()>
-    requires { WishOurs kind format width height }
-{
-    let mut band = [0u8; BAND];
-    let mut lines = [0u8; ROOM];
-    let mut out = [0u8; ROOM];
-    let end = put_start(kind, format, width, height, &mut out);
-    write_start(rt, kind, width, height, &out, end)?;
-    export_bands(
-        rt, kind, format, width, height, &mut band, &mut lines, &mut out,
-    )
+    // How many of its four rows of pixels the picture has of row of blocks d.
+    fn rows_in(self, d: usize) -> usize
+        requires { d < blocks_along self.height }
+        ensures { result ≡ bands.rows_in self.height d }
+    {
+        let left = self.height as usize - 4 * d;
+        left.min(4)
+    }
+
+    // What the file has of the row of blocks of turn n; answers how many bytes that is.
+    fn put_piece(self, n: usize, band: &[u8], lines: &mut [u8], out: &mut [u8]) -> usize
+        requires turn { n < blocks_along self.height }
+        requires in_bounds { (block_size * blocks_along self.width ≤ length band.now) × (196608 ≤ length lines.old) × (196608 ≤ length out.old) }
+        ensures { Says (piece_asked self n band.now) out.new result }
+    {
+        match self.kind {
+            Kind::Pfm => {
+                let rows = self.rows_in(blocks_along(self.height) - 1 - n);
+                put_rows(band, self.format, self.width as usize, rows, lines, out)
+            }
+            Kind::Exr => {
+                let rows = self.rows_in(n);
+                put_lines(
+                    band,
+                    self.format,
+                    self.width as usize,
+                    4 * n,
+                    rows,
+                    lines,
+                    out,
+                )
+            }
+        }
+    }
+
+    // What goes out first is what stands before the rows of blocks.
+    fn write_start(self, rt: &impl Print, out: &[u8], end: usize) -> io::Result<()>
+        requires { Says (front_asked self) out.now end }
+    {
+        rt.write_all(&out[..end])
+    }
+
+    // What goes out then is the piece of the row of blocks that was read.
+    fn write_piece(
+        self,
+        rt: &impl Print,
+        n: usize,
+        band: &[u8],
+        out: &[u8],
+        end: usize,
+    ) -> io::Result<()>
+        requires { Says (piece_asked self n band.now) out.now end }
+    {
+        rt.write_all(&out[..end])
+    }
+
+    // Reads the row of blocks of turn n and writes its piece; answers whether to go on.
+    fn export_band(
+        self,
+        rt: &(impl Input + Print),
+        n: usize,
+        band: &mut [u8],
+        lines: &mut [u8],
+        out: &mut [u8],
+    ) -> io::Result<bool>
+        requires turn { n < blocks_along self.height }
+        requires in_bounds { (16384 ≤ length band.old) × (196608 ≤ length lines.old) × (196608 ≤ length out.old) }
+    {
+        let size = Block::SIZE * blocks_along(self.width);
+        if read_full(&mut rt.reader(), &mut band[..size])? != size {
+            return Ok(false);
+        }
+        let end = self.put_piece(n, &band[..size], lines, out);
+        self.write_piece(rt, n, &band[..size], out, end)?;
+        Ok(true)
+    }
+
+    fn export(self, rt: &(impl Input + Print)) -> io::Result<()> {
+        let mut band = [0u8; BAND];
+        let mut lines = [0u8; ROOM];
+        let mut out = [0u8; ROOM];
+        let end = self.put_start(&mut out);
+        self.write_start(rt, &out, end)?;
+        for n in 0..blocks_along(self.height) {
+            if !self.export_band(rt, n, &mut band, &mut lines, &mut out)? {
+                break;
+            }
+        }
+        Ok(())
+    }
 }
 
 fn main(rt: HostRuntime) -> io::Result<()> {
     let mut wish = [0u8; WISH];
-    let got = read_full(&mut rt.reader(), &mut wish)?;
-    let width = u32_at(&wish, 2);
-    let height = u32_at(&wish, 6);
-    if got == WISH {
-        if is_ours(wish[0], wish[1], width, height) {
-            return export(&rt, wish[0], wish[1], width, height);
-        }
+    if read_full(&mut rt.reader(), &mut wish)? != WISH {
+        return Ok(());
     }
-    Ok(())
+    match Wish::asked(wish[0], wish[1], u32_at(&wish, 2), u32_at(&wish, 6)) {
+        Some(asked) => asked.export(&rt),
+        None => Ok(()),
+    }
 }

@@ -31,14 +31,11 @@ fn bits_of(half: u16) -> u32
 }
 
 fn write_page(rt: &impl Print, page: u8) -> io::Result<()> {
-    let first = PAGE * (page as usize % PAGES);
+    let first = PAGE * (usize::from(page) % PAGES);
     let mut bytes = [0u8; BYTES];
     for k in 0..PAGE {
         let word = bits_of((first + k) as u16);
-        bytes[4 * k] = (word % 256) as u8;
-        bytes[4 * k + 1] = (word / 256 % 256) as u8;
-        bytes[4 * k + 2] = (word / 65536 % 256) as u8;
-        bytes[4 * k + 3] = (word / 16777216) as u8;
+        bytes[4 * k..4 * k + 4].copy_from_slice(&word.to_le_bytes());
     }
     rt.write_all(&bytes)
 }
@@ -46,8 +43,8 @@ fn write_page(rt: &impl Print, page: u8) -> io::Result<()> {
 fn main(rt: HostRuntime) -> io::Result<()> {
     let mut pages = [0u8; PAGES];
     let got = read_full(&mut rt.reader(), &mut pages)?;
-    for k in 0..got {
-        write_page(&rt, pages[k])?;
+    for page in &pages[..got] {
+        write_page(&rt, *page)?;
     }
     Ok(())
 }

@@ -1,15 +1,19 @@
 -- Laws of the bytes that are written. Assumes nothing.
 use mathlib.Core.Path.{◌≡◌, ◌∙◌, refl, sym, ap}
 use mathlib.Core.Bool.{Bool}
-use mathlib.Core.List.{List, ◌++◌}
-use Prim.Native.Nat.{ℕ, zero, suc, ◌+◌, ◌-◌, ◌*◌, ◌<◌}
+use mathlib.Core.List.{List, [], ◌∷◌, ◌++◌}
+use Prim.Native.Nat.{ℕ, ◌+◌, ◌-◌, ◌*◌, ◌≤◌, ◌<◌}
 use native.Mathlib.Omega.{arith}
 use lib.Dec.{ltb}
-use lib.ListN.{length, get_or, take, drop, replicate, length-drop}
+use lib.ListN.{length, set, take, drop, replicate, length-drop}
 use lib.Seq.{take_all}
+use borrow.Rule.Slice.PartMut.{put_mid}
+use Rattle.std.proofs.lemmas.List.Edits.{paste_all}
+use Rattle.std.proofs.lemmas.Slice.{put_mid-paste}
 use borrow.Author.Tests.{ltb-true}
 use Rattle.laws.specs.Pick.{pick}
-use Rattle.laws.proofs.Rows.{length_made}
+use Rattle.laws.specs.Made.{made}
+use Rattle.laws.proofs.Rows.{length_made, made_each}
 use Rattle.laws.proofs.Tests.{cases}
 use Rattle.bc7.specs.declared.Bc7Pixels.{Bc7Pixels}
 use Rattle.bc7.specs.Call.{Painted}
@@ -21,22 +25,17 @@ pub shown_is : {piece : List ℕ} {r : Bc7Pixels} {bytes : List ℕ} → Painted
 unfolding shown_of
 shown_is p = λ i. shown_as (p.answers i) (p.holds i)
 
--- ---- the bytes, one by one
-
-module _ (s : Shown) where
-  pub byte_first : (k : ℕ) → k ≡ 0 → s.answer ≡ shown_byte s k
-  unfolding shown_byte
-  byte_first k e = rw e refl
-
-  pub byte_second : (k : ℕ) → k ≡ 1 → s.mode ≡ shown_byte s k
-  unfolding shown_byte
-  byte_second k e = rw e refl
-
-  pub byte_later : (k : ℕ) → (k ≡ 0 → ⊥) → (k ≡ 1 → ⊥) → get_or s.bytes (k - 2) 0 ≡ shown_byte s k
-  unfolding shown_byte
-  byte_later zero n m = absurd (n refl)
-  byte_later (suc zero) n m = absurd (m refl)
-  byte_later (suc (suc k)) n m = let e : suc (suc k) - 2 ≡ k = omega arith in ap (λ (j : ℕ). get_or s.bytes j 0) e
+-- the answer, the mode and then the bytes, as they are stored
+pub put_all : (s : Shown) (out part : List ℕ) (k : ℕ) → length s.bytes ≡ 64 → 66 ≤ length out → part ≡ s.bytes → k ≡ 64
+    → put_mid 2 k (set (set out 0 s.answer) 1 s.mode) part ≡ made (shown_byte s) 66 ++ drop 66 out
+unfolding shown_byte
+put_all s [] part k l room e n = absurd (omega arith)
+put_all s (x ∷ []) part k l room e n = absurd (omega arith)
+put_all s (x ∷ y ∷ rest) part k l room e n =
+    let now = s.answer ∷ s.mode ∷ rest in
+    let whole = s.answer ∷ s.mode ∷ s.bytes in
+    put_mid-paste 2 k now part s.bytes 64 e (sym n) (sym l) ∙ paste_all now 2 s.bytes 64 (sym l)
+    ∙ ap (λ (t : List ℕ). t ++ drop 64 rest) (made_each (shown_byte s) whole 66 (omega arith) (λ k h. refl))
 
 -- ---- the pieces
 

@@ -33,27 +33,14 @@ impl Shown {
         }
     }
 
-    // Byte k of the 66 that are written.
-    fn byte(self, k: usize) -> u8
-        requires { k < 66 }
-        ensures { result ≡ shown_byte self k }
+    // The 66 bytes that are written.
+    fn put(self, out: &mut [u8])
+        requires { 66 ≤ length out.old }
+        ensures { out.new ≡ made (shown_byte self) 66 ++ drop 66 out.old }
     {
-        if k == 0 {
-            return self.answer;
-        }
-        if k == 1 {
-            return self.mode;
-        }
-        self.bytes[k - 2]
-    }
-}
-
-fn put(shown: Shown, out: &mut [u8])
-    requires { 66 ≤ length out.old }
-    ensures { out.new ≡ made (shown_byte shown) 66 ++ drop 66 out.old }
-{
-    for k in 0..66usize {
-        out[k] = shown.byte(k);
+        out[0] = self.answer;
+        out[1] = self.mode;
+        out[2..66].copy_from_slice(&self.bytes);
     }
 }
 
@@ -61,7 +48,7 @@ fn decode_piece(piece: &[u8], out: &mut [u8])
     requires { 66 ≤ length out.old }
     ensures { out.new ≡ shown_bytes piece.now ++ drop 66 out.old }
 {
-    put(Shown::of(piece), out);
+    Shown::of(piece).put(out);
 }
 
 // Where a piece that starts at `at` ends: after a block, or with the input.

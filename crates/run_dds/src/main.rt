@@ -7,13 +7,13 @@
 // Only the first bytes of the input are held, the others are counted: a file may have 22 MB, and a program has its stack alone.
 #![tactic(auto)]
 
-ghost use Rattle.std.specs.Prelude.{◌≡◌, ◌/◌, ◌%◌, ◌≤◌, IfOk};
+ghost use Rattle.std.specs.Prelude.{◌≡◌, ◌≤◌, IfOk};
 ghost use Rattle.bcn_spec.specs.Bits.{size_limit};
 ghost use Rattle.run_dds.specs.Told.{report_of, told_of, one_told, first_told};
 
 use bcn_spec::Answer;
 use dds::DdsRead;
-use raw_bytes::{same_bytes, u32_at};
+use raw_bytes::u32_at;
 use run_streams::read_full;
 use std::env::Env;
 use std::io;
@@ -28,30 +28,19 @@ const WORD: usize = 13;
 // The bytes of a wish.
 const WISH: usize = 9;
 
-fn low_byte(side: u32) -> u8
-    ensures { result ≡ side % 256 }
-{
-    (side % 256) as u8
-}
-
-fn high_byte(side: u32) -> u8
-    requires { side ≤ size_limit }
-    ensures { result ≡ side / 256 }
-{
-    (side / 256) as u8
-}
-
 fn report_bytes(read: DdsRead) -> [u8; 6]
     requires { (read.width ≤ size_limit) × (read.height ≤ size_limit) }
     ensures { result ≡ report_of read }
 {
+    let width = (read.width as u16).to_le_bytes();
+    let height = (read.height as u16).to_le_bytes();
     [
         read.answer,
         read.format,
-        low_byte(read.width),
-        high_byte(read.width),
-        low_byte(read.height),
-        high_byte(read.height),
+        width[0],
+        width[1],
+        height[0],
+        height[1],
     ]
 }
 
@@ -154,10 +143,7 @@ fn is_word(rt: &impl Env, expected: &[u8]) -> bool {
     let Ok(size) = rt.arg(1, &mut word) else {
         return false;
     };
-    if size != expected.len() {
-        return false;
-    }
-    same_bytes(&word[..size], expected, size)
+    &word[..size] == expected
 }
 
 fn main(rt: HostRuntime) -> io::Result<()> {

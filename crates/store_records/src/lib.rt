@@ -84,13 +84,7 @@ pub fn record_at(store: &[u8], n: usize) -> RecordReading
     if format > 1 {
         return RecordReading::Refused(Answer::BAD_FORMAT);
     }
-    if store[at + 5] != 0 {
-        return RecordReading::Refused(Answer::SPARE_BYTE);
-    }
-    if store[at + 6] != 0 {
-        return RecordReading::Refused(Answer::SPARE_BYTE);
-    }
-    if store[at + 7] != 0 {
+    if store[at + 5..at + 8] != [0; 3] {
         return RecordReading::Refused(Answer::SPARE_BYTE);
     }
     RecordReading::Record(Record {
@@ -107,6 +101,5 @@ pub fn record_block(store: &[u8], n: usize) -> &[u8]
         return &store[..0];
     };
     let start = n * Record::SIZE + Record::HEAD;
-    let end = start + Block::SIZE;
-    &store[start..end]
+    &store[start..start + Block::SIZE]
 }

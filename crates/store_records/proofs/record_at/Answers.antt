@@ -1,4 +1,6 @@
 use borrow.Author.Rules.{rules}
+use borrow.Author.Tests.{not-true, not-false}
+use mathlib.Core.Path.{sym, ◌∙◌}
 use Rattle.store_records.proofs.Refusals as checks
 use Rattle.store_records.proofs.Readings as laws
 use Rattle.store_records.proofs.record_at.Goals as goal
@@ -15,14 +17,8 @@ returns-then-n-record_count c = laws.read_refused _ _ 7 (checks.past _ _ (search
 pub returns-then-format-gt1 : goal.returns-then-format-gt1
 returns-then-format-gt1 c = laws.read_refused _ _ 0 (checks.strange _ _ (search rules) (search rules) (search rules) (search rules))
 
-pub returns-then-store-at-ne0 : goal.returns-then-store-at-ne0
-returns-then-store-at-ne0 c = laws.read_refused _ _ 6 (checks.spare_5 _ _ (search rules) (search rules) (search rules) (search rules) (search rules))
-
-pub returns-then-store-at-ne0-2 : goal.returns-then-store-at-ne0-2
-returns-then-store-at-ne0-2 c = laws.read_refused _ _ 6 (checks.spare_6 _ _ (search rules) (search rules) (search rules) (search rules) (search rules) (search rules))
-
-pub returns-then-store-at-ne0-3 : goal.returns-then-store-at-ne0-3
-returns-then-store-at-ne0-3 c = laws.read_refused _ _ 6 (checks.spare_7 _ _ (search rules) (search rules) (search rules) (search rules) (search rules) (search rules) (search rules))
+pub returns-then-ne : goal.returns-then-ne
+returns-then-ne c = laws.read_refused _ _ 6 (checks.spare _ _ (search rules) (search rules) (search rules) (search rules) (sym (checks.zeros_at c.args.store.now c.args.n (search rules)) ∙ not-true _ (sym c.ne.ensures ∙ c.if-ne.true)))
 
 pub returns : goal.returns
-returns c = laws.read_record _ _ _ (checks.good _ _ (search rules) (search rules) (search rules) (search rules) (search rules) (search rules) (search rules)) c.tile_at.ensures
+returns c = laws.read_record _ _ _ (checks.sound _ _ (search rules) (search rules) (search rules) (search rules) (sym (checks.zeros_at c.args.store.now c.args.n (search rules)) ∙ not-false _ (sym c.ne.ensures ∙ c.if-ne.false))) c.tile_at.ensures

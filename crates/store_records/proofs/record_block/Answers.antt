@@ -18,8 +18,8 @@ overflow_mul-start c = let k = found c in omega arith
 pub overflow_add-start : goal.overflow_add-start
 overflow_add-start c = let k = found c in omega arith
 
-pub overflow_add-end : goal.overflow_add-end
-overflow_add-end c = let k = found c in omega arith
+pub overflow_add-result : goal.overflow_add-result
+overflow_add-result c = let k = found c in omega arith
 
 pub slice_bounds-result-end-2 : goal.slice_bounds-result-end-2
 slice_bounds-result-end-2 c = let k = found c in omega arith

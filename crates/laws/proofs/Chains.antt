@@ -1,11 +1,15 @@
--- What a chain of iterators answers, in the words of specs/: a search through the numbers below n, and a count. Assumes nothing.
-use Rattle.std.proofs.Common.{◌≡◌, refl, sym, ℕ, zero, suc, ◌<◌, Bool, true, false, not, List, Option, Some, None, arith, ◌==◌}
+-- What the library answers, in the words of specs/: a search through the numbers below n, a count, and `==` of two lists. Assumes nothing.
+use Rattle.std.proofs.Common.{◌≡◌, refl, sym, ap, ◌∙◌, ℕ, zero, suc, ◌<◌, Bool, true, false, not, List, [], ◌∷◌, Option, Some, None, arith, ◌==◌}
 use Rattle.std.specs.Prelude.{MatchOption, MatchBool, count_by}
 use Rattle.std.proofs.lemmas.List.Recursion.{is_count_by}
+use lib.Dec.{eqb}
+use lib.Pointwise.{pointwise}
+use Rattle.laws.specs.Pick.{both}
 use Rattle.laws.specs.Made.{count_of}
 use Rattle.laws.specs.First.{first_below}
 use Rattle.laws.specs.Search.{some}
-use Rattle.laws.specs.Every.{below}
+use Rattle.laws.specs.Every.{below, same}
+use Rattle.laws.proofs.Tests.{and_both}
 use Rattle.laws.proofs.Search.{is_true, some_at, holds}
 use Rattle.laws.proofs.Firsts.{first_at}
 use Rattle.laws.proofs.Below.{below_all, below_fails}
@@ -45,3 +49,10 @@ module _ (f : ℕ → Bool) where
 pub count_is : (v : ℕ) (l : List ℕ) → count_of v l ≡ count_by (λ x. x == v) l
 unfolding count_of
 count_is v = is_count_by (count_of v) (λ x. x == v) refl (λ x xs. grind arith)
+
+-- `==`
+pub same_is : (xs ys : List ℕ) → pointwise eqb xs ys ≡ same xs ys
+same_is [] [] = refl
+same_is [] (y ∷ ys) = refl
+same_is (x ∷ xs) [] = refl
+same_is (x ∷ xs) (y ∷ ys) = and_both (eqb x y) (pointwise eqb xs ys) ∙ ap (both (eqb x y)) (same_is xs ys)

@@ -12,7 +12,6 @@ ghost use Rattle.store_spec.specs.Scratch.{scratch_entry, kind_at, mixed_on, pic
 use bc6_mode::extract_mode;
 use bc6h_spec::Picture;
 use bcn_util::BitStream;
-use raw_bytes::u16_to_u64;
 use store_records::{RecordReading, record_at, record_block, record_count};
 use store_spec::TwinList;
 
@@ -28,13 +27,12 @@ fn mixed(kind: u64, picture: &[u16]) -> u64
     requires { length picture.now ≡ value_count }
     ensures { result ≡ picture_mixed kind picture.now 16 }
 {
-    let mut mix: u64 = kind;
-    for pixel in 0..16usize {
-        let at = pixel * 3;
-        let low = u16_to_u64(picture[at]);
-        let middle = u16_to_u64(picture[at + 1]);
-        let high = u16_to_u64(picture[at + 2]);
-        mix = mixed_on(mix) + low + middle * 0x1000 + high * 0x1000000;
+    let mut mix = kind;
+    for pixel in picture.chunks_exact(3) {
+        mix = mixed_on(mix)
+            + u64::from(pixel[0])
+            + u64::from(pixel[1]) * 0x1000
+            + u64::from(pixel[2]) * 0x1000000;
     }
     mix
 }
@@ -52,8 +50,7 @@ pub fn picture_in(scratch: &[u16], count: usize, n: usize) -> &[u16]
     ensures { result.now ≡ picture_in scratch.now count n }
 {
     let start = count + Picture::VALUES * n;
-    let end = start + Picture::VALUES;
-    &scratch[start..end]
+    &scratch[start..start + Picture::VALUES]
 }
 
 // The mode of record n, which is not refused; 0 for a reserved one.
@@ -73,7 +70,7 @@ fn kind_at(store: &[u8], n: usize, format: u8) -> u64
     if mode_at(store, n) == 0 {
         return TwinList::NO_PICTURE;
     }
-    format as u64
+    u64::from(format)
 }
 
 // The fingerprints of all records that are not refused, before their pictures.

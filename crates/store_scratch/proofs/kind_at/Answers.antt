@@ -6,4 +6,4 @@ pub returns-then-mode_at-eq0 : goal.returns-then-mode_at-eq0
 returns-then-mode_at-eq0 c = kind_reserved _ _ (sym c.mode_at.ensures ∙ c.if-mode_at-eq0.true)
 
 pub returns : goal.returns
-returns c = c.requires.format_value ∙ kind_format _ _ (λ z. c.if-mode_at-eq0.false (c.mode_at.ensures ∙ z))
+returns c = c.from.ensures ∙ c.requires.format_value ∙ kind_format _ _ (λ z. c.if-mode_at-eq0.false (c.mode_at.ensures ∙ z))

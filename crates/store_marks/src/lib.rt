@@ -2,31 +2,16 @@
 #![tactic(auto)]
 
 ghost use Rattle.std.specs.Prelude.{◌≡◌, ◌++◌, ◌*◌, ◌≤◌, ◌<◌, length, drop};
-ghost use Rattle.laws.specs.Every.{same};
 ghost use Rattle.laws.specs.Made.{count_of};
-ghost use Rattle.bc6h_spec.specs.Picture.{value_count};
 ghost use Rattle.store_records.specs.Store.{records_in, format_of, Unrefused};
 ghost use Rattle.store_spec.specs.Shown.{Reserved};
 ghost use Rattle.store_spec.specs.Scratch.{scratch_entry, Pictured, Kept};
 ghost use Rattle.store_spec.specs.Twins.{holding, alike, marks_of, list_refusal, scratch_refusal};
 
-use bc6h_spec::Picture;
 use bcn_spec::Answer;
 use store_records::{Record, RecordReading, record_at, record_count};
 use store_scratch::{mode_at, picture_in};
 use store_spec::{Mark, TwinList};
-
-pub fn same_picture(a: &[u16], b: &[u16]) -> bool
-    requires { (length a.now ≡ value_count) × (length b.now ≡ value_count) }
-    ensures { result ≡ same a.now b.now }
-{
-    for k in 0..Picture::VALUES {
-        if a[k] != b[k] {
-            return false;
-        }
-    }
-    true
-}
 
 // Record n is not refused, of the format and not reserved.
 pub fn holds_picture(store: &[u8], n: usize, format: u8) -> bool
@@ -35,10 +20,7 @@ pub fn holds_picture(store: &[u8], n: usize, format: u8) -> bool
     let RecordReading::Record(found) = record_at(store, n) else {
         return false;
     };
-    if found.format != format {
-        return false;
-    }
-    mode_at(store, n) != 0
+    found.format == format && mode_at(store, n) != 0
 }
 
 // Record `earlier` holds the picture of record n, which holds one of the format.
@@ -55,10 +37,7 @@ fn kept_alike(store: &[u8], scratch: &[u16], n: usize, format: u8, earlier: usiz
         return false;
     }
     let count = record_count(store);
-    same_picture(
-        picture_in(scratch, count, earlier),
-        picture_in(scratch, count, n),
-    )
+    picture_in(scratch, count, earlier) == picture_in(scratch, count, n)
 }
 
 // One mark a record, by what scratch space keeps of each.
@@ -97,13 +76,7 @@ pub fn mark_records(store: &[u8], scratch: &[u16], marks: &mut [u8])
 pub fn count_of(marks: &[u8], mark: u8) -> usize
     ensures { result ≡ count_of mark marks.now }
 {
-    let mut count: usize = 0;
-    for n in 0..marks.len() {
-        if marks[n] == mark {
-            count += 1;
-        }
-    }
-    count
+    marks.iter().filter(|m| **m == mark).count()
 }
 
 // Why a twin list over the store, with room for so many marks, is refused.

@@ -13,9 +13,7 @@ ghost use Rattle.store_twins.specs.Strict.{damaged, first_damaged, StrictlyListe
 use bc6::block_pixels;
 use bc6h_spec::Picture;
 use bcn_spec::Answer;
-use store_marks::{
-    count_of, holds_picture, list_refusal, mark_records, same_picture, scratch_refusal,
-};
+use store_marks::{count_of, holds_picture, list_refusal, mark_records, scratch_refusal};
 use store_records::{Record, RecordReading, record_at, record_block, record_count};
 use store_scratch::{keep_prints, mode_at};
 use store_spec::{Mark, TwinList};
@@ -92,7 +90,7 @@ fn shows(store: &[u8], n: usize, format: u8, picture: &[u16]) -> bool
     }
     let mut shown = [0u16; Picture::VALUES];
     decode_record(store, n, format, &mut shown);
-    same_picture(&shown, picture)
+    shown.as_slice() == picture
 }
 
 // The first earlier record that record n is a twin of; n where it is no twin.
@@ -107,12 +105,9 @@ pub fn first_twin(store: &[u8], n: usize) -> usize
     }
     let mut picture = [0u16; Picture::VALUES];
     decode_record(store, n, found.format, &mut picture);
-    for earlier in 0..n {
-        if shows(store, earlier, found.format, &picture) {
-            return earlier;
-        }
-    }
-    n
+    (0..n)
+        .find(|earlier| shows(store, *earlier, found.format, &picture))
+        .unwrap_or(n)
 }
 
 // ---- the strict list
@@ -136,12 +131,7 @@ pub fn first_damaged(store: &[u8]) -> usize
     if store.len() > Record::STORE {
         return count;
     }
-    for n in 0..count {
-        if is_damaged(store, n) {
-            return n;
-        }
-    }
-    count
+    (0..count).find(|n| is_damaged(store, *n)).unwrap_or(count)
 }
 
 // The twin list of a store, which is refused whole where a record is damaged.

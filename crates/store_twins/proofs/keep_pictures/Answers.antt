@@ -1,6 +1,5 @@
 use borrow.Author.Rules.{rules}
 use mathlib.Core.Path.{refl}
-use Prim.Native.Nat.{◌-◌}
 use Rattle.store_records.proofs.Readings.{unrefused, format_is, refused}
 use Rattle.laws.proofs.Joined.{run_start}
 use Rattle.store_spec.proofs.Keeping.{slot_length, slot_passed, slot_put, slots_done}

@@ -68,3 +68,13 @@ behind_front front xs lent out part n size e w p =
     (p ∙ ap (λ (t : List ℕ). xs ++ drop size t) (rest_lent out n ∙ ap (drop n) w ∙ drop_at front (drop n lent) n e)
     ∙ ap (λ (t : List ℕ). xs ++ t) (drop-drop size n lent))
     ∙ sym (append_assoc front xs (drop (n + size) lent))
+
+-- ---- `copy_from_slice` of a part of a list into a part of another
+
+pub copied : (lent from new : List ℕ) (to at size : ℕ) → new ≡ take (at + size - at) (drop at from) → put_mid to (to + size - to) lent new ≡ paste lent to (drop at from) size
+copied lent from new to at size e =
+    let p : to + size - to ≡ size = omega arith in
+    let q : at + size - at ≡ size = omega arith in
+    rw (e, p, q)
+    (ap (λ (l : List ℕ). take to lent ++ (take size (drop at from) ++ l)) (drop-drop size to lent)
+    ∙ sym (append_assoc (take to lent) (take size (drop at from)) (drop (to + size) lent)))

@@ -9,8 +9,7 @@ ghost use Rattle.store_records.specs.Store.{record_size, records_in, most_record
 ghost use Rattle.store_clean.specs.Clean.{repeats, first_of, record_of, refusal, CleanedInto};
 ghost use Rattle.store_clean.specs.Links.{bucket_count, block_mixed, bucket_of, Linked, Met};
 
-use bcn_spec::{Answer, Block};
-use raw_bytes::{copy_part, same_bytes, u8_to_u64, u16_to_usize};
+use bcn_spec::Answer;
 use store_marks::list_refusal;
 use store_records::{Record, RecordReading, record_at, record_block, record_count};
 use store_scratch::{mixed_on, mode_at};
@@ -44,9 +43,9 @@ fn mixed(format: u8, block: &[u8]) -> u64
     requires { length block.now ≡ block_size }
     ensures { result ≡ block_mixed format block.now block_size }
 {
-    let mut mix: u64 = u8_to_u64(format) + 1;
-    for k in 0..Block::SIZE {
-        mix = mixed_on(mix) + u8_to_u64(block[k]);
+    let mut mix = u64::from(format) + 1;
+    for byte in block {
+        mix = mixed_on(mix) + u64::from(*byte);
     }
     mix
 }
@@ -93,11 +92,7 @@ fn is_repeat(store: &[u8], n: usize, earlier: usize) -> bool
     if mode == 0 {
         return false;
     }
-    same_bytes(
-        record_block(store, n),
-        record_block(store, earlier),
-        Block::SIZE,
-    )
+    record_block(store, n) == record_block(store, earlier)
 }
 
 // The record that stays for record n where that is removed; n where it stays.
@@ -107,12 +102,9 @@ pub fn first_of(store: &[u8], n: usize) -> usize
     let RecordReading::Record(_) = record_at(store, n) else {
         return n;
     };
-    for earlier in 0..n {
-        if is_repeat(store, n, earlier) {
-            return earlier;
-        }
-    }
-    n
+    (0..n)
+        .find(|earlier| is_repeat(store, n, *earlier))
+        .unwrap_or(n)
 }
 
 // An earlier record that record n repeats; n where there is none. A walk along the links, from the last record of its bucket to the first.
@@ -128,13 +120,13 @@ pub fn repeated_along(store: &[u8], links: &[u16], n: usize) -> usize
     if mode_at(store, n) == 0 {
         return n;
     }
-    let mut at = u16_to_usize(links[n]);
+    let mut at = usize::from(links[n]);
     while at > 0 {
         let earlier = at - 1;
         if is_repeat(store, n, earlier) {
             return earlier;
         }
-        at = u16_to_usize(links[earlier]);
+        at = usize::from(links[earlier]);
     }
     n
 }
@@ -145,13 +137,9 @@ pub fn copy_record(store: &[u8], n: usize, out: &mut [u8], place: usize)
     requires record_size_in_bounds { place * record_size + record_size ≤ length out.old }
     ensures { out.new ≡ paste out.old (place * record_size) (record_of store.now n) record_size }
 {
-    copy_part(
-        store,
-        n * Record::SIZE,
-        Record::SIZE,
-        out,
-        place * Record::SIZE,
-    );
+    let from = n * Record::SIZE;
+    let to = place * Record::SIZE;
+    out[to..to + Record::SIZE].copy_from_slice(&store[from..from + Record::SIZE]);
 }
 
 // Writes the records of a store that stay, in order and byte for byte, and counts those and the ones that are removed.

@@ -1,14 +1,12 @@
-use borrow.Author.Rules.{rules}
-use mathlib.Core.Path.{◌≡◌}
-use native.Mathlib.Omega.{arith}
+use Rattle.std.proofs.Common.{◌≡◌, arith}
 use Rattle.store_clean.proofs.Linking.{mixed_none, mixed_more}
 use Rattle.store_clean.proofs.mixed.Goals as goal
 
-pub loop-k-init : goal.loop-k-init
-loop-k-init c = (search rules, mixed_none _ _ _ c.u8_to_u64-mix.ensures.0)
+pub loop-byte-init : goal.loop-byte-init
+loop-byte-init c = mixed_none _ _ _ c.from-mix.ensures
 
-pub loop-k-preserved : goal.loop-k-preserved
-loop-k-preserved c = (search rules, mixed_more _ _ _ _ _ _ c.loop-k.invariant.1 c.mixed_on.ensures.0 c.u8_to_u64.ensures.0)
+pub loop-byte-preserved : goal.loop-byte-preserved
+loop-byte-preserved c = mixed_more _ _ _ _ _ _ c.loop-byte.invariant c.mixed_on.ensures.0 c.from.ensures
 
 pub returns : goal.returns
-returns c = let e : c.loop-k.k ≡ 16 = omega arith in rw e at c.loop-k.invariant.1
+returns c = let e : c.loop-byte.byte-index ≡ 16 = omega arith in rw e at c.loop-byte.invariant

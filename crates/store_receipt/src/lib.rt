@@ -8,7 +8,7 @@ ghost use Rattle.store_clean.specs.Clean.{first_of};
 ghost use Rattle.store_receipt.specs.Receipt.{entries_in, entry_size, entry_of, entry_at, receipt_refusal, ReceiptInto, Walk, Tells};
 
 use bcn_spec::Answer;
-use raw_bytes::{copy_part, u16_at, u16_to_usize};
+use raw_bytes::u16_at;
 use store_clean::{Cleaned, copy_record, link_records, repeated_along};
 use store_marks::list_refusal;
 use store_records::{Record, record_count};
@@ -39,8 +39,8 @@ pub fn entry_at(receipt: &[u8], e: usize) -> Entry
 {
     let at = e * Entry::SIZE;
     Entry {
-        number: u16_to_usize(u16_at(receipt, at)),
-        stays: u16_to_usize(u16_at(receipt, at + 2)),
+        number: usize::from(u16_at(receipt, at)),
+        stays: usize::from(u16_at(receipt, at + 2)),
     }
 }
 
@@ -65,19 +65,21 @@ fn first_along(store: &[u8], links: &[u16], firsts: &[u16], n: usize) -> usize
     if earlier >= n {
         return n;
     }
-    u16_to_usize(firsts[earlier])
+    usize::from(firsts[earlier])
 }
 
 fn entry_of(store: &[u8], n: usize, first: usize) -> [u8; 8]
     requires { (n < 65536) × (first ≤ n) × (n * 24 + 24 ≤ length store.now) × (first ≡ first_of store.now n) }
     ensures { result ≡ entry_of store.now n }
 {
+    let number = (n as u16).to_le_bytes();
+    let stays = (first as u16).to_le_bytes();
     let at = n * Record::SIZE;
     [
-        (n % 0x100) as u8,
-        (n / 0x100) as u8,
-        (first % 0x100) as u8,
-        (first / 0x100) as u8,
+        number[0],
+        number[1],
+        stays[0],
+        stays[1],
         store[at],
         store[at + 1],
         store[at + 2],
@@ -91,7 +93,8 @@ fn write_entry(store: &[u8], n: usize, first: usize, receipt: &mut [u8], place: 
     ensures { receipt.new ≡ paste receipt.old (place * entry_size) (entry_of store.now n) entry_size }
 {
     let entry = entry_of(store, n, first);
-    copy_part(&entry, 0, Entry::SIZE, receipt, place * Entry::SIZE);
+    let to = place * Entry::SIZE;
+    receipt[to..to + Entry::SIZE].copy_from_slice(&entry);
 }
 
 // Writes the records that stay to `out`, as `clean_store` does, and an entry for each removed record to `receipt`, in order.

@@ -7,6 +7,7 @@ use native.Mathlib.Numerals.{add-one}
 use native.Mathlib.Omega.{arith}
 use lib.ListN.{length, get_or, take, drop, set, length-append, length-take, length-drop, drop_of_length-le, get_or-append}
 use lib.Seq.{take_all, take_at, drop_at, drop-drop, get_or-take, get_or-drop, paste, paste-suc}
+use Rattle.std.specs.List.{copy_within}
 use borrow.Rule.Slice.PartMut.{mid_of, put_mid}
 
 -- ---- a turn
@@ -78,3 +79,7 @@ copied lent from new to at size e =
     rw (e, p, q)
     (ap (λ (l : List ℕ). take to lent ++ (take size (drop at from) ++ l)) (drop-drop size to lent)
     ∙ sym (append_assoc (take to lent) (take size (drop at from)) (drop (to + size) lent)))
+
+-- `copy_within` of a list
+pub copied_within : (lent : List ℕ) (from size to : ℕ) → copy_within lent from (from + size) to ≡ paste lent to (drop from lent) size
+copied_within lent from size to = let p : from + size - from ≡ size = omega arith in rw p

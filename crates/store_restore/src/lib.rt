@@ -7,7 +7,6 @@ ghost use Rattle.store_receipt.specs.Receipt.{entries_in, removed_number};
 ghost use Rattle.store_restore.specs.Restore.{least_at, entry_fits, receipt_fits, restore_refusal, put_into, PutBack, RestoredInto};
 
 use bcn_spec::Answer;
-use raw_bytes::{copy_part, copy_within};
 use store_clean::copy_record;
 use store_receipt::{Entry, entry_at};
 use store_records::{Record, record_count};
@@ -93,14 +92,11 @@ fn put_back(receipt: &[u8], e: usize, out: &mut [u8], n: usize)
     ensures { out.new ≡ put_into receipt.now e out.old n }
 {
     let stays = entry_at(receipt, e).stays;
+    let tile = e * Entry::SIZE + Entry::HEAD;
     let to = n * Record::SIZE;
-    copy_part(receipt, e * Entry::SIZE + Entry::HEAD, Entry::TILE, out, to);
-    copy_within(
-        out,
-        stays * Record::SIZE + Entry::TILE,
-        Entry::REST,
-        to + Entry::TILE,
-    );
+    out[to..to + Entry::TILE].copy_from_slice(&receipt[tile..tile + Entry::TILE]);
+    let rest = stays * Record::SIZE + Entry::TILE;
+    out.copy_within(rest..rest + Entry::REST, to + Entry::TILE);
 }
 
 // Whether there is an entry e, and its number is n.

@@ -83,3 +83,11 @@ copied lent from new to at size e =
 -- `copy_within` of a list
 pub copied_within : (lent : List ℕ) (from size to : ℕ) → copy_within lent from (from + size) to ≡ paste lent to (drop from lent) size
 copied_within lent from size to = let p : from + size - from ≡ size = omega arith in rw p
+
+-- `copy_from_slice` into the last places of a list
+pub end_put : (front rest tail : List ℕ) (n size : ℕ) → length front ≡ n → length rest ≡ size → put_mid n size (front ++ rest) tail ≡ front ++ tail
+end_put front rest tail n size l m =
+    let none : drop size rest ≡ [] = drop_of_length-le rest {i = size} (omega arith) in
+    ap₂ (λ (a b : List ℕ). a ++ (tail ++ drop size b)) (take_at front rest n l) (drop_at front rest n l)
+    ∙ ap (λ (b : List ℕ). front ++ (tail ++ b)) none
+    ∙ ap (λ (b : List ℕ). front ++ b) (append-nil tail)

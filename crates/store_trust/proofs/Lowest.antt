@@ -44,19 +44,6 @@ below_top p z r = go z (2 ^ (p - 1) - 1) (omega (arith, pow_pos (p - 1))) r.insi
     go (pos n) k e h = above n k
     go (negsuc n) k e h = at n k e h (ℕ_discrete n k)
 
--- ---- a colour's three channels
-
-module _ (p : ℕ) (c : Colour) (a : Bool) (told : a ≡ is_least p c.r) where
-  pub red_least : a ≡ true → true ≡ least_of p c
-  red_least t = rw (sym told ∙ t) refl
-
-  module _ (left : a ≡ false) (b : Bool) (told-2 : b ≡ is_least p c.g) where
-    pub green_least : b ≡ true → true ≡ least_of p c
-    green_least t = rw (sym told ∙ left, sym told-2 ∙ t) refl
-
-    pub blue_decides : b ≡ false → (d : Bool) → d ≡ is_least p c.b → d ≡ least_of p c
-    blue_decides t d e = e ∙ rw (sym told ∙ left, sym told-2 ∙ t) refl
-
 -- ---- an endpoint of a signed block
 
 turned : (a b c : Bool) → either a (either b c) ≡ either c (either b (either a false))

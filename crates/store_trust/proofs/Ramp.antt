@@ -11,11 +11,9 @@ use borrow.Author.Tests.{lt-leb, le-leb, ltb-true, ltb-false}
 use Rattle.laws.specs.Pick.{pick, both}
 use Rattle.laws.specs.Bit.{bit}
 use Rattle.laws.specs.Every.{below}
-use Rattle.laws.specs.Made.{made}
 use Rattle.laws.specs.Packed.{before, unpacked}
 use Rattle.laws.proofs.Tests.{cases, both_left, both_right, below_at}
 use Rattle.laws.proofs.Rows.{made-same}
-use Rattle.laws.proofs.Taken.{made_taken}
 use Rattle.bc6h_spec.specs.declared.Fields.{Fields}
 use Rattle.bcn_spec.specs.Bits.{IsBlock, number_of}
 use Rattle.bc6h_spec.specs.Layout.{row, two_regions}
@@ -34,18 +32,6 @@ use Rattle.bc6h_spec.proofs.Pixel.{shows_as, pixel_shows, same_palette}
 use Rattle.bc6h_spec.proofs.Reading.{at_index, fields_are, fields_mode, mode_le}
 use Rattle.bc6h_spec.proofs.Split.{endpoint_low, partition_next}
 use Rattle.store_trust.specs.Ramp.{ramped_one, ramped_two}
-
--- ---- the bytes
-
-pub one_bytes : (l : List ℕ) → length l ≡ 16
-    → made (λ k. get_or l k 0) 8 ++ ((get_or l 8 0 % 2 + 0x10) ∷ 0x32 ∷ 0x54 ∷ 0x76 ∷ 0x98 ∷ 0xBA ∷ 0xDC ∷ 0xFE ∷ []) ≡ ramped_one l
-unfolding ramped_one
-one_bytes l h = rw (made_taken l 8 (omega arith))
-
-pub two_bytes : (l : List ℕ) → length l ≡ 16
-    → made (λ k. get_or l k 0) 9 ++ ((get_or l 9 0 % 32 + 0xA0) ∷ 0x11 ∷ 0x8D ∷ 0xF5 ∷ 0xEF ∷ 0x72 ∷ 0x0A ∷ []) ≡ ramped_two l
-unfolding ramped_two
-two_bytes l h = rw (made_taken l 9 (omega arith))
 
 -- the indices as one number: 0 to 15 in one region; 0 to 7 and 7 to 0 in two
 indices16 : ℕ

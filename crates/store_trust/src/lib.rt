@@ -38,11 +38,7 @@ fn is_at(fields: Fields, region: u8, n: u8, k: usize) -> bool
     requires { (fields.partition < 32) × (k < 16) }
     ensures { result ≡ indexed_at fields region n k }
 {
-    if region_of(fields, k) != region {
-        return false;
-    }
-    let indices = fields.indices;
-    indices[k] == n
+    region_of(fields, k) == region && fields.indices[k] == n
 }
 
 // Some pixel of the region has the index n.
@@ -50,12 +46,7 @@ fn reaches(fields: Fields, region: u8, n: u8) -> bool
     requires { fields.partition < 32 }
     ensures { result ≡ reaches fields region n }
 {
-    for k in 0..16usize {
-        if is_at(fields, region, n, k) {
-            return true;
-        }
-    }
-    false
+    (0..16).any(|k| is_at(fields, region, n, k))
 }
 
 // The block with the index k at pixel k: it shows its palette, in order.
@@ -63,15 +54,9 @@ fn ramped_one(block: &[u8]) -> [u8; 16]
     requires { length block.now ≡ 16 }
     ensures { result ≡ ramped_one block.now }
 {
-    [
-        block[0],
-        block[1],
-        block[2],
-        block[3],
-        block[4],
-        block[5],
-        block[6],
-        block[7],
+    let mut ramp = [0; 16];
+    ramp[..8].copy_from_slice(&block[..8]);
+    ramp[8..].copy_from_slice(&[
         block[8] % 2 + 0x10,
         0x32,
         0x54,
@@ -80,7 +65,8 @@ fn ramped_one(block: &[u8]) -> [u8; 16]
         0xBA,
         0xDC,
         0xFE,
-    ]
+    ]);
+    ramp
 }
 
 // The block in partition 13, with the index k at pixel k of region 0 and 15 - k at pixel k of region 1: it shows one palette in
@@ -89,24 +75,10 @@ fn ramped_two(block: &[u8]) -> [u8; 16]
     requires { length block.now ≡ 16 }
     ensures { result ≡ ramped_two block.now }
 {
-    [
-        block[0],
-        block[1],
-        block[2],
-        block[3],
-        block[4],
-        block[5],
-        block[6],
-        block[7],
-        block[8],
-        block[9] % 32 + 0xA0,
-        0x11,
-        0x8D,
-        0xF5,
-        0xEF,
-        0x72,
-        0x0A,
-    ]
+    let mut ramp = [0; 16];
+    ramp[..9].copy_from_slice(&block[..9]);
+    ramp[9..].copy_from_slice(&[block[9] % 32 + 0xA0, 0x11, 0x8D, 0xF5, 0xEF, 0x72, 0x0A]);
+    ramp
 }
 
 fn ramped(block: &[u8], two: bool) -> [u8; 16]
@@ -136,36 +108,21 @@ fn is_repeated(palettes: &[u16; 48], first: usize, channel: usize, i: usize) -> 
     ensures { result ≡ repeated (ramp_entry palettes.now first channel) i }
 {
     let value = palettes[3 * (first + i) + channel];
-    for k in 0..i {
-        if value == palettes[3 * (first + k) + channel] {
-            return true;
-        }
-    }
-    false
+    (0..i).any(|k| value == palettes[3 * (first + k) + channel])
 }
 
 fn entries_differ(palettes: &[u16; 48], first: usize, count: usize, channel: usize) -> bool
     requires { (channel < 3) × (first + count ≤ 16) }
     ensures { result ≡ entries_differ palettes.now first count channel }
 {
-    for i in 0..count {
-        if is_repeated(palettes, first, channel, i) {
-            return false;
-        }
-    }
-    true
+    !(0..count).any(|i| is_repeated(palettes, first, channel, i))
 }
 
 fn some_channel_differs(palettes: &[u16; 48], first: usize, count: usize) -> bool
     requires { first + count ≤ 16 }
     ensures { result ≡ some (entries_differ palettes.now first count) 3 }
 {
-    for channel in 0..3usize {
-        if entries_differ(palettes, first, count, channel) {
-            return true;
-        }
-    }
-    false
+    (0..3).any(|channel| entries_differ(palettes, first, count, channel))
 }
 
 // A region reaches both ends of its palette of `count` entries, and a channel of it differs throughout.
@@ -214,13 +171,7 @@ fn some_channel_least(colour: Colour, bits: u8) -> bool
     requires { (0 < bits) × (bits ≤ 16) × OfBits true bits colour }
     ensures { result ≡ least_of bits colour }
 {
-    if is_least(colour.r, bits) {
-        return true;
-    }
-    if is_least(colour.g, bits) {
-        return true;
-    }
-    is_least(colour.b, bits)
+    is_least(colour.r, bits) || is_least(colour.g, bits) || is_least(colour.b, bits)
 }
 
 fn end_count(fields: Fields) -> usize

@@ -1,8 +1,7 @@
 -- `store_trust::has_least` meets its contract. The loop's invariant: no endpoint before e is at the lowest number. Assumes nothing.
 use borrow.Author.Rules.{rules}
 use mathlib.Core.Path.{sym, ◌∙◌}
-use mathlib.Core.Bool.{true, false}
-use Prim.Native.Nat.{◌-◌}
+use mathlib.Core.Bool.{true}
 use lib.Dec.{lit<}
 use Rattle.laws.proofs.Search.{some_more}
 use Rattle.bc6_colour.proofs.Ends.{end_asks}

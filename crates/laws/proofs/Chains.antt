@@ -37,10 +37,16 @@ module _ (f : ℕ → Bool) where
   none_first zero h = refl
   none_first (suc n) h = let e = none_first n (λ k l. h k (omega arith)) in rw (e, h n (omega arith)) (grind arith)
 
+  -- `position` or `find`, and the length where none is found
+  pub position_is : (n : ℕ) (o : Option ℕ) → MatchOption o ((k : ℕ) → k < n → f k ≡ false) (λ i. (i < n) × (f i ≡ true) × ((k : ℕ) → k < i → f k ≡ false))
+      → unwrap_or o n ≡ first_below f n
+  position_is n None h = sym (none_first n h)
+  position_is n (Some i) h = sym (first_at f n i (none_first i h.2) h.1 h.0)
+
   find_is : (n : ℕ) (o : Option ℕ) → MatchOption o ((k : ℕ) → 0 ≤ k → k < n → f k ≡ false) (λ i. (0 ≤ i) × (i < n) × (f i ≡ true) × ((k : ℕ) → 0 ≤ k → k < i → f k ≡ false))
       → unwrap_or o n ≡ first_below f n
-  find_is n None h = sym (none_first n (λ k l. h k (omega arith) l))
-  find_is n (Some i) h = sym (first_at f n i (none_first i (λ k l. h.3 k (omega arith) l)) h.2 h.1)
+  find_is n None h = position_is n None (λ k l. h k (omega arith) l)
+  find_is n (Some i) h = position_is n (Some i) (h.1, h.2, λ k l. h.3 k (omega arith) l)
 
   some_any : (n : ℕ) → some f n ≡ list_any f (range_with_len 0 n)
   some_any n =

@@ -12,7 +12,6 @@ ghost use Rattle.text_infinities.specs.Infinities.{infinite_at, finding_of, chan
 use bc6::block_pixels;
 use bc6h_spec::Picture;
 use bcn_spec::Answer;
-use raw_bytes::u16_to_usize;
 use store_marks::list_refusal;
 use store_records::{RecordReading, record_at, record_block, record_count, tile_at};
 use store_spec::TwinList;
@@ -30,12 +29,10 @@ fn first_infinite(values: &[u16]) -> usize
     requires { length values.now ≡ value_count }
     ensures { result ≡ first_below (infinite_at values.now) value_count }
 {
-    for j in 0..Picture::VALUES {
-        if values[j] == MINUS_INFINITY {
-            return j;
-        }
-    }
-    Picture::VALUES
+    values
+        .iter()
+        .position(|value| *value == MINUS_INFINITY)
+        .unwrap_or(Picture::VALUES)
 }
 
 // How many values of a record are minus infinity, and the first of them.
@@ -59,7 +56,7 @@ fn examine(store: &[u8], n: usize) -> Finding
     let mut values = [0u16; Picture::VALUES];
     let pixels = block_pixels(record_block(store, n), found.format, &mut values);
     Finding {
-        infinite: u16_to_usize(pixels.infinite),
+        infinite: usize::from(pixels.infinite),
         first: first_infinite(&values),
     }
 }

@@ -11,4 +11,4 @@ pub returns : goal.returns
 returns c =
     let d = c.record_at.ensures in
     let e = c.in-Record.is in
-    record { infinite_bound = search rules; value = findings.found c.args.store.now c.args.n (unrefused d e) (format_is d e) c.record_block.ensures refl (search rules) c.block_pixels-pixels.ensures c.u16_to_usize.ensures.0 c.first_infinite.ensures }
+    record { infinite_bound = search rules; value = findings.found c.args.store.now c.args.n (unrefused d e) (format_is d e) c.record_block.ensures refl (search rules) c.block_pixels-pixels.ensures c.from.ensures c.first_infinite.ensures }

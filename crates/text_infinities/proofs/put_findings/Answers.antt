@@ -1,4 +1,3 @@
-use Prim.Native.Nat.{◌-◌}
 use Rattle.store_records.specs.Store.{records_in}
 use Rattle.text.proofs.Lines.{no_lines}
 use Rattle.text_infinities.proofs.Findings as findings

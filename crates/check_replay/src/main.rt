@@ -37,12 +37,7 @@ fn same_values(values: &[u16], bytes: &[u8]) -> bool
     requires { (length values.now ≡ value_count) × (length bytes.now ≡ 96) }
     ensures { result ≡ same values.now (values_in bytes.now) }
 {
-    for k in 0..48usize {
-        if values[k] != value_at(bytes, k) {
-            return false;
-        }
-    }
-    true
+    (0..48).all(|k| values[k] == value_at(bytes, k))
 }
 
 // The count of minus infinities that an entry has, low byte first.
@@ -100,8 +95,7 @@ fn replay_one(rt: &impl Print, list: &[u8], n: usize) -> io::Result<usize>
     ensures { IfOk result (λ count. count ≡ count_at list.now n) }
 {
     let start = n * SIZE;
-    let end = start + SIZE;
-    if agrees(&list[start..end]) {
+    if agrees(&list[start..start + SIZE]) {
         return Ok(1);
     }
     print_difference(rt, n)?;

@@ -3,7 +3,6 @@
 
 ghost use Rattle.std.specs.Prelude.{◌+◌, ◌≤◌, ◌<◌, length};
 
-use raw_bytes::u8_to_u64;
 use run_streams::{Input, first_bytes, read_input, write_text};
 use store_records::{Record, record_at, record_block, record_count};
 use store_spec::TwinList;
@@ -45,8 +44,8 @@ fn put_marks(text: &mut [u8], at: usize, marks: &[u8], lent: usize) -> usize
     requires lent_in_bounds { lent < length marks.now }
     ensures { result ≤ at + 54 }
 {
-    let mut end = put_count(text, at, b" first ", u8_to_u64(marks[0]));
-    end = put_count(text, end, b" next ", u8_to_u64(marks[lent]));
+    let mut end = put_count(text, at, b" first ", u64::from(marks[0]));
+    end = put_count(text, end, b" next ", u64::from(marks[lent]));
     put(text, end, b"\n")
 }
 

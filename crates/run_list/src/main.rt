@@ -11,7 +11,6 @@ ghost use Rattle.run_streams.specs.Output.{Outgoing};
 ghost use Rattle.run_list.specs.Listing.{listing_refusal, listing_of};
 
 use bcn_spec::Answer;
-use raw_bytes::same_bytes;
 use run_streams::{Input, STORE_INPUT, first_bytes, read_input, tell, write_text};
 use std::env::Env;
 use std::io::Stderr;
@@ -58,10 +57,7 @@ fn is_strict(rt: &impl Env) -> bool {
     let Ok(size) = rt.arg(1, &mut word) else {
         return false;
     };
-    if size != 8 {
-        return false;
-    }
-    same_bytes(&word, b"--strict", 8)
+    size == word.len() && word == *b"--strict"
 }
 
 // Which record is the first damaged one, on standard error.

@@ -8,7 +8,7 @@ ghost use Rattle.text.specs.Text.{Written};
 ghost use Rattle.text_restore.specs.Restoring.{length_size, cleaned_length, input_refusal, restored_output, restoring_output};
 
 use bcn_spec::Answer;
-use raw_bytes::{u32_at, u32_to_usize};
+use raw_bytes::u32_at;
 use store_receipt::Entry;
 use store_records::Record;
 use store_restore::restore_store;
@@ -29,7 +29,7 @@ fn cleaned_length(input: &[u8]) -> usize
     requires { length_size ≤ length input.now }
     ensures { result ≡ cleaned_length input.now }
 {
-    u32_to_usize(u32_at(input, 0))
+    u32_at(input, 0) as usize
 }
 
 // Why an input is refused before its two parts are looked at.

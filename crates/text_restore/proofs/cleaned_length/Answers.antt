@@ -1,7 +1,6 @@
-use mathlib.Core.Path.{◌∙◌}
 use Rattle.text_restore.specs.Restoring.{cleaned_length}
 use Rattle.text_restore.proofs.cleaned_length.Goals as goal
 
 pub returns : goal.returns
 unfolding cleaned_length
-returns c = c.u32_to_usize.ensures ∙ c.u32_at.ensures
+returns c = c.u32_at.ensures

@@ -52,9 +52,9 @@ unfolding decimal
 digit_none n = sym (append-nil (decimal_in 20 n))
 
 -- all places are used
-pub digit_end : (text digits : List ℕ) (k rest : ℕ) → k ≡ 0 → text ≡ decimal_in k rest ++ drop k digits → text ≡ drop k digits
+pub digit_end : (text digits : List ℕ) (k rest : ℕ) → k ≡ 0 → text ≡ decimal_in k rest ++ drop k digits → text ≡ digits
 unfolding decimal_in
-digit_end text digits k rest z e = rw z (rw z at e)
+digit_end text digits k rest z e = rw z at e
 
 -- ---- what a text of digits says
 

@@ -1,11 +1,11 @@
 -- Laws of words that are stored one after the other. Assumes nothing.
 use mathlib.Core.Path.{◌≡◌, refl, sym, ap, ◌∙◌}
-use mathlib.Core.List.{List, [], ◌∷◌, ◌++◌}
-use Prim.Native.Nat.{ℕ, ◌+◌, ◌/◌, ◌%◌, ◌≤◌, ◌<◌}
-use native.Mathlib.Numerals.{add-one}
+use mathlib.Core.List.{List, [], ◌∷◌, ◌++◌, append_assoc}
+use Prim.Native.Nat.{ℕ, ◌+◌, ◌-◌, ◌/◌, ◌%◌, ◌≤◌}
 use native.Mathlib.Omega.{arith}
-use lib.ListN.{length, get_or, set, take, length-append}
-use lib.Seq.{sets, length-sets, sets-eq, take_all, take-suc, take_at, length-take-le}
+use borrow.Rule.Slice.PartMut.{put_mid}
+use lib.ListN.{length, take, drop, length-append}
+use lib.Seq.{sets, length-sets, sets-eq, take_at, drop-drop}
 pub use Rattle.laws.proofs.Stores.{sets_append}
 use Rattle.text.specs.Text.{hex_digit, hex, Written}
 
@@ -29,17 +29,18 @@ pub hex_is : (v : ℕ) {a b c d : ℕ} → a ≡ hex_digit (v / 4096 % 16) → b
 unfolding hex
 hex_is v e f g h = rw (e, f, g, h)
 
--- a store of the word's next byte
-pub one_more : (l p w : List ℕ) (at k : ℕ) → p ≡ sets l at (take k w) → k < length w → set p (at + k) (get_or w k 0) ≡ sets l at (take (k + 1) w)
-one_more l p w at k e h =
-    let len : length (take k w) ≡ k = length-take-le k w (omega arith) in
-    ap (λ (t : List ℕ). set t (at + k) (get_or w k 0)) e
-    ∙ sets_append (take k w) (get_or w k 0 ∷ []) l at (at + k) (omega arith)
-    ∙ ap (sets l at) (sym (take-suc w k 0 h) ∙ ap (λ (j : ℕ). take j w) (sym (add-one k)))
-
--- all bytes of the word are stored
-pub all_put : (l p w : List ℕ) (at k : ℕ) → p ≡ sets l at (take k w) → length w ≤ k → Written l at w (at + length w) p
-all_put l p w at k e h = record { next_is = refl; exit_is = e ∙ ap (sets l at) (take_all k w h) }
+-- a word that is copied into its part
+pub stored : (l w part : List ℕ) (at : ℕ) → at + length w ≤ length l → part ≡ w → Written l at w (at + length w) (put_mid at (at + length w - at) l part)
+stored l w part at h same =
+    let size : at + length w - at ≡ length w = omega arith in
+    record {
+      next_is = refl;
+      exit_is =
+          rw (size, same)
+          (ap (λ (t : List ℕ). take at l ++ (w ++ t)) (drop-drop (length w) at l)
+          ∙ sym (append_assoc (take at l) w (drop (at + length w) l))
+          ∙ sym (sets-eq w l at h));
+    }
 
 pub written_length : {l n : List ℕ} {at r : ℕ} {a : List ℕ} → Written l at a r n → length n ≡ length l
 written_length {l} {n} {at} {r} {a} w = ap length w.exit_is ∙ length-sets l at a

@@ -9,10 +9,9 @@ pub fn put(text: &mut [u8], at: usize, word: &[u8]) -> usize
     ensures value { result ≡ at + length word.now }
     ensures written { Written text.old at word.now result text.new }
 {
-    for k in 0..word.len() {
-        text[at + k] = word[k];
-    }
-    at + word.len()
+    let end = at + word.len();
+    text[at..end].copy_from_slice(word);
+    end
 }
 
 // A number in decimal, without leading zeros.
@@ -22,17 +21,15 @@ pub fn put_decimal(text: &mut [u8], at: usize, n: u64) -> usize
     ensures written { Written text.old at (decimal n) result text.new }
 {
     let mut digits = [0u8; 20];
-    let mut first: usize = 20;
     let mut rest = n;
-    while first > 0 {
-        first -= 1;
+    for first in (0..20usize).rev() {
         digits[first] = b'0' + (rest % 10) as u8;
         rest /= 10;
         if rest == 0 {
-            break;
+            return put(text, at, &digits[first..]);
         }
     }
-    put(text, at, &digits[first..])
+    put(text, at, &digits)
 }
 
 // A number and a blank.

@@ -6,24 +6,22 @@
 #![tactic(auto)]
 
 ghost use Rattle.text_build.specs.Output.{build_limit, build_output};
-ghost use Rattle.run_streams.specs.Output.{Outgoing};
 
-use run_streams::{Input, first_bytes, read_input, write_text};
+use run_streams::{Program, run};
 use text_build::{BUILT, WISH, put_build};
 
-// What goes out is the definition of what was read.
-fn write_built(rt: &(impl Print + Eprint), input: &[u8], size: usize, out: &[u8], end: usize)
-    requires { Outgoing build_output build_limit input.now size out.now end }
-{
-    write_text(rt, out, end);
+struct Building;
+
+impl Program<WISH, BUILT> for Building {
+    ghost definition = { build_output };
+
+    ghost largest = { build_limit };
+
+    fn put(input: &[u8], out: &mut [u8]) -> usize {
+        put_build(input, out)
+    }
 }
 
 fn main(rt: HostRuntime) {
-    let mut input = [0u8; WISH];
-    let Input::Whole(size) = read_input(&rt, &mut input) else {
-        return;
-    };
-    let mut out = [0u8; BUILT];
-    let end = put_build(first_bytes(&input, size), &mut out);
-    write_built(&rt, &input, size, &out, end);
+    run::<WISH, BUILT, Building>(&rt);
 }

@@ -4,24 +4,22 @@
 
 ghost use Rattle.store_records.specs.Store.{store_limit};
 ghost use Rattle.text_moves.specs.Output.{placed_output};
-ghost use Rattle.run_streams.specs.Output.{Outgoing};
 
-use run_streams::{Input, STORE_INPUT, first_bytes, read_input, write_text};
+use run_streams::{Program, STORE_INPUT, run};
 use text_moves::{PLACED, put_placed};
 
-// What goes out is the definition of what was read.
-fn write_placed(rt: &(impl Print + Eprint), input: &[u8], size: usize, out: &[u8], end: usize)
-    requires { Outgoing placed_output store_limit input.now size out.now end }
-{
-    write_text(rt, out, end);
+struct Placing;
+
+impl Program<STORE_INPUT, PLACED> for Placing {
+    ghost definition = { placed_output };
+
+    ghost largest = { store_limit };
+
+    fn put(store: &[u8], out: &mut [u8]) -> usize {
+        put_placed(store, out)
+    }
 }
 
 fn main(rt: HostRuntime) {
-    let mut input = [0u8; STORE_INPUT];
-    let Input::Whole(size) = read_input(&rt, &mut input) else {
-        return;
-    };
-    let mut out = [0u8; PLACED];
-    let end = put_placed(first_bytes(&input, size), &mut out);
-    write_placed(&rt, &input, size, &out, end);
+    run::<STORE_INPUT, PLACED, Placing>(&rt);
 }

@@ -4,24 +4,22 @@
 ghost use Rattle.std.specs.Prelude.{◌+◌};
 ghost use Rattle.probe_places.specs.Places.{place_limit};
 ghost use Rattle.text_places.specs.Listing.{listing_of};
-ghost use Rattle.run_streams.specs.Output.{Outgoing};
 
-use run_streams::{Input, first_bytes, read_input, write_text};
-use text_places::put_input;
+use run_streams::{Program, run};
+use text_places::{INPUT, ROOM, put_input};
 
-// What goes out is the definition of what was read.
-fn write_listing(rt: &(impl Print + Eprint), input: &[u8], size: usize, text: &[u8], end: usize)
-    requires { Outgoing listing_of (1 + place_limit) input.now size text.now end }
-{
-    write_text(rt, text, end);
+struct Listing;
+
+impl Program<INPUT, ROOM> for Listing {
+    ghost definition = { listing_of };
+
+    ghost largest = { 1 + place_limit };
+
+    fn put(input: &[u8], text: &mut [u8]) -> usize {
+        put_input(text, input)
+    }
 }
 
 fn main(rt: HostRuntime) {
-    let mut input = [0u8; text_places::INPUT];
-    let Input::Whole(size) = read_input(&rt, &mut input) else {
-        return;
-    };
-    let mut text = [0u8; text_places::ROOM];
-    let end = put_input(&mut text, first_bytes(&input, size));
-    write_listing(&rt, &input, size, &text, end);
+    run::<INPUT, ROOM, Listing>(&rt);
 }

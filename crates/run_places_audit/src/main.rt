@@ -3,24 +3,22 @@
 
 ghost use Rattle.probe_places.specs.Places.{place_limit};
 ghost use Rattle.text_places_audit.specs.Audit.{audit_of};
-ghost use Rattle.run_streams.specs.Output.{Outgoing};
 
-use run_streams::{Input, first_bytes, read_input, write_text};
-use text_places_audit::put_places_audit;
+use run_streams::{Program, run};
+use text_places_audit::{INPUT, ROOM, put_places_audit};
 
-// What goes out is the definition of what was read.
-fn write_audit(rt: &(impl Print + Eprint), input: &[u8], size: usize, text: &[u8], end: usize)
-    requires { Outgoing audit_of place_limit input.now size text.now end }
-{
-    write_text(rt, text, end);
+struct Audit;
+
+impl Program<INPUT, ROOM> for Audit {
+    ghost definition = { audit_of };
+
+    ghost largest = { place_limit };
+
+    fn put(store: &[u8], text: &mut [u8]) -> usize {
+        put_places_audit(text, store)
+    }
 }
 
 fn main(rt: HostRuntime) {
-    let mut input = [0u8; text_places_audit::INPUT];
-    let Input::Whole(size) = read_input(&rt, &mut input) else {
-        return;
-    };
-    let mut text = [0u8; text_places_audit::ROOM];
-    let end = put_places_audit(&mut text, first_bytes(&input, size));
-    write_audit(&rt, &input, size, &text, end);
+    run::<INPUT, ROOM, Audit>(&rt);
 }

@@ -5,25 +5,23 @@
 // A refusal is a line that begins `store refused`. Each block is shown in the format of its own record.
 #![tactic(auto)]
 
-ghost use Rattle.text_probe.specs.Output.{question_limit, probe_output};
-ghost use Rattle.run_streams.specs.Output.{Outgoing};
+ghost use Rattle.text_probe.specs.Output.{probe_output, question_limit};
 
-use run_streams::{Input, first_bytes, read_input, write_text};
+use run_streams::{Program, run};
 use text_probe::{ANSWER, QUESTION, put_probe};
 
-// What goes out is the definition of what was read.
-fn write_probe(rt: &(impl Print + Eprint), input: &[u8], size: usize, out: &[u8], end: usize)
-    requires { Outgoing probe_output question_limit input.now size out.now end }
-{
-    write_text(rt, out, end);
+struct Question;
+
+impl Program<QUESTION, ANSWER> for Question {
+    ghost definition = { probe_output };
+
+    ghost largest = { question_limit };
+
+    fn put(input: &[u8], out: &mut [u8]) -> usize {
+        put_probe(input, out)
+    }
 }
 
 fn main(rt: HostRuntime) {
-    let mut input = [0u8; QUESTION];
-    let Input::Whole(size) = read_input(&rt, &mut input) else {
-        return;
-    };
-    let mut out = [0u8; ANSWER];
-    let end = put_probe(first_bytes(&input, size), &mut out);
-    write_probe(&rt, &input, size, &out, end);
+    run::<QUESTION, ANSWER, Question>(&rt);
 }

@@ -5,24 +5,22 @@
 #![tactic(auto)]
 
 ghost use Rattle.text_moves.specs.Output.{wish_limit, wish_output};
-ghost use Rattle.run_streams.specs.Output.{Outgoing};
 
-use run_streams::{Input, first_bytes, read_input, write_text};
+use run_streams::{Program, run};
 use text_moves::{PLACED, WISH, put_wish};
 
-// What goes out is the definition of what was read.
-fn write_put(rt: &(impl Print + Eprint), input: &[u8], size: usize, out: &[u8], end: usize)
-    requires { Outgoing wish_output wish_limit input.now size out.now end }
-{
-    write_text(rt, out, end);
+struct Putting;
+
+impl Program<WISH, PLACED> for Putting {
+    ghost definition = { wish_output };
+
+    ghost largest = { wish_limit };
+
+    fn put(input: &[u8], out: &mut [u8]) -> usize {
+        put_wish(input, out)
+    }
 }
 
 fn main(rt: HostRuntime) {
-    let mut input = [0u8; WISH];
-    let Input::Whole(size) = read_input(&rt, &mut input) else {
-        return;
-    };
-    let mut out = [0u8; PLACED];
-    let end = put_wish(first_bytes(&input, size), &mut out);
-    write_put(&rt, &input, size, &out, end);
+    run::<WISH, PLACED, Putting>(&rt);
 }

@@ -5,9 +5,11 @@
 // from the text itself whether it is whole.
 #![tactic(auto)]
 
-ghost use Rattle.std.specs.Prelude.{◌≤◌, ◌≡◌, length, take};
+ghost use Rattle.std.specs.Prelude.{◌≡◌, List, ℕ, ◌^◌, ◌≤◌, ◌<◌, length, take};
 ghost use Rattle.std.specs.Io.{ReadsAtMost};
+ghost use Rattle.text.specs.Text.{Written};
 ghost use Rattle.run_streams.specs.Input.{Fits};
+ghost use Rattle.run_streams.specs.Output.{Outgoing};
 
 use std::io;
 use std::io::{Read, Stderr};
@@ -62,20 +64,14 @@ pub fn first_bytes(buffer: &[u8], size: usize) -> &[u8]
     buffer
 }
 
+// Writes the first bytes of a text.
 fn write_first(stream: &impl Print, text: &[u8], end: usize) -> io::Result<()>
     requires { end ≤ length text.now }
 {
     stream.write_all(&text[..end])
 }
 
-// Writes the first bytes of a text to standard output.
-fn print(rt: &impl Print, text: &[u8], end: usize) -> io::Result<()>
-    requires { end ≤ length text.now }
-{
-    write_first(rt, text, end)
-}
-
-// The same to standard error.
+// The same, to standard error.
 pub fn tell(stderr: &Stderr, text: &[u8], end: usize) -> io::Result<()>
     requires { end ≤ length text.now }
 {
@@ -86,7 +82,52 @@ pub fn tell(stderr: &Stderr, text: &[u8], end: usize) -> io::Result<()>
 pub fn write_text(rt: &(impl Print + Eprint), text: &[u8], end: usize)
     requires { end ≤ length text.now }
 {
-    if print(rt, text, end).is_err() {
+    if write_first(rt, text, end).is_err() {
         let _ = rt.eprintln("standard output could not be written");
     }
+}
+
+// A program that writes what its definition says of its input: it reads into INPUT bytes, and its answer has at most OUTPUT.
+pub trait Program<const INPUT: usize, const OUTPUT: usize> {
+    // What goes out, of what came in.
+    ghost definition: { List ℕ → List ℕ };
+
+    // The most bytes of an input that is taken. A longer one is refused, whatever is left of it.
+    ghost largest: { ℕ };
+
+    // The answer to an input, at the start of `out`; its result is how many bytes that is.
+    fn put(input: &[u8], out: &mut [u8]) -> usize
+        requires { length out.old ≡ OUTPUT }
+        ensures upper_bound { result ≤ length out.new }
+        ensures written { Written out.old 0 (definition input.now) result out.new };
+}
+
+// Writes the answer to the first bytes of a buffer: what goes out is the definition of what was read.
+fn write_answer<const INPUT: usize, const OUTPUT: usize, P: Program<INPUT, OUTPUT>>(
+    rt: &(impl Print + Eprint),
+    input: &[u8],
+    size: usize,
+    out: &[u8],
+    end: usize,
+)
+    requires { Outgoing P.definition P.largest input.now size out.now end }
+{
+    write_text(rt, out, end);
+}
+
+// Runs a program: reads standard input into a buffer with more room than its largest input, and writes the answer. Where the input could not
+// be read, nothing is written.
+pub fn run<const INPUT: usize, const OUTPUT: usize, P: Program<INPUT, OUTPUT>>(
+    rt: &(impl io::Input + Print + Eprint),
+)
+    requires in_memory { (INPUT < 2 ^ 63) × (OUTPUT < 2 ^ 63) }
+    requires room { P.largest < INPUT }
+{
+    let mut input = [0u8; INPUT];
+    let Input::Whole(size) = read_input(rt, &mut input) else {
+        return;
+    };
+    let mut out = [0u8; OUTPUT];
+    let end = P::put(first_bytes(&input, size), &mut out);
+    write_answer::<INPUT, OUTPUT, P>(rt, &input, size, &out, end);
 }

@@ -4,28 +4,26 @@
 
 ghost use Rattle.probe_places.specs.Places.{place_limit};
 ghost use Rattle.text_moves.specs.Output.{unplaced_output};
-ghost use Rattle.run_streams.specs.Output.{Outgoing};
 
 use probe_places::Place;
-use run_streams::{Input, first_bytes, read_input, write_text};
+use run_streams::{Program, run};
 use text_moves::{UNPLACED, put_unplaced};
 
 // One byte more than a store may have: enough to tell that one is too long.
 const ROOM: usize = Place::STORE + 1;
 
-// What goes out is the definition of what was read.
-fn write_unplaced(rt: &(impl Print + Eprint), input: &[u8], size: usize, out: &[u8], end: usize)
-    requires { Outgoing unplaced_output place_limit input.now size out.now end }
-{
-    write_text(rt, out, end);
+struct Unplacing;
+
+impl Program<ROOM, UNPLACED> for Unplacing {
+    ghost definition = { unplaced_output };
+
+    ghost largest = { place_limit };
+
+    fn put(store: &[u8], out: &mut [u8]) -> usize {
+        put_unplaced(store, out)
+    }
 }
 
 fn main(rt: HostRuntime) {
-    let mut input = [0u8; ROOM];
-    let Input::Whole(size) = read_input(&rt, &mut input) else {
-        return;
-    };
-    let mut out = [0u8; UNPLACED];
-    let end = put_unplaced(first_bytes(&input, size), &mut out);
-    write_unplaced(&rt, &input, size, &out, end);
+    run::<ROOM, UNPLACED, Unplacing>(&rt);
 }

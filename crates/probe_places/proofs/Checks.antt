@@ -1,14 +1,17 @@
 -- Which check refuses a place and a record. Assumes nothing.
-use mathlib.Core.Path.{◌≡◌, ◌∙◌}
-use mathlib.Core.Bool.{true, false}
+use mathlib.Core.Path.{◌≡◌, sym, ◌∙◌}
+use mathlib.Core.Bool.{Bool, true, false}
 use mathlib.Core.List.{List}
 use Prim.Native.Nat.{ℕ, ◌+◌, ◌≤◌, ◌<◌}
+use native.Mathlib.Omega.{arith}
+use lib.ListN.{length, get_or}
+use Rattle.std.specs.List.{HoldsAt, AllWithin}
+use Rattle.std.specs.Prelude.{MatchBool}
 use borrow.Author.Tests.{lt-ltb, le-ltb, eq-eqb, ne_eqb, ltb-false, eqb-true, not-false}
-use Rattle.laws.specs.Every.{below}
 use Rattle.laws.proofs.Tests.{below_at}
 use Rattle.laws.proofs.Checks.{none_met, no_number}
 use Rattle.laws.proofs.Search.{holds, is_true}
-use Rattle.laws.proofs.Below.{below_all, below_more, below_fails, below_upto}
+use Rattle.laws.proofs.Below.{below_all, below_fails}
 use Rattle.bcn_spec.specs.Answers.{done, bad_format, spare_byte, bad_place}
 use Rattle.probe_places.specs.declared.Place.{Place}
 use Rattle.probe_places.specs.Places.{face_count, no_face, byte_at, format_in, face_in, column_in, row_in, place_in, zero_byte, rest_zero, place_checks, place_refusal, place_record_checks, place_record_refusal}
@@ -43,18 +46,15 @@ module _ (store : List ℕ) (n : ℕ) where
       → record { face = face_in store n; column = column; row = row } ≡ place_in store n
   place_is e f = rw (e, f)
 
-  -- the six zero bytes, one more
-  pub rest_more : (k : ℕ) → below (zero_byte store n) k ≡ true → byte_at store n (10 + k) ≡ 0 → below (zero_byte store n) (k + 1) ≡ true
-  unfolding zero_byte
-  rest_more k h e = below_more (zero_byte store n) k h (eq-eqb _ _ e)
-
-  pub rest_fails : (k : ℕ) → k < 6 → (byte_at store n (10 + k) ≡ 0 → ⊥) → false ≡ rest_zero store n
+  -- what a look at the six bytes answers
+  pub rest_is : (bytes : List ℕ) (r : Bool) → length bytes ≡ 6 → ((k : ℕ) → k < 6 → get_or bytes k 0 ≡ byte_at store n (10 + k))
+      → MatchBool r (AllWithin (λ b. b ≡ 0) bytes 0 (length bytes)) ((k : ℕ) × (k < length bytes) × HoldsAt (λ b. b ≡ 0 → ⊥) bytes k) → r ≡ rest_zero store n
   unfolding zero_byte rest_zero
-  rest_fails k h e = below_fails (zero_byte store n) 6 k (ne_eqb _ _ e) h
-
-  pub rest_all : (k : ℕ) → k ≤ 6 → 6 ≤ k → below (zero_byte store n) k ≡ true → true ≡ rest_zero store n
-  unfolding rest_zero
-  rest_all k h l e = below_upto (zero_byte store n) 6 k e h l
+  rest_is bytes true len at h =
+      sym (is_true _ (below_all (zero_byte store n) 6 (λ k l. holds (eq-eqb _ _ (sym (at k l) ∙ h k 0 (omega arith) (omega arith))))))
+  rest_is bytes false len at h =
+      let l : h.0 < 6 = omega (arith, h.1) in
+      below_fails (zero_byte store n) 6 h.0 (ne_eqb _ _ (λ e. h.2 0 (at h.0 l ∙ e))) l
 
   pub bad_format_lem : 1 < format_in store n → bad_format ≡ place_record_refusal store n
   unfolding place_record_refusal

@@ -62,10 +62,6 @@ known_of {store} {n} e z = known store n (sym e ∙ z)
 
 -- ---- the record call
 
-pub tile_pairs : (store : List ℕ) (n : ℕ) → pair_at store n 0 + pair_at store n 2 * 0x10000 ≡ tile_in store n
-unfolding tile_in low_first
-tile_pairs store n = omega arith
-
 pub pair_read : (store : List ℕ) (n k : ℕ) → low_first store (n * place_size + k) 2 ≡ pair_at store n k
 pair_read store n k =
     sym (two_bytes store (n * place_size + k))

@@ -7,7 +7,7 @@ ghost use Rattle.probe_places.specs.Places.{place_size, place_head, place_limit,
 ghost use Rattle.probe_places.specs.Readings.{placed_refusal, placed_number, placed_part, PlacedRead};
 
 use bcn_spec::{Answer, Block};
-use raw_bytes::u16_at;
+use raw_bytes::{u16_at, u32_at};
 
 // Where a record stands: face 0 to 5, or 255 where it is not placed.
 #[derive(Clone, Copy)]
@@ -45,7 +45,7 @@ impl Place {
     }
 
     // Why the place is refused: a face that is none, or a position where there is no face.
-    fn refusal(self) -> u8
+    pub fn refusal(self) -> u8
         ensures { result ≡ place_refusal self }
     {
         if self.face < Place::FACES {
@@ -128,7 +128,7 @@ pub fn tile_at(store: &[u8], n: usize) -> u32
     requires { n < places_in store.now }
     ensures { result ≡ tile_in store.now n }
 {
-    (pair_at(store, n, 0) as u32) + (pair_at(store, n, 2) as u32) * 0x10000
+    u32_at(store, n * Place::SIZE)
 }
 
 // The place of record n.
@@ -149,12 +149,7 @@ fn rest_zero(store: &[u8], n: usize) -> bool
     ensures { result ≡ rest_zero store.now n }
 {
     let at = n * Place::SIZE;
-    for k in 0..6usize {
-        if store[at + (10 + k)] != 0 {
-            return false;
-        }
-    }
-    true
+    store[at + 10..at + Place::HEAD].iter().all(|b| *b == 0)
 }
 
 // Why record n is refused.

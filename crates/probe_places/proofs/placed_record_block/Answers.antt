@@ -1,18 +1,9 @@
-use borrow.Author.Rules.{rules}
 use native.Mathlib.Omega.{arith}
 use native.Mathlib.Nat.{add-sub_cancel_left}
 use mathlib.Core.Path.{sym, ◌∙◌}
 use Rattle.probe_places.specs.Places.{block_in}
 use Rattle.probe_places.proofs.Readings.{Known, known_of, part_of, empty_refused}
 use Rattle.probe_places.proofs.placed_record_block.Goals as goal
-
-pub placed_refusal-requires : goal.placed_refusal-requires
-unfolding block_in
-placed_refusal-requires c = search rules
-
-pub slice_bounds-result-end : goal.slice_bounds-result-end
-unfolding block_in
-slice_bounds-result-end c = search rules
 
 pub returns-then-placed_refusal-ne-DONE : goal.returns-then-placed_refusal-ne-DONE
 unfolding block_in
@@ -35,14 +26,6 @@ unfolding block_in
 overflow_add-end c =
     let found : Known c.args.store.now c.args.n = known_of c.placed_refusal.ensures c.if-placed_refusal-ne-DONE.false in
     let k = found in omega arith
-
-pub slice_bounds-result-count : goal.slice_bounds-result-count
-unfolding block_in
-slice_bounds-result-count c = search rules
-
-pub slice_bounds-result-start : goal.slice_bounds-result-start
-unfolding block_in
-slice_bounds-result-start c = search rules
 
 pub slice_bounds-result-end-2 : goal.slice_bounds-result-end-2
 unfolding block_in

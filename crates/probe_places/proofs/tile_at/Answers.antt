@@ -1,6 +1,7 @@
-use mathlib.Core.Path.{◌∙◌}
-use Rattle.probe_places.proofs.Readings.{tile_pairs}
+use borrow.Author.Rules.{rules}
+use Rattle.probe_places.specs.Places.{tile_in}
 use Rattle.probe_places.proofs.tile_at.Goals as goal
 
 pub returns : goal.returns
-returns c = (cc) ∙ tile_pairs _ _
+unfolding tile_in
+returns c = search rules

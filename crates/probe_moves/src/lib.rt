@@ -20,7 +20,7 @@ pub struct Moved {
 }
 
 impl Moved {
-    fn refused(fault: Fault) -> Moved
+    pub fn refused(fault: Fault) -> Moved
         ensures { result ≡ record { answer = fault.answer; records = 0; faulty = fault.faulty } }
     {
         Moved {
@@ -30,7 +30,7 @@ impl Moved {
         }
     }
 
-    fn done(records: usize) -> Moved
+    pub fn done(records: usize) -> Moved
         ensures { result ≡ moved_at 0 0 records }
     {
         Moved {

@@ -1,15 +1,16 @@
 -- What a place that is put changes: five bytes of its record, and no other byte. Assumes nothing.
 use mathlib.Core.Path.{◌≡◌, refl, sym, ◌∙◌, ap, ap₂}
-use mathlib.Core.List.{List, [], ◌∷◌, ◌++◌}
+use mathlib.Core.List.{List, [], ◌∷◌, ◌++◌, append_assoc}
 use mathlib.Core.Logic.{◌⊎◌, ⊎_elim, inl, inr}
-use Prim.Native.Nat.{ℕ, suc, ◌+◌, ◌*◌, ◌≤◌, ◌<◌}
+use Prim.Native.Nat.{ℕ, suc, ◌+◌, ◌-◌, ◌*◌, ◌≤◌, ◌<◌}
 use native.Mathlib.Omega.{arith}
 use lib.Dec.{ltb}
-use lib.ListN.{length, get_or, set, take, drop}
-use lib.Seq.{sets, paste, length-sets, take_all}
+use borrow.Rule.Slice.PartMut.{put_mid}
+use lib.ListN.{length, get_or, set, take, drop, length-set}
+use lib.Seq.{sets, length-sets, sets-eq, drop-drop}
 use borrow.Author.Tests.{ltb-true, ltb-false}
 use Rattle.laws.proofs.Tests.{cases}
-use Rattle.laws.proofs.Stores.{sets_left, sets_miss, sets_hit}
+use Rattle.laws.proofs.Stores.{sets_append, sets_left, sets_miss, sets_hit}
 use Rattle.bcn_spec.specs.Answers.{done}
 use Rattle.probe_places.specs.declared.Place.{Place}
 use Rattle.probe_places.specs.Places.{place_size, places_in, byte_at, format_in, column_in, row_in, place_in, place_refusal}
@@ -21,15 +22,29 @@ use Rattle.probe_moves.proofs.Calls.{answer_number, moved_front}
 use Rattle.probe_put.specs.Put.{place_bytes, put_store, PlacePut}
 use Rattle.probe_put.proofs.Checks.{Puttable, puttable, head_fine}
 
--- ---- five stores
+-- ---- five bytes
 
-pub five : (l : List ℕ) (n a b c d e : ℕ) → set (set (set (set (set l n a) (n + 1) b) (n + 2) c) (n + 3) d) (n + 4) e ≡ sets l n (a ∷ b ∷ c ∷ d ∷ e ∷ [])
-five l n a b c d e =
-    let e1 : n + 1 ≡ suc n = omega arith in
-    let e2 : n + 2 ≡ suc (suc n) = omega arith in
-    let e3 : n + 3 ≡ suc (suc (suc n)) = omega arith in
-    let e4 : n + 4 ≡ suc (suc (suc (suc n))) = omega arith in
-    rw (e1, e2, e3, e4)
+-- a list that is copied into its part
+sets_mid : (l w part : List ℕ) (at k : ℕ) → part ≡ w → k ≡ length w → at + length w ≤ length l → put_mid at k l part ≡ sets l at w
+sets_mid l w part at k same size h =
+    rw (same, size)
+    (ap (λ (t : List ℕ). take at l ++ (w ++ t)) (drop-drop (length w) at l)
+    ∙ sym (append_assoc (take at l) w (drop (at + length w) l))
+    ∙ sym (sets-eq w l at h))
+
+-- a byte, and two numbers of two bytes behind it
+pub five : (l xs ys : List ℕ) (n a b c d e : ℕ) → xs ≡ b ∷ c ∷ [] → ys ≡ d ∷ e ∷ [] → n + 5 ≤ length l
+    → put_mid (n + 3) (n + 5 - (n + 3)) (put_mid (n + 1) (n + 3 - (n + 1)) (set l n a) xs) ys ≡ sets l n (a ∷ b ∷ c ∷ d ∷ e ∷ [])
+five l xs ys n a b c d e p q h =
+    let one : List ℕ = set l n a in
+    let long : length one ≡ length l = length-set l n a in
+    let first = sets_mid one (b ∷ c ∷ []) xs (n + 1) (n + 3 - (n + 1)) p (omega arith) (omega arith) in
+    let kept : length (sets one (n + 1) (b ∷ c ∷ [])) ≡ length one = length-sets one (n + 1) (b ∷ c ∷ []) in
+    let next : n + 1 ≡ suc n = omega arith in
+    ap (λ (t : List ℕ). put_mid (n + 3) (n + 5 - (n + 3)) t ys) first
+    ∙ sets_mid (sets one (n + 1) (b ∷ c ∷ [])) (d ∷ e ∷ []) ys (n + 3) (n + 5 - (n + 3)) q (omega arith) (omega arith)
+    ∙ sets_append (b ∷ c ∷ []) (d ∷ e ∷ []) one (n + 1) (n + 3) (omega arith)
+    ∙ ap (λ (i : ℕ). sets one i (b ∷ c ∷ d ∷ e ∷ [])) next
 
 -- ---- the store
 
@@ -38,13 +53,11 @@ unfolding put_store
 put_length store n p = length-sets store (n * place_size + 5) (place_bytes p)
 
 -- the copy, with the place in it
-pub put_copied : (store lent copied after : List ℕ) (n : ℕ) (p : Place) → n < places_in store → copied ≡ paste lent 0 (drop 0 store) (length store)
-    → after ≡ sets copied (n * place_size + 5) (place_bytes p) → after ≡ put_store store n p ++ drop (length store) lent
+pub put_copied : (store lent part after : List ℕ) (n : ℕ) (p : Place) → n < places_in store → part ≡ store
+    → after ≡ sets (part ++ drop (length store) lent) (n * place_size + 5) (place_bytes p) → after ≡ put_store store n p ++ drop (length store) lent
 unfolding put_store
-put_copied store lent copied after n p h c e =
-    let z : 0 + length store ≡ length store = omega arith in
-    let all : copied ≡ store ++ drop (length store) lent = c ∙ ap₂ (λ (s : List ℕ) (k : ℕ). s ++ drop k lent) (take_all (length store) store (omega arith)) z in
-    e ∙ ap (λ (t : List ℕ). sets t (n * place_size + 5) (place_bytes p)) all ∙ sets_left (place_bytes p) store (drop (length store) lent) (n * place_size + 5) (omega arith)
+put_copied store lent part after n p h c e =
+    e ∙ rw c (sets_left (place_bytes p) store (drop (length store) lent) (n * place_size + 5) (omega arith))
 
 -- every byte but the five of the place is the store's
 pub others_stay : (store : List ℕ) (n : ℕ) (p : Place) (j : ℕ) → (j < n * place_size + 5) ⊎ (n * place_size + 10 ≤ j) → get_or (put_store store n p) j 0 ≡ get_or store j 0

@@ -3,32 +3,12 @@
 
 ghost use Rattle.std.specs.Prelude.{◌≡◌, ◌+◌, ◌*◌, ◌≤◌, ◌<◌, length};
 ghost use Rattle.std.proofs.lemmas.List.Edits.{sets};
-ghost use Rattle.probe_places.specs.Places.{place_size, places_in, place_refusal, most_places};
+ghost use Rattle.probe_places.specs.Places.{place_size, places_in, most_places};
 ghost use Rattle.probe_put.specs.Put.{place_bytes, own_refusal, putting_fault, PlacePut};
 
 use bcn_spec::Answer;
 use probe_moves::Moved;
 use probe_places::{Fault, Place, place_record_refusal};
-use raw_bytes::copy_part;
-
-// Why a place is refused: a face that is none, or a position where there is no face.
-fn place_refusal(place: Place) -> u8
-    ensures { result ≡ place_refusal place }
-{
-    if place.face < Place::FACES {
-        return Answer::DONE;
-    }
-    if place.face != Place::NONE {
-        return Answer::BAD_PLACE;
-    }
-    if place.column != 0 {
-        return Answer::BAD_PLACE;
-    }
-    if place.row != 0 {
-        return Answer::BAD_PLACE;
-    }
-    Answer::DONE
-}
 
 // Why record n cannot have a place: its format or its spare bytes. The place that it has does not matter.
 fn head_refusal(store: &[u8], n: usize) -> u8
@@ -65,7 +45,7 @@ fn putting_fault(store: &[u8], n: usize, place: Place, room: usize) -> Fault
             faulty: n,
         };
     }
-    Fault::alone(place_refusal(place))
+    Fault::alone(place.refusal())
 }
 
 // The five bytes of a place, in record n.
@@ -75,10 +55,8 @@ fn store_place(face: u8, column: u16, row: u16, out: &mut [u8], n: usize)
 {
     let at = n * Place::SIZE + 5;
     out[at] = face;
-    out[at + 1] = (column % 256) as u8;
-    out[at + 2] = (column / 256 % 256) as u8;
-    out[at + 3] = (row % 256) as u8;
-    out[at + 4] = (row / 256 % 256) as u8;
+    out[at + 1..at + 3].copy_from_slice(&column.to_le_bytes());
+    out[at + 3..at + 5].copy_from_slice(&row.to_le_bytes());
 }
 
 // The store with the place of record n set, in `out`: every other byte is the store's.
@@ -88,17 +66,9 @@ pub fn put_place(store: &[u8], n: usize, face: u8, column: u16, row: u16, out: &
     let place = Place { face, column, row };
     let fault = putting_fault(store, n, place, out.len());
     if fault.answer != Answer::DONE {
-        return Moved {
-            answer: fault.answer,
-            records: 0,
-            faulty: fault.faulty,
-        };
+        return Moved::refused(fault);
     }
-    copy_part(store, 0, store.len(), out, 0);
+    out[..store.len()].copy_from_slice(store);
     store_place(face, column, row, out, n);
-    Moved {
-        answer: Answer::DONE,
-        records: store.len() / Place::SIZE,
-        faulty: 0,
-    }
+    Moved::done(store.len() / Place::SIZE)
 }

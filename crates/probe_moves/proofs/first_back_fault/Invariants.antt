@@ -7,6 +7,3 @@ use Rattle.probe_moves.proofs.first_back_fault.Given as goal
 
 abbrev pub invariant-loop-n : goal.invariant-loop-n
 invariant-loop-n l = (l.n ≤ l.count) × (first_below (is_faulty (back_refusal l.store)) l.n ≡ l.n)
-
-abbrev pub decreases-loop-n : goal.decreases-loop-n
-decreases-loop-n l = l.count - l.n

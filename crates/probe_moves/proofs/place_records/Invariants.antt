@@ -8,6 +8,3 @@ use Rattle.probe_moves.proofs.place_records.Given as goal
 
 abbrev pub invariant-loop-j : goal.invariant-loop-j
 invariant-loop-j l = (l.j ≤ l.size) × (l.out ≡ made (placed_at l.old) l.j ++ drop l.j l.initial.out) × (length l.out ≡ length l.initial.out)
-
-abbrev pub decreases-loop-j : goal.decreases-loop-j
-decreases-loop-j l = l.size - l.j

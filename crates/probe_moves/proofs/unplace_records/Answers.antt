@@ -6,36 +6,12 @@ use Rattle.probe_moves.specs.Moves.{old_store}
 use borrow.Author.Rules.{rules}
 use Rattle.probe_moves.proofs.unplace_records.Goals as goal
 
-pub overflow_mul-size : goal.overflow_mul-size
-unfolding old_store
-overflow_mul-size c = search rules
-
 pub loop-j-init : goal.loop-j-init
 unfolding old_store
 loop-j-init c = (search rules, made_none _ _, refl)
 
-pub old_byte-requires : goal.old_byte-requires
-unfolding old_store
-old_byte-requires c = search rules
-
-pub bounds-out-j : goal.bounds-out-j
-unfolding old_store
-bounds-out-j c = search rules
-
-pub overflow_step-j : goal.overflow_step-j
-unfolding old_store
-overflow_step-j c = search rules
-
-pub loop-j-smaller : goal.loop-j-smaller
-unfolding old_store
-loop-j-smaller c = search rules
-
 pub loop-j-preserved : goal.loop-j-preserved
 loop-j-preserved c = let i = c.loop-j.invariant in (search rules, made_store _ _ _ _ _ _ i.1 refl c.old_byte.ensures (search rules), simp length-set i.2)
-
-pub shape_of-out : goal.shape_of-out
-unfolding old_store
-shape_of-out c = search rules
 
 pub returns : goal.returns
 unfolding old_store

@@ -4,37 +4,17 @@ use Rattle.probe_moves.proofs.Checks.{long, uneven, short, enough}
 use borrow.Author.Rules.{rules}
 use Rattle.probe_moves.proofs.unplacing_fault.Goals as goal
 
-pub alone-requires : goal.alone-requires
-unfolding unplacing_fault
-alone-requires c = search rules
-
 pub returns-then-store-gt-STORE : goal.returns-then-store-gt-STORE
 unfolding unplacing_fault
 returns-then-store-gt-STORE c = whole_refuses 4 _ (long _ _ _ _ _ (search rules)) c.alone.ensures
-
-pub alone-requires-then-store-ne0 : goal.alone-requires-then-store-ne0
-unfolding unplacing_fault
-alone-requires-then-store-ne0 c = search rules
 
 pub returns-then-store-ne0 : goal.returns-then-store-ne0
 unfolding unplacing_fault
 returns-then-store-ne0 c = whole_refuses 5 _ (uneven _ _ _ _ _ (search rules) (search rules)) c.alone-then-store-ne0.ensures
 
-pub overflow_mul-store : goal.overflow_mul-store
-unfolding unplacing_fault
-overflow_mul-store c = search rules
-
-pub alone-requires-then-room-store : goal.alone-requires-then-room-store
-unfolding unplacing_fault
-alone-requires-then-room-store c = search rules
-
 pub returns-then-room-store : goal.returns-then-room-store
 unfolding unplacing_fault
 returns-then-room-store c = whole_refuses 2 _ (short _ _ _ _ _ (search rules) (search rules) (search rules)) c.alone-then-room-store.ensures
-
-pub first_back_fault-requires : goal.first_back_fault-requires
-unfolding unplacing_fault
-first_back_fault-requires c = search rules
 
 pub returns : goal.returns
 unfolding unplacing_fault

@@ -1,7 +1,8 @@
 -- `probe_put::put_place` meets its contract. Assumes nothing.
-use mathlib.Core.Path.{refl}
+use mathlib.Core.Path.{sym}
 use native.Mathlib.Omega.{arith}
 use lib.ListN.{length}
+use lib.Seq.{length-take-le}
 use Rattle.probe_places.specs.declared.Place.{Place}
 use Rattle.probe_moves.proofs.Moving.{moved_refused, moved_done}
 use Rattle.probe_put.proofs.Checks.{puttable}
@@ -9,12 +10,18 @@ use Rattle.probe_put.proofs.Putting.{put_length, put_copied}
 use Rattle.probe_put.proofs.put_place.Goals as goal
 
 pub returns-then-fault-ne-DONE : goal.returns-then-fault-ne-DONE
-returns-then-fault-ne-DONE c = moved_refused _ _ _ c.putting_fault-fault.ensures c.if-fault-ne-DONE.true refl
+returns-then-fault-ne-DONE c = moved_refused _ _ _ c.putting_fault-fault.ensures c.if-fault-ne-DONE.true c.refused.ensures
 
-pub copy_part-requires : goal.copy_part-requires
-copy_part-requires c =
-    let k = puttable _ _ _ _ c.putting_fault-fault.ensures c.if-fault-ne-DONE.false in
-    record { size_in_bounds = omega arith; size_in_bounds_2 = omega (arith, k.enough_room) }
+pub slice_bounds-copy_from_slice-end : goal.slice_bounds-copy_from_slice-end
+slice_bounds-copy_from_slice-end c = (puttable _ _ _ _ c.putting_fault-fault.ensures c.if-fault-ne-DONE.false).enough_room
+
+pub slice_bounds-copy_from_slice-end-2 : goal.slice_bounds-copy_from_slice-end-2
+slice_bounds-copy_from_slice-end-2 c =
+    sym (length-take-le _ c.args.out.now (puttable _ _ _ _ c.putting_fault-fault.ensures c.if-fault-ne-DONE.false).enough_room)
+
+pub copy_from_slice-requires : goal.copy_from_slice-requires
+copy_from_slice-requires c =
+    length-take-le _ c.args.out.now (puttable _ _ _ _ c.putting_fault-fault.ensures c.if-fault-ne-DONE.false).enough_room
 
 pub store_place-requires : goal.store_place-requires
 store_place-requires c =
@@ -28,5 +35,5 @@ returns c =
     let e = c.putting_fault-fault.ensures in
     let z = c.if-fault-ne-DONE.false in
     let k = puttable s.store.now s.n p _ e z in
-    moved_done _ _ _ e (length s.store.now) z refl (put_length s.store.now s.n p)
-    (put_copied s.store.now s.out.now _ _ s.n p k.inside c.copy_part.ensures c.store_place.ensures)
+    moved_done _ _ _ e (length s.store.now) z c.done.ensures (put_length s.store.now s.n p)
+    (put_copied s.store.now s.out.now _ _ s.n p k.inside c.copy_from_slice.ensures.after c.store_place.ensures)

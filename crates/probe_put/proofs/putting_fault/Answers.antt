@@ -19,4 +19,4 @@ pub returns-then-refusal-ne-DONE : goal.returns-then-refusal-ne-DONE
 returns-then-refusal-ne-DONE c = put_head _ _ _ _ (search rules) (search rules) (search rules) (search rules) c.head_refusal-refusal.ensures c.if-refusal-ne-DONE.true
 
 pub returns : goal.returns
-returns c = put_place _ _ _ _ (search rules) (search rules) (search rules) (search rules) c.head_refusal-refusal.ensures c.if-refusal-ne-DONE.false c.place_refusal.ensures c.alone-2.ensures
+returns c = put_place _ _ _ _ (search rules) (search rules) (search rules) (search rules) c.head_refusal-refusal.ensures c.if-refusal-ne-DONE.false c.refusal.ensures c.alone-2.ensures

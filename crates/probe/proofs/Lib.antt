@@ -6,3 +6,4 @@ pub mod Counting
 pub mod Asking
 pub mod Telling
 pub mod Orders
+pub mod Ranges

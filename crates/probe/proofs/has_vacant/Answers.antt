@@ -1,18 +1,10 @@
-use Prim.Native.Nat.{◌-◌}
-use mathlib.Core.Path.{sym, ◌∙◌}
-use mathlib.Core.Bool.{false}
-use Rattle.laws.proofs.Search.{some_none, some_more, some_here, some_upto}
-use borrow.Author.Rules.{rules}
+use Rattle.std.proofs.Common.{◌≡◌, true, false, refl, rules, tests}
+use Rattle.std.proofs.lemmas.Iterator.{cases_from_any, YieldsList-from_range}
+use Rattle.probe.specs.Held.{vacant}
+use Rattle.probe.proofs.Ranges.{some_of}
 use Rattle.probe.proofs.has_vacant.Goals as goal
 
-pub loop-k-init : goal.loop-k-init
-loop-k-init c = (search rules, some_none _)
-
-pub returns-then-is_vacant : goal.returns-then-is_vacant
-returns-then-is_vacant c = some_here _ _ _ (sym c.is_vacant.ensures ∙ c.if-is_vacant.true) (search rules)
-
-pub loop-k-preserved : goal.loop-k-preserved
-loop-k-preserved c = (search rules, some_more _ _ c.loop-k.invariant.1 (sym c.is_vacant.ensures ∙ c.if-is_vacant.false))
-
 pub returns : goal.returns
-returns c = some_upto _ _ _ c.loop-k.invariant.1 (search rules) (search rules)
+returns c =
+    let test = vacant c.args.holders.now c.args.edge in
+    some_of test 1536 _ (cases_from_any _ _ _ (λ k. test k ≡ true) (λ k. test k ≡ false) c.any.ensures.ran (YieldsList-from_range 0 1536 1536 refl refl) (λ x q k. search (rules, tests)) (λ x q k. search (rules, tests)))

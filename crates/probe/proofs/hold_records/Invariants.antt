@@ -8,6 +8,3 @@ use Rattle.probe.proofs.hold_records.Given as goal
 
 abbrev pub invariant-loop-n : goal.invariant-loop-n
 invariant-loop-n l = (l.n ≤ l.count) × (first_below (is_faulty (probe_refusal l.store l.edge)) l.n ≡ l.n) × Held l.store l.n l.holders
-
-abbrev pub decreases-loop-n : goal.decreases-loop-n
-decreases-loop-n l = l.count - l.n

@@ -1,11 +1,14 @@
 -- The values of a strip are those of four rows of the face. Assumes nothing.
 use mathlib.Core.Path.{◌≡◌, ◌∙◌, refl, sym, ap}
 use mathlib.Core.List.{List, [], ◌++◌, append-nil}
-use Prim.Native.Nat.{ℕ, zero, suc, ◌+◌, ◌*◌, ◌/◌, ◌%◌, ◌<◌}
+use Prim.Native.Nat.{ℕ, zero, suc, ◌+◌, ◌-◌, ◌*◌, ◌/◌, ◌%◌, ◌≤◌, ◌<◌}
 use native.Mathlib.Omega.{arith}
-use lib.ListN.{length, get_or, drop}
+use lib.ListN.{length, get_or, take, drop, length-drop}
+use Rattle.std.specs.List.{between}
+use Rattle.std.proofs.lemmas.List.{get_or-drop}
+use Rattle.laws.proofs.Taken.{made_taken}
 use Rattle.laws.specs.Made.{made, join}
-use Rattle.laws.proofs.Rows.{length_made, get_d_made, made-same, made_each}
+use Rattle.laws.proofs.Rows.{length_made, get_d_made, made-cong, made-same, made_each}
 use Rattle.probe.specs.Probe.{place_of, record_for, shown_in, triple_of, triple_at, triple_for}
 use Rattle.probe.specs.Held.{RecordOf}
 use Rattle.probe.proofs.Asking.{shown_length}
@@ -34,9 +37,15 @@ four_length store edge face row =
 
 -- ---- a strip's row is copied piece by piece
 
-pub piece_value_lem : (strip : List ℕ) (from x : ℕ) → get_or strip (from + x) 0 ≡ piece_value strip from x
+pub piece_copied : (strip part : List ℕ) (from : ℕ) → from + 12 ≤ length strip → part ≡ between from (from + 12) strip → part ≡ made (piece_value strip from) 12
 unfolding piece_value
-piece_value_lem strip from x = refl
+piece_copied strip part from h e =
+    let size : from + 12 - from ≡ 12 = omega arith in
+    let long : 12 ≤ length (drop from strip) = simp length-drop (omega arith) in
+    e
+    ∙ ap (λ (n : ℕ). take n (drop from strip)) size
+    ∙ sym (made_taken (drop from strip) 12 long)
+    ∙ made-cong (λ k. get_or (drop from strip) k 0) (λ x. get_or strip (from + x) 0) (λ k. get_or-drop from strip k 0) 12
 
 pub piece_is : (strip out : List ℕ) {part : List ℕ} (column k : ℕ) → part ≡ made (piece_value strip (48 * column + 12 * k)) 12 ++ drop 12 out → part ≡ strip_piece strip k column ++ drop 12 out
 unfolding strip_piece

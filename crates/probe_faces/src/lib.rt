@@ -43,9 +43,7 @@ fn copy_piece(strip: &[u16], from: usize, out: &mut [u16])
     requires { (from + 12 ≤ length strip.now) × (12 ≤ length out.old) }
     ensures { out.new ≡ made (piece_value strip.now from) 12 ++ drop 12 out.old }
 {
-    for x in 0..12usize {
-        out[x] = strip[from + x];
-    }
+    out[..12].copy_from_slice(&strip[from..from + 12]);
 }
 
 // Row k of the pixels in a strip: row k of each of its blocks, copied whole.

@@ -7,8 +7,6 @@ use lib.Dec.{eqb, ltb}
 use lib.ListN.{length, get_or, take, drop}
 use lib.Seq.{take_at, drop_at}
 use borrow.Author.Tests.{lt-ltb, le-ltb, ne_eqb, ltb-false, eqb-true, eqb-false}
-use Rattle.laws.specs.Made.{made}
-use Rattle.laws.proofs.Rows.{made_each}
 use Rattle.laws.proofs.Tests.{cases}
 use Rattle.bcn_spec.specs.Answers.{done, short_output}
 use Rattle.probe_places.specs.declared.Fault.{Fault}
@@ -25,11 +23,6 @@ entry_of holders k = get_or holders k 0
 pub entry_is : (holders : List ℕ) (k : ℕ) → get_or holders k 0 ≡ entry_of holders k
 unfolding entry_of
 entry_is holders k = refl
-
-pub all_copied : (holders lent after : List ℕ) → length holders ≡ place_count → after ≡ made (entry_of holders) place_count ++ drop place_count lent
-    → after ≡ holders ++ drop place_count lent
-all_copied holders lent after e w =
-    w ∙ ap (λ (l : List ℕ). l ++ drop place_count lent) (sym (made_each (entry_of holders) holders place_count e (λ k h. entry_is holders k)))
 
 -- ---- the statement, at each return
 

@@ -1,7 +1,7 @@
 // A probe that is opened once: a table of its records by place, and its pixels by that table.
 #![tactic(auto)]
 
-ghost use Rattle.std.specs.Prelude.{◌≡◌, ◌++◌, ◌/◌, ◌<◌, ◌≤◌, length, drop};
+ghost use Rattle.std.specs.Prelude.{◌≡◌, ◌/◌, ◌<◌, ◌≤◌, length};
 ghost use Rattle.probe_places.specs.Places.{face_count};
 ghost use Rattle.probe.specs.Probe.{edge_limit, place_count};
 ghost use Rattle.probe_open.specs.Open.{Opened, holder_refusal, holder_at, TablePixel};
@@ -9,16 +9,6 @@ ghost use Rattle.probe_open.specs.Open.{Opened, holder_refusal, holder_at, Table
 use bcn_spec::Answer;
 use probe::{ProbePixel, check_places, number_at, question_refusal, triple_at};
 use probe_places::{Fault, Place};
-use raw_bytes::u16_to_usize;
-
-fn copy_table(holders: &[u16], table: &mut [u16])
-    requires { (length holders.now ≡ place_count) × (place_count ≤ length table.old) }
-    ensures { table.new ≡ holders.now ++ drop place_count table.old }
-{
-    for k in 0..ProbePixel::PLACES {
-        table[k] = holders[k];
-    }
-}
 
 // Whether a store is a probe of the edge; then the table has each place's record, plus 1.
 pub fn probe_open(store: &[u8], edge: usize, table: &mut [u16]) -> Fault
@@ -32,7 +22,7 @@ pub fn probe_open(store: &[u8], edge: usize, table: &mut [u16]) -> Fault
     if table.len() < ProbePixel::PLACES {
         return Fault::alone(Answer::SHORT_OUTPUT);
     }
-    copy_table(&holders, table);
+    table[..ProbePixel::PLACES].copy_from_slice(&holders);
     Fault::none()
 }
 
@@ -57,7 +47,7 @@ fn holder_at(table: &[u16], edge: usize, face: usize, x: usize, y: usize) -> usi
     requires { (place_count ≤ length table.now) × (edge ≤ edge_limit) × (face < face_count) × (x / 4 < edge) × (y / 4 < edge) }
     ensures { result ≡ holder_at table.now face x y }
 {
-    u16_to_usize(table[number_at(face, x / 4, y / 4)])
+    usize::from(table[number_at(face, x / 4, y / 4)])
 }
 
 // The pixel of a probe by face, x and y, where `table` is what opening it left.

@@ -8,6 +8,3 @@ use Rattle.probe_faces.proofs.hold_strip.Given as goal
 
 abbrev pub invariant-loop-column : goal.invariant-loop-column
 invariant-loop-column l = (l.column ≤ l.edge) × (l.strip ≡ join (made (strip_block l.store l.face l.row) l.column) ++ drop (48 * l.column) l.initial.strip) × (length l.strip ≡ length l.initial.strip)
-
-abbrev pub decreases-loop-column : goal.decreases-loop-column
-decreases-loop-column l = l.edge - l.column

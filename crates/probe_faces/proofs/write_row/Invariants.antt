@@ -9,6 +9,3 @@ use Rattle.probe_faces.proofs.write_row.Given as goal
 
 abbrev pub invariant-loop-column : goal.invariant-loop-column
 invariant-loop-column l = (l.column ≤ l.edge) × (l.out ≡ join (made (strip_piece l.strip l.k) l.column) ++ drop (12 * l.column) l.initial.out) × (length l.out ≡ length l.initial.out)
-
-abbrev pub decreases-loop-column : goal.decreases-loop-column
-decreases-loop-column l = l.edge - l.column

@@ -8,6 +8,3 @@ use Rattle.probe_faces.proofs.write_strip.Given as goal
 
 abbrev pub invariant-loop-k : goal.invariant-loop-k
 invariant-loop-k l = (l.k ≤ 4) × (l.out ≡ join (made (strip_row l.strip l.edge) l.k) ++ drop (12 * l.edge * l.k) l.initial.out) × (length l.out ≡ length l.initial.out)
-
-abbrev pub decreases-loop-k : goal.decreases-loop-k
-decreases-loop-k l = 4 - l.k

@@ -9,4 +9,4 @@ pub number_at-requires : goal.number_at-requires
 number_at-requires c = (search rules, search rules, search rules)
 
 pub returns : goal.returns
-returns c = c.u16_to_usize.ensures.0 ∙ ap (λ (k : ℕ). get_or c.args.table.now k 0) c.number_at.ensures.0
+returns c = c.from.ensures ∙ ap (λ (k : ℕ). get_or c.args.table.now k 0) c.number_at.ensures.0

@@ -1,8 +1,12 @@
 -- The bytes of a record. Assumes nothing.
-use Rattle.std.proofs.Common.{◌≡◌, ℕ, zero, suc, ◌+◌, ◌-◌, ◌*◌, ◌/◌, ◌%◌, ◌<◌, ◌≤◌, List, [], ◌∷◌, ◌++◌, length, get_or, drop, sym, refl, ap, ◌∙◌, ap₂, arith, length-append, get_or-append-add}
+use Rattle.std.proofs.Common.{◌≡◌, ℕ, zero, suc, ◌+◌, ◌-◌, ◌*◌, ◌/◌, ◌%◌, ◌<◌, ◌≤◌, List, [], ◌∷◌, ◌++◌, length, get_or, take, drop, sym, refl, ap, ◌∙◌, ap₂, arith, length-append, length-drop, append_assoc, get_or-append-add}
 use lib.ListN.{get_or-append}
-use Rattle.laws.specs.Made.{made}
-use Rattle.laws.proofs.Rows.{length_made, get_d_made, made_each}
+use borrow.Rule.Slice.PartMut.{put_mid}
+use lib.Seq.{take_at, drop_at, drop-drop}
+use Rattle.std.specs.List.{between}
+use Rattle.std.proofs.lemmas.List.{get_or-drop}
+use Rattle.laws.proofs.Rows.{length_made, get_d_made, made-cong}
+use Rattle.laws.proofs.Taken.{made_taken}
 use Rattle.bcn_spec.specs.Bits.{block_size}
 use Rattle.probe_places.specs.declared.Place.{Place}
 use Rattle.probe_places.specs.Places.{place_size}
@@ -20,17 +24,10 @@ zeros_are (suc (suc (suc (suc zero)))) = refl
 zeros_are (suc (suc (suc (suc (suc zero))))) = refl
 zeros_are (suc (suc (suc (suc (suc (suc i)))))) = refl
 
-up : (k m : ℕ) → m ≤ k → (k ≡ m → ⊥) → m + 1 ≤ k
-up k m h n = omega (arith, n)
-
 module _ (tile format : ℕ) (p : Place) where
   pub head_length : length (record_head tile format p) ≡ 16
   unfolding record_head
   head_length = refl
-
-  -- byte k of the head, by its number
-  pub head_at : {k : ℕ} (m : ℕ) {r : ℕ} → k ≡ m → r ≡ get_or (record_head tile format p) m 0 → r ≡ get_or (record_head tile format p) k 0
-  head_at m e h = rw e h
 
   abbrev front : List ℕ
   front =
@@ -42,10 +39,6 @@ module _ (tile format : ℕ) (p : Place) where
   head_zero k h =
       let e : 10 + (k - 10) ≡ k = omega arith in
       sym (ap (λ (i : ℕ). get_or (front ++ zeros) i 0) (sym e) ∙ get_or-append-add front zeros (k - 10) 0 ∙ zeros_are (k - 10))
-
-  pub head_rest : (k : ℕ) → (k ≡ 0 → ⊥) → (k ≡ 1 → ⊥) → (k ≡ 2 → ⊥) → (k ≡ 3 → ⊥) → (k ≡ 4 → ⊥) → (k ≡ 5 → ⊥) → (k ≡ 6 → ⊥) → (k ≡ 7 → ⊥) → (k ≡ 8 → ⊥) → (k ≡ 9 → ⊥)
-      → 0 ≡ get_or (record_head tile format p) k 0
-  head_rest k n0 n1 n2 n3 n4 n5 n6 n7 n8 n9 = head_zero k (up k 9 (up k 8 (up k 7 (up k 6 (up k 5 (up k 4 (up k 3 (up k 2 (up k 1 (up k 0 (omega arith) n0) n1) n2) n3) n4) n5) n6) n7) n8) n9)
 
 module _ (blocks : List ℕ) (n tile format : ℕ) (p : Place) where
   pub record_length : length (record_with blocks n tile format p) ≡ place_size
@@ -68,14 +61,26 @@ module _ (blocks : List ℕ) (n tile format : ℕ) (p : Place) where
       ∙ get_or-append-add (record_head tile format p) (bytes_of_block blocks n) (k - 16) 0
       ∙ get_d_made (block_byte blocks n) block_size (k - 16) 0 (omega arith))
 
-  -- byte by byte
-  unfoldable pub record_byte : ℕ → ℕ
-  record_byte k = get_or (record_with blocks n tile format p) k 0
+  block_copied : (part : List ℕ) → block_size * n + block_size ≤ length blocks → part ≡ between (block_size * n) (block_size * n + block_size) blocks
+      → part ≡ bytes_of_block blocks n
+  unfolding block_byte
+  block_copied part h e =
+      let size : block_size * n + block_size - block_size * n ≡ block_size = omega arith in
+      let long : block_size ≤ length (drop (block_size * n) blocks) = simp length-drop (omega arith) in
+      e
+      ∙ ap (λ (i : ℕ). take i (drop (block_size * n) blocks)) size
+      ∙ sym (made_taken (drop (block_size * n) blocks) block_size long)
+      ∙ made-cong (λ k. get_or (drop (block_size * n) blocks) k 0) (λ k. get_or blocks (block_size * n + k) 0) (λ k. get_or-drop (block_size * n) blocks k 0) block_size
 
-  pub record_made : record_with blocks n tile format p ≡ made record_byte place_size
-  unfolding record_byte
-  record_made = made_each record_byte (record_with blocks n tile format p) place_size record_length (λ k h. refl)
-
-  pub record_written : (lent : List ℕ) {after : List ℕ} → after ≡ made record_byte place_size ++ drop place_size lent
-      → after ≡ record_with blocks n tile format p ++ drop place_size lent
-  record_written lent e = rw record_made e
+  -- the head is copied, and then the block
+  pub record_written : (lent head part : List ℕ) → head ≡ record_head tile format p → block_size * n + block_size ≤ length blocks
+      → part ≡ between (block_size * n) (block_size * n + block_size) blocks
+      → put_mid 16 (place_size - 16) (head ++ drop 16 lent) part ≡ record_with blocks n tile format p ++ drop place_size lent
+  unfolding record_with
+  record_written lent head part h room e =
+      let long : length head ≡ 16 = ap length h ∙ head_length tile format p in
+      ap (λ (t : List ℕ). t ++ (part ++ drop 16 (drop 16 (head ++ drop 16 lent)))) (take_at head (drop 16 lent) 16 long)
+      ∙ ap (λ (t : List ℕ). head ++ (part ++ drop 16 t)) (drop_at head (drop 16 lent) 16 long)
+      ∙ ap (λ (t : List ℕ). head ++ (part ++ t)) (drop-drop 16 16 lent)
+      ∙ sym (append_assoc head part (drop 32 lent))
+      ∙ rw (h, block_copied part room e)

@@ -1,7 +1,7 @@
 // A probe built of the blocks of its six faces, and the edge of a probe by its store's length.
 #![tactic(auto)]
 
-ghost use Rattle.std.specs.Prelude.{◌≡◌, ◌+◌, ◌*◌, ◌%◌, ◌<◌, ◌≤◌, ◌++◌, length, drop, slice_index};
+ghost use Rattle.std.specs.Prelude.{◌≡◌, ◌+◌, ◌*◌, ◌<◌, ◌≤◌, ◌++◌, length, drop};
 ghost use Rattle.bcn_spec.specs.Bits.{block_size};
 ghost use Rattle.probe_places.specs.Places.{place_size};
 ghost use Rattle.probe.specs.Probe.{edge_limit, place_count};
@@ -66,47 +66,17 @@ fn tile_of(first: u32, n: usize) -> u32
     std::num::wrapping_add_u32(first, n as u32)
 }
 
-// The lowest byte of a number.
-fn low(value: u32) -> u8
-    ensures { result ≡ value % 0x100 }
+// The bytes of a record before its block.
+fn record_head(tile: u32, format: u8, place: Place) -> [u8; 16]
+    ensures { result ≡ record_head tile format place }
 {
-    (value % 0x100) as u8
-}
-
-fn low_of_pair(value: u16) -> u8
-    ensures { result ≡ value % 0x100 }
-{
-    (value % 0x100) as u8
-}
-
-// Byte k of a record's head.
-fn head_byte(tile: u32, format: u8, place: Place, k: usize) -> u8
-    ensures { result ≡ slice_index (record_head tile format place) k }
-{
-    match k {
-        0 => low(tile),
-        1 => low(tile / 0x100),
-        2 => low(tile / 0x10000),
-        3 => low(tile / 0x1000000),
-        4 => format,
-        5 => place.face,
-        6 => low_of_pair(place.column),
-        7 => low_of_pair(place.column / 0x100),
-        8 => low_of_pair(place.row),
-        9 => low_of_pair(place.row / 0x100),
-        _ => 0,
-    }
-}
-
-// Byte k of a record.
-fn record_byte(blocks: &[u8], n: usize, tile: u32, format: u8, place: Place, k: usize) -> u8
-    requires { (n < place_count) × (block_size * n + block_size ≤ length blocks.now) × (k < place_size) }
-    ensures { result ≡ slice_index (record_with blocks.now n tile format place) k }
-{
-    if k < Place::HEAD {
-        return head_byte(tile, format, place, k);
-    }
-    blocks[Block::SIZE * n + (k - Place::HEAD)]
+    let tile = tile.to_le_bytes();
+    let column = place.column.to_le_bytes();
+    let row = place.row.to_le_bytes();
+    [
+        tile[0], tile[1], tile[2], tile[3], format, place.face, column[0], column[1], row[0],
+        row[1], 0, 0, 0, 0, 0, 0,
+    ]
 }
 
 // A record into the first 32 bytes of `out`.
@@ -114,9 +84,9 @@ fn write_record(blocks: &[u8], n: usize, tile: u32, format: u8, place: Place, ou
     requires { (n < place_count) × (block_size * n + block_size ≤ length blocks.now) × (place_size ≤ length out.old) }
     ensures { out.new ≡ record_with blocks.now n tile format place ++ drop place_size out.old }
 {
-    for k in 0..Place::SIZE {
-        out[k] = record_byte(blocks, n, tile, format, place, k);
-    }
+    let at = Block::SIZE * n;
+    out[..Place::HEAD].copy_from_slice(&record_head(tile, format, place));
+    out[Place::HEAD..Place::SIZE].copy_from_slice(&blocks[at..at + Block::SIZE]);
 }
 
 // All records.

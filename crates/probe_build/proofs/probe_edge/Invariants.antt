@@ -6,6 +6,3 @@ use Rattle.probe_build.proofs.probe_edge.Given as goal
 
 abbrev pub invariant-loop-k : goal.invariant-loop-k
 invariant-loop-k l = (l.k ≤ edge_limit) × (first_below (is_edge (length l.store)) l.k ≡ l.k)
-
-abbrev pub decreases-loop-k : goal.decreases-loop-k
-decreases-loop-k l = edge_limit - l.k

@@ -6,6 +6,3 @@ use Rattle.probe_build.proofs.write_records.Given as goal
 
 abbrev pub invariant-loop-n : goal.invariant-loop-n
 invariant-loop-n l = (l.n ≤ l.count) × (l.out ≡ join (made (built_record l.blocks l.format l.edge l.first) l.n) ++ drop (place_size * l.n) l.initial.out) × (length l.out ≡ length l.initial.out)
-
-abbrev pub decreases-loop-n : goal.decreases-loop-n
-decreases-loop-n l = l.count - l.n

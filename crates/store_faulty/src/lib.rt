@@ -1,7 +1,7 @@
-// Which records of a store are faulty, and why: refused by the record call, or damaged. For both forms of a record, told by one byte.
+// Which records of a store are faulty, and why: refused by the record call, or damaged. For both forms of a record.
 #![tactic(auto)]
 
-ghost use Rattle.std.specs.Prelude.{◌≡◌, ◌≤◌, ◌<◌, length};
+ghost use Rattle.std.specs.Prelude.{◌≡◌, ℕ, ◌≤◌, ◌<◌, length};
 ghost use Rattle.laws.specs.Pick.{pick};
 ghost use Rattle.bcn_spec.specs.Answers.{done};
 ghost use Rattle.bc6h_spec.specs.Fields.{mode_of};
@@ -18,107 +18,139 @@ pub const PLAIN: u8 = 24;
 
 pub const PLACED: u8 = 32;
 
-fn record_size(form: u8) -> usize
-    ensures { result ≡ (form_of form).size }
-{
-    if form == PLACED {
-        return Place::SIZE;
-    }
-    Record::SIZE
+// A form of a record: what the code does where the forms differ.
+pub trait Form {
+    // The byte that tells the form.
+    ghost byte: { ℕ };
+
+    // The bytes of a record.
+    fn size() -> usize
+        ensures { result ≡ (form_of byte).size };
+
+    // The most bytes of a store.
+    fn limit() -> usize
+        ensures { result ≡ (form_of byte).limit };
+
+    // The tile number of record n, refused or not.
+    fn tile(store: &[u8], n: usize) -> u32
+        requires { n < count_in (form_of byte) store.now }
+        ensures { result ≡ (form_of byte).tile store.now n };
+
+    // Why the record call refuses record n.
+    fn refusal(store: &[u8], n: usize) -> u8
+        ensures { result ≡ (form_of byte).refusal store.now n };
+
+    // The block of record n, which is not refused.
+    fn block(store: &[u8], n: usize) -> &[u8]
+        requires { (form_of byte).refusal store.now n ≡ done }
+        ensures { result.now ≡ (form_of byte).block store.now n };
 }
 
-fn store_limit(form: u8) -> usize
-    ensures { result ≡ (form_of form).limit }
-{
-    if form == PLACED {
-        return Place::STORE;
+// Records of 24 bytes.
+pub struct Plain;
+
+impl Form for Plain {
+    ghost byte = { 24 };
+
+    fn size() -> usize {
+        Record::SIZE
     }
-    Record::STORE
+
+    fn limit() -> usize {
+        Record::STORE
+    }
+
+    fn tile(store: &[u8], n: usize) -> u32 {
+        store_records::tile_at(store, n)
+    }
+
+    fn refusal(store: &[u8], n: usize) -> u8 {
+        record_at(store, n).number()
+    }
+
+    fn block(store: &[u8], n: usize) -> &[u8] {
+        record_block(store, n)
+    }
 }
 
-pub fn record_count(form: u8, store: &[u8]) -> usize
-    ensures { result ≡ count_in (form_of form) store.now }
+// Records with a place.
+pub struct Placed;
+
+impl Form for Placed {
+    ghost byte = { 32 };
+
+    fn size() -> usize {
+        Place::SIZE
+    }
+
+    fn limit() -> usize {
+        Place::STORE
+    }
+
+    fn tile(store: &[u8], n: usize) -> u32 {
+        probe_places::tile_at(store, n)
+    }
+
+    fn refusal(store: &[u8], n: usize) -> u8 {
+        placed_record_at(store, n).number()
+    }
+
+    fn block(store: &[u8], n: usize) -> &[u8] {
+        placed_record_block(store, n)
+    }
+}
+
+pub fn record_count<F: Form>(store: &[u8]) -> usize
+    ensures { result ≡ count_in (form_of F.byte) store.now }
 {
-    store.len() / record_size(form)
+    store.len() / F::size()
 }
 
 // Why a store is refused whole.
-pub fn store_refusal(form: u8, store: &[u8]) -> u8
-    ensures { result ≡ store_refusal (form_of form) (length store.now) }
+pub fn store_refusal<F: Form>(store: &[u8]) -> u8
+    ensures { result ≡ store_refusal (form_of F.byte) (length store.now) }
 {
-    if store.len() > store_limit(form) {
+    if store.len() > F::limit() {
         return Answer::LONG_STORE;
     }
-    if store.len() % record_size(form) != 0 {
+    if store.len() % F::size() != 0 {
         return Answer::UNEVEN_STORE;
     }
     Answer::DONE
 }
 
-// The tile number of record n, refused or not.
-pub fn tile_of(form: u8, store: &[u8], n: usize) -> u32
-    requires { n < count_in (form_of form) store.now }
-    ensures { result ≡ (form_of form).tile store.now n }
+fn is_refused<F: Form>(store: &[u8], n: usize) -> bool
+    ensures { result ≡ is_refused (form_of F.byte) store.now n }
 {
-    if form == PLACED {
-        return probe_places::tile_at(store, n);
-    }
-    store_records::tile_at(store, n)
-}
-
-// Why the record call refuses record n.
-fn record_refusal(form: u8, store: &[u8], n: usize) -> u8
-    ensures { result ≡ (form_of form).refusal store.now n }
-{
-    if form == PLACED {
-        return placed_record_at(store, n).number();
-    }
-    record_at(store, n).number()
-}
-
-fn is_refused(form: u8, store: &[u8], n: usize) -> bool
-    ensures { result ≡ is_refused (form_of form) store.now n }
-{
-    record_refusal(form, store, n) != Answer::DONE
-}
-
-// The block of record n, which is not refused.
-fn block_of(form: u8, store: &[u8], n: usize) -> &[u8]
-    requires { (form_of form).refusal store.now n ≡ done }
-    ensures { result.now ≡ (form_of form).block store.now n }
-{
-    if form == PLACED {
-        return placed_record_block(store, n);
-    }
-    record_block(store, n)
+    F::refusal(store, n) != Answer::DONE
 }
 
 // The mode of record n, which is not refused.
-pub fn mode_of(form: u8, store: &[u8], n: usize) -> usize
-    requires { (form_of form).refusal store.now n ≡ done }
-    ensures { result ≡ mode_of ((form_of form).block store.now n) }
+pub fn mode_of<F: Form>(store: &[u8], n: usize) -> usize
+    requires { (form_of F.byte).refusal store.now n ≡ done }
+    ensures { result ≡ mode_of ((form_of F.byte).block store.now n) }
 {
-    extract_mode(BitStream::new(block_of(form, store, n)))
+    extract_mode(BitStream::new(F::block(store, n)))
 }
 
 // Record n is not refused and has a reserved mode.
-fn is_damaged(form: u8, store: &[u8], n: usize) -> bool
-    ensures { result ≡ is_damaged (form_of form) store.now n }
+fn is_damaged<F: Form>(store: &[u8], n: usize) -> bool
+    ensures { result ≡ is_damaged (form_of F.byte) store.now n }
 {
-    if record_refusal(form, store, n) != Answer::DONE {
+    if F::refusal(store, n) != Answer::DONE {
         return false;
     }
-    mode_of(form, store, n) == 0
+    mode_of::<F>(store, n) == 0
 }
 
 // Why record n is faulty; 0 where it is sound.
-pub fn cause_of(form: u8, store: &[u8], n: usize) -> u8
-    ensures { result ≡ cause_of (form_of form) store.now n }
+pub fn cause_of<F: Form>(store: &[u8], n: usize) -> u8
+    ensures { result ≡ cause_of (form_of F.byte) store.now n }
 {
-    if is_damaged(form, store, n) {
+    if is_damaged::<F>(store, n) {
         return Answer::RESERVED_BLOCK;
     }
-    record_refusal(form, store, n)
+    F::refusal(store, n)
 }
 
 pub fn one_if(test: bool) -> usize
@@ -134,15 +166,25 @@ pub struct FaultCounts {
     pub damaged: usize,
 }
 
-pub fn count_faults(form: u8, store: &[u8]) -> FaultCounts
-    ensures { result ≡ counts_of (form_of form) store.now }
+pub fn faults_in<F: Form>(store: &[u8]) -> FaultCounts
+    ensures { result ≡ counts_of (form_of F.byte) store.now }
 {
-    let count = record_count(form, store);
+    let count = record_count::<F>(store);
     let mut refused: usize = 0;
     let mut damaged: usize = 0;
     for n in 0..count {
-        refused += one_if(is_refused(form, store, n));
-        damaged += one_if(is_damaged(form, store, n));
+        refused += one_if(is_refused::<F>(store, n));
+        damaged += one_if(is_damaged::<F>(store, n));
     }
     FaultCounts { refused, damaged }
+}
+
+// The same of the form that a byte tells.
+pub fn count_faults(form: u8, store: &[u8]) -> FaultCounts
+    ensures { result ≡ counts_of (form_of form) store.now }
+{
+    if form == PLACED {
+        return faults_in::<Placed>(store);
+    }
+    faults_in::<Plain>(store)
 }

@@ -12,7 +12,9 @@ use Rattle.text.proofs.Texts.{then, said}
 use Rattle.text.proofs.Lines as lines
 use Rattle.store_faulty.specs.declared.FaultCounts.{FaultCounts}
 use Rattle.store_faulty.specs.Faulty.{RecordForm, form_of, count_in, store_refusal, cause_of, counts_of}
-use Rattle.text_check.specs.Checking.{fault_line, check_line, check_lines, counts_line, checking_text, checking_of}
+use Rattle.probe_places.specs.Places.{place_size}
+use Rattle.store_faulty.proofs.Forms.{is_plain}
+use Rattle.text_check.specs.Checking.{text_at, fault_line, check_line, check_lines, counts_line, checking_text, checking_of}
 
 module _ (form : RecordForm) (store : List ℕ) where
   pub line : {l m₁ m₂ m₃ m₄ : List ℕ} {at e₁ e₂ e₃ e₄ tile : ℕ} (n cause : ℕ) → tile ≡ form.tile store n → Written l at (field n) e₁ m₁
@@ -52,3 +54,12 @@ no_input (x ∷ xs) e = absurd (omega arith)
 pub rest_input : (input : List ℕ) → checking_text (get_or input 0 0) (take (length input - 1) (drop 1 input)) ≡ checking_of input
 unfolding checking_of
 rest_input input = ap (checking_text (get_or input 0 0)) (take_all (length input - 1) (drop 1 input) (simp length-drop (omega arith)))
+
+-- a byte that stands for 24-byte records, as 24 does
+pub plain_text : (byte : ℕ) (store : List ℕ) → (byte ≡ place_size → ⊥) → checking_text 24 store ≡ checking_text byte store
+unfolding checking_text
+plain_text byte store o =
+    ap (λ (f : RecordForm). text_at (store_refusal f (length store)) f store) (is_plain 24 (λ e. omega arith) ∙ sym (is_plain byte o))
+
+pub placed_text : (byte : ℕ) (store : List ℕ) → byte ≡ place_size → checking_text place_size store ≡ checking_text byte store
+placed_text byte store e = rw e

@@ -10,7 +10,9 @@ ghost use Rattle.text_check.specs.Checking.{fault_line, check_lines, counts_line
 
 use bcn_spec::Answer;
 use probe_places::Place;
-use store_faulty::{FaultCounts, cause_of, count_faults, record_count, store_refusal, tile_of};
+use store_faulty::{
+    FaultCounts, Form, PLACED, Placed, Plain, cause_of, faults_in, record_count, store_refusal,
+};
 use store_records::Record;
 use text::{put, put_count, put_decimal, put_field, put_refusal};
 
@@ -23,32 +25,32 @@ pub const ROOM: usize = (Record::STORE / Record::SIZE + 1) * LINE;
 pub const INPUT: usize = 1 + Place::STORE + 1;
 
 // The line of record n.
-fn put_fault(text: &mut [u8], at: usize, form: u8, store: &[u8], n: usize, cause: u8) -> usize
+fn put_fault<F: Form>(text: &mut [u8], at: usize, store: &[u8], n: usize, cause: u8) -> usize
     requires at_in_bounds { at + 128 ≤ length text.old }
-    requires n_bound { n < count_in (form_of form) store.now }
+    requires n_bound { n < count_in (form_of F.byte) store.now }
     ensures upper_bound { result ≤ at + 128 }
-    ensures written { Written text.old at (fault_line (form_of form) store.now n cause) result text.new }
+    ensures written { Written text.old at (fault_line (form_of F.byte) store.now n cause) result text.new }
 {
     let mut end = put_field(text, at, n as u64);
-    end = put_field(text, end, tile_of(form, store, n) as u64);
+    end = put_field(text, end, F::tile(store, n) as u64);
     end = put_decimal(text, end, cause as u64);
     put(text, end, b"\n")
 }
 
 // A line for each faulty record.
-fn put_faults(text: &mut [u8], form: u8, store: &[u8]) -> usize
-    requires { count_in (form_of form) store.now * 128 ≤ length text.old }
-    ensures upper_bound { result ≤ count_in (form_of form) store.now * 128 }
-    ensures written { Written text.old 0 (check_lines (form_of form) store.now (count_in (form_of form) store.now)) result text.new }
+fn put_faults<F: Form>(text: &mut [u8], store: &[u8]) -> usize
+    requires { count_in (form_of F.byte) store.now * 128 ≤ length text.old }
+    ensures upper_bound { result ≤ count_in (form_of F.byte) store.now * 128 }
+    ensures written { Written text.old 0 (check_lines (form_of F.byte) store.now (count_in (form_of F.byte) store.now)) result text.new }
 {
-    let count = record_count(form, store);
+    let count = record_count::<F>(store);
     let mut end: usize = 0;
     for n in 0..count {
-        let cause = cause_of(form, store, n);
+        let cause = cause_of::<F>(store, n);
         if cause == Answer::DONE {
             continue;
         }
-        end = put_fault(text, end, form, store, n, cause);
+        end = put_fault::<F>(text, end, store, n, cause);
     }
     end
 }
@@ -65,18 +67,18 @@ fn put_counts(text: &mut [u8], at: usize, records: usize, counts: FaultCounts) -
 }
 
 // What there is to say of a store, at the start of `text`; answers how many bytes it has.
-fn put_checking(text: &mut [u8], form: u8, store: &[u8]) -> usize
+fn put_checking<F: Form>(text: &mut [u8], store: &[u8]) -> usize
     requires { (most_records + 1) * 128 ≤ length text.old }
     ensures upper_bound { result ≤ length text.new }
-    ensures written { Written text.old 0 (checking_text form store.now) result text.new }
+    ensures written { Written text.old 0 (checking_text F.byte store.now) result text.new }
 {
-    let refusal = store_refusal(form, store);
+    let refusal = store_refusal::<F>(store);
     if refusal != Answer::DONE {
         return put_refusal(text, 0, refusal);
     }
-    let end = put_faults(text, form, store);
-    let counts = count_faults(form, store);
-    put_counts(text, end, record_count(form, store), counts)
+    let end = put_faults::<F>(text, store);
+    let counts = faults_in::<F>(store);
+    put_counts(text, end, record_count::<F>(store), counts)
 }
 
 // The same of an input: its first byte is the form, the others are the store.
@@ -86,7 +88,10 @@ pub fn put_input(text: &mut [u8], input: &[u8]) -> usize
     ensures written { Written text.old 0 (checking_of input.now) result text.new }
 {
     if input.len() == 0 {
-        return put_checking(text, store_faulty::PLAIN, input);
+        return put_checking::<Plain>(text, input);
     }
-    put_checking(text, input[0], &input[1..])
+    if input[0] == PLACED {
+        return put_checking::<Placed>(text, &input[1..]);
+    }
+    put_checking::<Plain>(text, &input[1..])
 }

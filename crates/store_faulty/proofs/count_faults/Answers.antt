@@ -1,19 +1,9 @@
-use Prim.Native.Nat.{◌-◌}
-use Rattle.store_faulty.proofs.Forms.{none_counted, one_counted, all_counted}
-use borrow.Author.Rules.{rules}
+use native.Mathlib.Omega.{arith}
+use Rattle.store_faulty.proofs.Forms.{is_plain}
 use Rattle.store_faulty.proofs.count_faults.Goals as goal
 
-pub loop-n-init : goal.loop-n-init
-loop-n-init c = (search rules, none_counted _ _)
-
-pub overflow_add-refused : goal.overflow_add-refused
-overflow_add-refused c = let few = c.loop-n.invariant.1.few in search rules
-
-pub overflow_add-damaged : goal.overflow_add-damaged
-overflow_add-damaged c = let few = c.loop-n.invariant.1.few in search rules
-
-pub loop-n-preserved : goal.loop-n-preserved
-loop-n-preserved c = (search rules, one_counted _ _ c.loop-n.invariant.1 c.is_refused.ensures (c.one_if-refused.ensures.upper_bound, c.one_if-refused.ensures.value) c.is_damaged.ensures (c.one_if-damaged.ensures.upper_bound, c.one_if-damaged.ensures.value))
+pub returns-then-form-eq-PLACED : goal.returns-then-form-eq-PLACED
+returns-then-form-eq-PLACED c = rw c.if-form-eq-PLACED.true c.faults_in.ensures
 
 pub returns : goal.returns
-returns c = all_counted _ _ (search rules) (search rules) c.loop-n.invariant.1
+returns c = rw (is_plain _ c.if-form-eq-PLACED.false) (rw (is_plain 24 (λ e. omega arith)) at c.faults_in-2.ensures)

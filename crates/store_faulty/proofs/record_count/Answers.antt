@@ -3,7 +3,7 @@ use Rattle.store_faulty.proofs.Forms.{size_some}
 use Rattle.store_faulty.proofs.record_count.Goals as goal
 
 pub nonzero_div-result : goal.nonzero_div-result
-nonzero_div-result c = omega (arith, size_some c.args.form)
+nonzero_div-result g c = omega (arith, size_some g.F.Form.byte)
 
 pub returns : goal.returns
-returns c = rw c.record_size.ensures
+returns g c = rw c.size.ensures

@@ -13,7 +13,7 @@ ghost use Rattle.text_places_audit.specs.Audit.{where_of, copy_line, copy_lines,
 use bcn_spec::{Answer, Block};
 use probe_places::{Place, PlacedReading, place_at, placed_record_at, placed_record_block};
 use raw_bytes::same_bytes;
-use store_faulty::{FaultCounts, PLACED, count_faults, mode_of, store_refusal};
+use store_faulty::{FaultCounts, Placed, faults_in, mode_of, store_refusal};
 use text::{put, put_count, put_refusal};
 use text_audit::put_faults;
 use text_places::{put_number, put_place};
@@ -39,7 +39,7 @@ fn is_repeat(store: &[u8], n: usize, earlier: usize) -> bool
     if again.format != first.format {
         return false;
     }
-    if mode_of(PLACED, store, n) == 0 {
+    if mode_of::<Placed>(store, n) == 0 {
         return false;
     }
     same_bytes(
@@ -114,7 +114,7 @@ fn put_copies(text: &mut [u8], at: usize, store: &[u8]) -> usize
         end = put_copy(text, end, store, n, first);
         copies += 1;
     }
-    let faults = count_faults(PLACED, store);
+    let faults = faults_in::<Placed>(store);
     put_tally(text, end, faults, copies)
 }
 
@@ -124,7 +124,7 @@ pub fn put_places_audit(text: &mut [u8], store: &[u8]) -> usize
     ensures upper_bound { result ≤ length text.new }
     ensures written { Written text.old 0 (audit_of store.now) result text.new }
 {
-    let refusal = store_refusal(PLACED, store);
+    let refusal = store_refusal::<Placed>(store);
     if refusal != Answer::DONE {
         return put_refusal(text, 0, refusal);
     }

@@ -6,14 +6,8 @@ use Rattle.text_places.proofs.count_places.Goals as goal
 pub loop-n-init : goal.loop-n-init
 loop-n-init c = (search rules, none_sorted _)
 
-pub overflow_add-placed : goal.overflow_add-placed
-overflow_add-placed c = let few = c.loop-n.invariant.1.few in search rules
-
-pub overflow_add-unplaced : goal.overflow_add-unplaced
-overflow_add-unplaced c = let few = c.loop-n.invariant.1.few in search rules
-
 pub loop-n-preserved : goal.loop-n-preserved
 loop-n-preserved c = (search rules, one_sorted _ c.loop-n.invariant.1 c.is_placed.ensures (c.one_if-placed.ensures.upper_bound, c.one_if-placed.ensures.value) c.is_unplaced.ensures (c.one_if-unplaced.ensures.upper_bound, c.one_if-unplaced.ensures.value))
 
 pub returns : goal.returns
-returns c = all_sorted _ (search rules) (search rules) c.loop-n.invariant.1 c.count_faults-bad.ensures
+returns c = all_sorted _ (search rules) (search rules) c.loop-n.invariant.1 c.faults_in-bad.ensures

@@ -4,6 +4,3 @@ use Rattle.text_places.proofs.count_places.Given as goal
 
 abbrev pub invariant-loop-n : goal.invariant-loop-n
 invariant-loop-n l = (l.n ≤ l.count) × Sorted l.store l.n l.placed l.unplaced
-
-abbrev pub decreases-loop-n : goal.decreases-loop-n
-decreases-loop-n l = l.count - l.n

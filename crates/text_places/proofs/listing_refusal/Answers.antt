@@ -8,8 +8,8 @@ returns-then-refusal-ne-DONE c = whole.store_refused c.args.store.now c.args.str
 pub returns-then-not-strict : goal.returns-then-not-strict
 returns-then-not-strict c = whole.lenient c.args.store.now c.args.strict (sym c.store_refusal-refusal.ensures ∙ c.if-refusal-ne-DONE.false) (c.if-not-strict.true)
 
-pub returns-then-count_faults-gt0 : goal.returns-then-count_faults-gt0
-returns-then-count_faults-gt0 c = whole.damaged c.args.store.now c.args.strict (sym c.store_refusal-refusal.ensures ∙ c.if-refusal-ne-DONE.false) (c.if-not-strict.false) c.count_faults.ensures c.if-count_faults-gt0.true
+pub returns-then-faults_in-gt0 : goal.returns-then-faults_in-gt0
+returns-then-faults_in-gt0 c = whole.damaged c.args.store.now c.args.strict (sym c.store_refusal-refusal.ensures ∙ c.if-refusal-ne-DONE.false) (c.if-not-strict.false) c.faults_in.ensures c.if-faults_in-gt0.true
 
 pub returns : goal.returns
-returns c = whole.sound c.args.store.now c.args.strict (sym c.store_refusal-refusal.ensures ∙ c.if-refusal-ne-DONE.false) (c.if-not-strict.false) c.count_faults.ensures c.if-count_faults-gt0.false
+returns c = whole.sound c.args.store.now c.args.strict (sym c.store_refusal-refusal.ensures ∙ c.if-refusal-ne-DONE.false) (c.if-not-strict.false) c.faults_in.ensures c.if-faults_in-gt0.false

@@ -7,6 +7,3 @@ use Rattle.text_places_audit.proofs.first_of.Given as goal
 
 abbrev pub invariant-loop-earlier : goal.invariant-loop-earlier
 invariant-loop-earlier l = (l.earlier ≤ l.n) × (first_below (repeats_in placed_form l.store l.n) l.earlier ≡ l.earlier)
-
-abbrev pub decreases-loop-earlier : goal.decreases-loop-earlier
-decreases-loop-earlier l = l.n - l.earlier

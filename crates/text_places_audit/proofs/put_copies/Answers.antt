@@ -17,9 +17,6 @@ loop-n-preserved-then-first-n c =
     let f = c.first_of-first.ensures.value in
     (search rules, search rules, search rules, lines.tally_skipped store l.n _ f c.if-first-n.true l.invariant.3, lines.line_skipped store l.n _ f c.if-first-n.true l.invariant.4)
 
-pub overflow_add-copies : goal.overflow_add-copies
-overflow_add-copies c = let few = c.loop-n.invariant.3.few in search rules
-
 pub loop-n-preserved : goal.loop-n-preserved
 loop-n-preserved c =
     let l = c.loop-n in
@@ -31,4 +28,4 @@ pub returns : goal.returns
 returns c =
     let l = c.loop-n in
     let store = c.args.store.now in
-    record { upper_bound = search rules; written = lines.tallied store l.n (places_in store) (search rules) (search rules) l.invariant.3 c.count_faults-faults.ensures l.invariant.4 c.put_tally.ensures.written }
+    record { upper_bound = search rules; written = lines.tallied store l.n (places_in store) (search rules) (search rules) l.invariant.3 c.faults_in-faults.ensures l.invariant.4 c.put_tally.ensures.written }

@@ -3,24 +3,22 @@
 
 ghost use Rattle.store_records.specs.Store.{store_limit};
 ghost use Rattle.text_audit.specs.Audit.{audit_of};
-ghost use Rattle.run_streams.specs.Output.{Outgoing};
 
-use run_streams::{Input, STORE_INPUT, first_bytes, read_input, write_text};
-use text_audit::put_audit;
+use run_streams::{Program, STORE_INPUT, run};
+use text_audit::{ROOM, put_audit};
 
-// What goes out is the definition of what was read.
-fn write_audit(rt: &(impl Print + Eprint), input: &[u8], size: usize, text: &[u8], end: usize)
-    requires { Outgoing audit_of store_limit input.now size text.now end }
-{
-    write_text(rt, text, end);
+struct Audit;
+
+impl Program<STORE_INPUT, ROOM> for Audit {
+    ghost definition = { audit_of };
+
+    ghost largest = { store_limit };
+
+    fn put(input: &[u8], text: &mut [u8]) -> usize {
+        put_audit(text, input)
+    }
 }
 
 fn main(rt: HostRuntime) {
-    let mut input = [0u8; STORE_INPUT];
-    let Input::Whole(size) = read_input(&rt, &mut input) else {
-        return;
-    };
-    let mut text = [0u8; text_audit::ROOM];
-    let end = put_audit(&mut text, first_bytes(&input, size));
-    write_audit(&rt, &input, size, &text, end);
+    run::<STORE_INPUT, ROOM, Audit>(&rt);
 }

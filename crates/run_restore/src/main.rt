@@ -3,24 +3,22 @@
 #![tactic(auto)]
 
 ghost use Rattle.text_restore.specs.Restoring.{longest_input, restoring_output};
-ghost use Rattle.run_streams.specs.Output.{Outgoing};
 
-use run_streams::{Input, first_bytes, read_input, write_text};
-use text_restore::put_restoring;
+use run_streams::{Program, run};
+use text_restore::{INPUT, OUTPUT, put_restoring};
 
-// What goes out is the definition of what was read.
-fn write_restoring(rt: &(impl Print + Eprint), input: &[u8], size: usize, out: &[u8], end: usize)
-    requires { Outgoing restoring_output longest_input input.now size out.now end }
-{
-    write_text(rt, out, end);
+struct Restoring;
+
+impl Program<INPUT, OUTPUT> for Restoring {
+    ghost definition = { restoring_output };
+
+    ghost largest = { longest_input };
+
+    fn put(input: &[u8], out: &mut [u8]) -> usize {
+        put_restoring(out, input)
+    }
 }
 
 fn main(rt: HostRuntime) {
-    let mut input = [0u8; text_restore::INPUT];
-    let Input::Whole(size) = read_input(&rt, &mut input) else {
-        return;
-    };
-    let mut out = [0u8; text_restore::OUTPUT];
-    let end = put_restoring(&mut out, first_bytes(&input, size));
-    write_restoring(&rt, &input, size, &out, end);
+    run::<INPUT, OUTPUT, Restoring>(&rt);
 }

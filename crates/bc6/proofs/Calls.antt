@@ -2,6 +2,7 @@
 use mathlib.Core.Path.{◌≡◌, refl, sym, ap, ◌∙◌}
 use mathlib.Core.List.{List, ◌++◌}
 use Prim.Native.Nat.{ℕ, zero, suc, ◌≤◌, ◌<◌}
+use native.Mathlib.Omega.{arith}
 use lib.ListN.{length, drop}
 use borrow.Author.Tests.{lt-ltb, le-ltb, eq-eqb, ne_eqb}
 use Rattle.bcn_spec.specs.Answers.{done, bad_format, block_not_16, short_output}
@@ -10,8 +11,12 @@ use Rattle.bc6h_spec.specs.Fields.{mode_of}
 use Rattle.bc6h_spec.specs.Picture.{value_count, is_signed}
 use Rattle.bc6h_spec.specs.Block.{pixels_of, infinities_of}
 use Rattle.bc6_paint.specs.Values.{PaintedAs}
-use Rattle.bc6.specs.declared.Pixels.{Pixels}
-use Rattle.bc6.specs.Call.{refusal_of, answer_at, Painted}
+use Rattle.bcn_spec.specs.declared.Refusal.{Refusal}
+use Rattle.std.specs.Prelude.{Result, Ok, Err}
+use Rattle.bcn_spec.specs.Refusals.{refusal_number, answer_of}
+use Rattle.bcn_spec.proofs.Refusals.{positive}
+use Rattle.bc6.specs.declared.Shown.{Shown}
+use Rattle.bc6.specs.Call.{Pixels, told, refusal_of, answer_at, Painted}
 
 -- ---- the checks
 
@@ -57,6 +62,9 @@ module _ {block : List ℕ} {format : ℕ} {out : List ℕ} {r : Pixels} {after 
   pub written : refusal_of format (length block) (length out) ≡ done → after ≡ pixels_of (is_signed format) block ++ drop value_count out
   written z = rw z at p.holds
 
+  pub never_refused : refusal_of format (length block) (length out) ≡ done → (why : Refusal) → r.answer ≡ refusal_number why → ⊥
+  never_refused z why e = let n : refusal_number why ≡ 0 = sym e ∙ answered ∙ z in omega (arith, positive why)
+
   -- where a check is met, nothing is counted and nothing is written
   pub none_told : {n : ℕ} → refusal_of format (length block) (length out) ≡ suc n → r.infinite ≡ 0
   none_told z = ap (λ (x : Pixels). x.infinite) p.answers ∙ rw z refl
@@ -87,3 +95,8 @@ module _ (block : List ℕ) (format : ℕ) (out : List ℕ) where
   painted_done m n after h s l em p =
       let ok = done_when format (length block) (length out) h s l in
       record { answers = rw ok (λ i. record { answer = done; mode = em i; infinite = p.counts i }); holds = rw ok p.holds }
+
+-- the number that a result stands for
+pub told_answer : (r : Result Shown Refusal) → (told r).answer ≡ answer_of r
+told_answer (Ok shown) = refl
+told_answer (Err why) = refl

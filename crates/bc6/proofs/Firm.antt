@@ -18,7 +18,7 @@ use Rattle.bc6h_spec.specs.Half.{sign_extend, keep, transform, unquantize_u, unq
 use Rattle.bc6h_spec.specs.Picture.{first_end, delta, other_end, endpoint, between, palette, value, picture_as, picture, value_count}
 use Rattle.bc6h_spec.specs.Block.{pixels_of}
 use Rattle.bc6h_spec.specs.Named.{B3, B5}
-use Rattle.bc6.specs.declared.Pixels.{Pixels}
+use Rattle.bc6.specs.Call.{Pixels}
 use Rattle.bc6.specs.Call.{refusal_of, Painted}
 use Rattle.bc6.proofs.Calls.{done_when, answered}
 use Rattle.bc6.proofs.Values.{wrote}

@@ -21,7 +21,7 @@ use Rattle.bc6h_spec.proofs.Formats.{number_le}
 use Rattle.bc6h_spec.proofs.Reading.{fields_valid}
 use Rattle.bc6h_spec.proofs.Highest.{exactly, exception}
 use Rattle.bc6h_spec.proofs.Shown.{region_lt, mixed_in, value_unsigned, value_signed, value_not}
-use Rattle.bc6.specs.declared.Pixels.{Pixels}
+use Rattle.bc6.specs.Call.{Pixels}
 use Rattle.bc6.specs.Call.{refusal_of, Painted}
 use Rattle.bc6.specs.Numbers.{interpolated_at, lowest}
 use Rattle.bc6h_spec.proofs.Pixel.{pixels_none}

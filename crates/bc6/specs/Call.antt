@@ -1,12 +1,25 @@
 -- S-31: what `block_pixels` answers, and what the lent values then are. Assumes nothing.
-use Rattle.std.specs.Prelude.{◌≡◌, not, List, [], ◌∷◌, ◌++◌, ℕ, zero, suc, eqb, ltb, length, drop}
+use Rattle.std.specs.Prelude.{◌≡◌, not, List, [], ◌∷◌, ◌++◌, ℕ, zero, suc, eqb, ltb, length, drop, Result, Ok, Err}
 use Rattle.laws.specs.Checks.{first_met, ifDone}
 use Rattle.bcn_spec.specs.Answers.{done, bad_format, block_not_16, short_output}
 use Rattle.bcn_spec.specs.Bits.{block_size}
 use Rattle.bc6h_spec.specs.Fields.{mode_of}
 use Rattle.bc6h_spec.specs.Picture.{value_count, is_signed}
 use Rattle.bc6h_spec.specs.Block.{pixels_of, infinities_of}
-use Rattle.bc6.specs.declared.Pixels.{Pixels}
+use Rattle.bc6.specs.declared.Shown.{Shown}
+use Rattle.bcn_spec.specs.declared.Refusal.{Refusal}
+use Rattle.bcn_spec.specs.Refusals.{refusal_number}
+
+-- S-31: what the call answers
+pub record Pixels : Type 0 where
+  pub answer : ℕ
+  pub mode : ℕ
+  pub infinite : ℕ
+
+-- what a result stands for
+abbrev pub told : Result Shown Refusal → Pixels
+told (Ok shown) = record { answer = done; mode = shown.mode; infinite = shown.infinite }
+told (Err refusal) = record { answer = refusal_number refusal; mode = 0; infinite = 0 }
 
 -- S-31: 1, 2, 3: the first check that is met, from the format, the block's length and the room.
 unfoldable pub refusal_of : ℕ → ℕ → ℕ → ℕ

@@ -11,13 +11,13 @@ ghost use Rattle.bc6h_spec.specs.Picture.{picture_as};
 ghost use Rattle.bc6h_spec.specs.Block.{format_number};
 ghost use Rattle.bc6_paint.specs.Values.{PaintedAs};
 ghost use Rattle.bc6.specs.Shown.{Picked, OnePicked, shown_of};
-ghost use Rattle.bc6.specs.Call.{Painted};
+ghost use Rattle.bc6.specs.Call.{Painted, told};
 
 use bc6_half::Half;
 use bc6_mode::extract_mode;
 use bc6h_spec::Picture;
 use bcn_data::Subset2Map;
-use bcn_spec::{Answer, Block};
+use bcn_spec::{Block, Refusal};
 use bcn_util::{BitStream, Indexes};
 
 // What a block of two regions says of its pixels: the map of the regions, and sixteen indices of three bits.
@@ -86,45 +86,28 @@ pub fn show(mode: u8, lo: u64, hi: u64, signed: bool, out: &mut [u16]) -> u16
     show_as::<false>(lo, hi, out)
 }
 
-// What the pixels call answers.
-#[derive(Clone, Copy)]
-pub struct Pixels {
-    pub answer: u8,
+// What the pixels call tells of a block: its mode, 0 for a reserved one, and how many of its values are minus infinity.
+#[derive(Clone, Copy, Debug, PartialEq, Eq)]
+pub struct Shown {
     pub mode: u8,
     pub infinite: u16,
 }
 
-impl Pixels {
-    fn refused(answer: u8) -> Self
-        ensures { result ≡ record { answer = answer; mode = 0; infinite = 0 } }
-    {
-        Self {
-            answer,
-            mode: 0,
-            infinite: 0,
-        }
-    }
-}
-
 // The 48 values of a block, unsigned (format 0) or signed (format 1).
-pub fn block_pixels(block: &[u8], format: u8, out: &mut [u16]) -> Pixels
-    ensures { Painted block.now format out.old result out.new }
+pub fn block_pixels(block: &[u8], format: u8, out: &mut [u16]) -> Result<Shown, Refusal>
+    ensures { Painted block.now format out.old (told result) out.new }
 {
     if 1 < format {
-        return Pixels::refused(Answer::BAD_FORMAT);
+        return Err(Refusal::BadFormat);
     }
     if block.len() != Block::SIZE {
-        return Pixels::refused(Answer::BLOCK_NOT_16);
+        return Err(Refusal::BlockNot16);
     }
     if out.len() < Picture::VALUES {
-        return Pixels::refused(Answer::SHORT_OUTPUT);
+        return Err(Refusal::ShortOutput);
     }
     let stream = BitStream::new(block);
     let mode = extract_mode(stream) as u8;
     let infinite = show(mode, stream.lo, stream.hi, format == 1, out);
-    Pixels {
-        answer: Answer::DONE,
-        mode,
-        infinite,
-    }
+    Ok(Shown { mode, infinite })
 }

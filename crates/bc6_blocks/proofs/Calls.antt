@@ -9,11 +9,11 @@ use Rattle.laws.specs.Made.{made, total}
 use Rattle.bcn_spec.specs.Answers.{done, bad_format, short_output, uneven_blocks}
 use Rattle.bc6h_spec.specs.Block.{pixels_of, infinities_of}
 use Rattle.bc6h_spec.proofs.Values.{length_pixels}
-use Rattle.bc6.specs.declared.Pixels.{Pixels}
+use Rattle.bc6.specs.Call.{Pixels}
 use Rattle.bc6h_spec.specs.Picture.{is_signed}
 use Rattle.bc6.specs.Call.{refusal_of, Painted}
 use Rattle.bc6.proofs.Calls.{written}
-use Rattle.bc6_blocks.specs.declared.BlocksPixels.{BlocksPixels}
+use Rattle.bc6_blocks.specs.Run.{BlocksPixels}
 use Rattle.bcn_spec.specs.Bits.{blocks_in, block_at}
 use Rattle.bc6_blocks.specs.Run.{shown_at, run_refusal, RunWritten, RunPainted}
 use Rattle.bc6_blocks.proofs.Runs.{run_at_lem, run_infinities}

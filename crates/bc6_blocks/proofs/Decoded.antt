@@ -7,9 +7,10 @@ use lib.ListN.{length, drop_of_length-le}
 use Rattle.bcn_spec.specs.Answers.{done}
 use Rattle.bc6h_spec.specs.Picture.{is_signed}
 use Rattle.bc6h_spec.specs.Block.{pixels_of, infinities_of}
-use Rattle.bc6.specs.declared.Pixels.{Pixels}
-use Rattle.bc6.specs.Call.{refusal_of, Painted}
-use Rattle.bc6.proofs.Calls.{done_when, written, infinities_told}
+use Rattle.bcn_spec.specs.declared.Refusal.{Refusal}
+use Rattle.bcn_spec.specs.Refusals.{refusal_number}
+use Rattle.bc6.specs.Call.{Pixels, refusal_of, Painted}
+use Rattle.bc6.proofs.Calls.{done_when, never_refused, written, infinities_told}
 
 module _ {block : List ℕ} {format : ℕ} {out : List ℕ} {r : Pixels} {after : List ℕ} (p : Painted block format out r after)
     (f : format ≤ 1) (sixteen : length block ≡ 16) (room : length out ≡ 48) where
@@ -20,6 +21,9 @@ module _ {block : List ℕ} {format : ℕ} {out : List ℕ} {r : Pixels} {after 
   decoded =
       written p decoding_done ∙ ap (λ (t : List ℕ). pixels_of (is_signed format) block ++ t) (drop_of_length-le out {i = 48} (omega arith))
       ∙ append-nil (pixels_of (is_signed format) block)
+
+  pub never : (why : Refusal) → r.answer ≡ refusal_number why → ⊥
+  never = never_refused p decoding_done
 
   pub decoded_count : r.infinite ≡ infinities_of (is_signed format) block
   decoded_count = infinities_told p decoding_done

@@ -1,5 +1,5 @@
 -- S-32: what `blocks_pixels` answers, and what the lent values then are. Assumes nothing.
-use Rattle.std.specs.Prelude.{◌≡◌, Bool, not, List, [], ◌∷◌, ◌++◌, ℕ, zero, suc, ◌*◌, ◌/◌, ◌%◌, eqb, ltb, length, drop}
+use Rattle.std.specs.Prelude.{◌≡◌, Bool, not, List, [], ◌∷◌, ◌++◌, ℕ, zero, suc, ◌*◌, ◌/◌, ◌%◌, eqb, ltb, length, drop, Result, Ok, Err}
 use Rattle.laws.specs.Checks.{first_met, ifDone}
 use Rattle.laws.specs.Made.{made, count_of, join}
 use Rattle.bcn_spec.specs.Answers.{done, bad_format, short_output, uneven_blocks}
@@ -7,7 +7,20 @@ use Rattle.bcn_spec.specs.Bits.{block_size, blocks_in, block_at}
 use Rattle.bc6h_spec.specs.Half.{minus_infinity}
 use Rattle.bc6h_spec.specs.Picture.{value_count, is_signed}
 use Rattle.bc6h_spec.specs.Block.{pixels_of}
-use Rattle.bc6_blocks.specs.declared.BlocksPixels.{BlocksPixels}
+use Rattle.bc6_blocks.specs.declared.Shown.{Shown}
+use Rattle.bcn_spec.specs.declared.Refusal.{Refusal}
+use Rattle.bcn_spec.specs.Refusals.{refusal_number}
+
+-- S-32: what the call answers
+pub record BlocksPixels : Type 0 where
+  pub answer : ℕ
+  pub blocks : ℕ
+  pub infinite : ℕ
+
+-- what a result stands for
+abbrev pub told : Result Shown Refusal → BlocksPixels
+told (Ok shown) = record { answer = done; blocks = shown.blocks; infinite = shown.infinite }
+told (Err refusal) = record { answer = refusal_number refusal; blocks = 0; infinite = 0 }
 
 -- S-32: what `block_pixels` writes for block n, and for the first n blocks.
 unfoldable pub shown_at : Bool → List ℕ → ℕ → List ℕ

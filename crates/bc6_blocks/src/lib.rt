@@ -2,31 +2,18 @@
 #![tactic(auto)]
 
 ghost use Rattle.std.specs.Prelude.{◌≡◌, ◌*◌, ◌≤◌, length};
-ghost use Rattle.bc6_blocks.specs.Run.{RunWritten, RunPainted};
+ghost use Rattle.bc6_blocks.specs.Run.{RunWritten, RunPainted, told};
 
 use bc6_mode::extract_mode;
 use bc6h_spec::Picture;
-use bcn_spec::{Answer, Block};
+use bcn_spec::{Block, Refusal};
 use bcn_util::BitStream;
 
-// What the call over a run of blocks answers.
-#[derive(Clone, Copy)]
-pub struct BlocksPixels {
-    pub answer: u8,
+// What the call over a run of blocks tells: how many blocks there are, and how many of their values are minus infinity.
+#[derive(Clone, Copy, Debug, PartialEq, Eq)]
+pub struct Shown {
     pub blocks: usize,
     pub infinite: usize,
-}
-
-impl BlocksPixels {
-    fn refused(answer: u8) -> Self
-        ensures { result ≡ record { answer = answer; blocks = 0; infinite = 0 } }
-    {
-        Self {
-            answer,
-            blocks: 0,
-            infinite: 0,
-        }
-    }
 }
 
 // Each block in turn, its values behind those of the blocks before it; answers how many values are minus infinity.
@@ -48,23 +35,22 @@ fn paint_run(blocks: &[u8], signed: bool, count: usize, out: &mut [u16]) -> usiz
 }
 
 // The values of all blocks, 48 a block, unsigned (format 0) or signed (format 1).
-pub fn blocks_pixels(blocks: &[u8], format: u8, out: &mut [u16]) -> BlocksPixels
-    ensures { RunPainted blocks.now format out.old result out.new }
+pub fn blocks_pixels(blocks: &[u8], format: u8, out: &mut [u16]) -> Result<Shown, Refusal>
+    ensures { RunPainted blocks.now format out.old (told result) out.new }
 {
     if 1 < format {
-        return BlocksPixels::refused(Answer::BAD_FORMAT);
+        return Err(Refusal::BadFormat);
     }
     if blocks.len() % Block::SIZE != 0 {
-        return BlocksPixels::refused(Answer::UNEVEN_BLOCKS);
+        return Err(Refusal::UnevenBlocks);
     }
     let count = blocks.len() / Block::SIZE;
     if out.len() / Picture::VALUES < count {
-        return BlocksPixels::refused(Answer::SHORT_OUTPUT);
+        return Err(Refusal::ShortOutput);
     }
     let infinite = paint_run(blocks, format == 1, count, out);
-    BlocksPixels {
-        answer: Answer::DONE,
+    Ok(Shown {
         blocks: count,
         infinite,
-    }
+    })
 }

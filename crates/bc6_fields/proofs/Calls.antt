@@ -10,7 +10,7 @@ use Rattle.bcn_spec.specs.Answers.{done, bad_format, block_not_16, reserved_mode
 use Rattle.bcn_spec.specs.Bits.{block_size}
 use Rattle.bc6h_spec.specs.Fields.{mode_of, no_fields, fields_of}
 use Rattle.bc6h_spec.proofs.Reading.{fields_mode}
-use Rattle.bc6_fields.specs.declared.FieldsRead.{FieldsRead}
+use Rattle.bc6_fields.specs.Call.{FieldsRead}
 use Rattle.bc6_fields.specs.Call.{Extracted}
 
 -- the statement admits one outcome

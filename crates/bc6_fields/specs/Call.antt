@@ -1,10 +1,22 @@
 -- S-35: what the field call answers. Assumes nothing.
-use Rattle.std.specs.Prelude.{◌≡◌, not, List, [], ◌∷◌, ℕ, zero, suc, eqb, ltb, length}
+use Rattle.std.specs.Prelude.{◌≡◌, not, List, [], ◌∷◌, ℕ, zero, suc, eqb, ltb, length, Result, Ok, Err}
 use Rattle.laws.specs.Checks.{first_met}
 use Rattle.bcn_spec.specs.Answers.{done, bad_format, block_not_16, reserved_mode}
 use Rattle.bcn_spec.specs.Bits.{block_size}
 use Rattle.bc6h_spec.specs.Fields.{mode_of, no_fields, fields_of}
-use Rattle.bc6_fields.specs.declared.FieldsRead.{FieldsRead}
+use Rattle.bc6h_spec.specs.declared.Fields.{Fields}
+use Rattle.bcn_spec.specs.declared.Refusal.{Refusal}
+use Rattle.bcn_spec.specs.Refusals.{refusal_number}
+
+-- S-35: a number, and the fields.
+pub record FieldsRead : Type 0 where
+  pub answer : ℕ
+  pub fields : Fields
+
+-- what a result stands for
+abbrev pub told : Result Fields Refusal → FieldsRead
+told (Ok f) = record { answer = done; fields = f }
+told (Err refusal) = record { answer = refusal_number refusal; fields = no_fields }
 
 -- S-35: 1, 2, 4: the format, the block's length, its mode.
 abbrev pub refusal_of : ℕ → ℕ → ℕ → ℕ

@@ -7,14 +7,14 @@ ghost use Rattle.bcn_util.specs.Stream.{number};
 ghost use Rattle.bcn_util.specs.Indexed.{index_at};
 ghost use Rattle.bc6h_spec.specs.Layout.{row};
 ghost use Rattle.bc6h_spec.specs.Fields.{gathered, fields_at, fields_of};
-ghost use Rattle.bc6_fields.specs.Call.{Extracted};
+ghost use Rattle.bc6_fields.specs.Call.{Extracted, told};
 ghost use Rattle.bc6_fields.specs.Places.{entry};
 
 use bc6_mode::extract_mode;
 use bc6_table::read_places;
 use bc6h_spec::Fields;
 use bcn_data::Subset2Map;
-use bcn_spec::{Answer, Block};
+use bcn_spec::{Block, Refusal};
 use bcn_util::{BitStream, Indexes};
 
 // Of the fourteen places the endpoints' values.
@@ -87,37 +87,19 @@ pub fn fields_of(block: &[u8], format: u8) -> Fields
     fields_from(format, mode, endpoints_of(places), places[13], stream)
 }
 
-// What the field call answers: a number, and the fields where that is `Answer::DONE`.
-#[derive(Clone, Copy)]
-pub struct FieldsRead {
-    pub answer: u8,
-    pub fields: Fields,
-}
-
-pub fn block_fields(block: &[u8], format: u8) -> FieldsRead
-    ensures { Extracted block.now format result }
+// The fields of a block, unsigned (format 0) or signed (format 1).
+pub fn block_fields(block: &[u8], format: u8) -> Result<Fields, Refusal>
+    ensures { Extracted block.now format (told result) }
 {
     if 1 < format {
-        return FieldsRead {
-            answer: Answer::BAD_FORMAT,
-            fields: Fields::none(),
-        };
+        return Err(Refusal::BadFormat);
     }
     if block.len() != Block::SIZE {
-        return FieldsRead {
-            answer: Answer::BLOCK_NOT_16,
-            fields: Fields::none(),
-        };
+        return Err(Refusal::BlockNot16);
     }
     let fields = fields_of(block, format);
     if fields.mode == 0 {
-        return FieldsRead {
-            answer: Answer::RESERVED_MODE,
-            fields: Fields::none(),
-        };
+        return Err(Refusal::ReservedMode);
     }
-    FieldsRead {
-        answer: Answer::DONE,
-        fields,
-    }
+    Ok(fields)
 }

@@ -11,12 +11,12 @@ use borrow.Author.Tests.{lt-ltb, ltb-true, ltb-false}
 use Rattle.laws.proofs.Tests.{cases}
 use Rattle.bcn_spec.specs.Answers.{done}
 use Rattle.bc6h_spec.specs.Picture.{is_signed}
-use Rattle.bc6_blocks.specs.declared.BlocksPixels.{BlocksPixels}
+use Rattle.bc6_blocks.specs.Run.{BlocksPixels}
 use Rattle.bcn_spec.specs.Bits.{blocks_in}
 use Rattle.bc6_blocks.specs.Run.{shown_at, run_of, run_refusal, RunPainted}
 use Rattle.bc6_blocks.proofs.Runs.{length_run, run_at_lem}
 use Rattle.bc6_blocks.proofs.Calls.{done_when}
-use Rattle.bc6_image.specs.declared.FacePixels.{FacePixels}
+use Rattle.bc6_image.specs.Face.{FacePixels}
 use Rattle.bc6_image.specs.Face.{lane_of, lane_at, FaceShown, image_refusal, ImagePainted}
 use Rattle.bc6_image.specs.Stores.{Fitting}
 use Rattle.bc6_image.proofs.Places.{shown_is}

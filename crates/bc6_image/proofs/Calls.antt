@@ -3,12 +3,12 @@ use mathlib.Core.Path.{◌≡◌, ◌∙◌, refl, sym, ap}
 use mathlib.Core.Bool.{Bool, true, false, not}
 use mathlib.Core.List.{List, [], ◌∷◌}
 use Prim.Native.Nat.{ℕ, zero, suc, ◌+◌, ◌-◌, ◌*◌, ◌/◌, ◌%◌, ◌≤◌, ◌<◌}
-use native.Mathlib.Nat.{zero-mul, mul_comm, mul-le-mul_left, mul-mod_right, mul-div_right, div-add-mod, le-div_iff_mul-le}
+use native.Mathlib.Nat.{zero-mul, mul_comm, mul-le-mul_left, mul-mod_right, le-div_iff_mul-le}
 use native.Mathlib.Omega.{arith}
 use lib.Dec.{eqb, leb, ltb}
 use lib.ListN.{length, get_or, drop, get_or-append}
 use lib.Seq.{get_or-take, get_or-drop}
-use borrow.Author.Tests.{lt-ltb, le-ltb, le-leb, lt-leb, eq-eqb, ne_eqb, ltb-true, ltb-false, leb-true, eqb-true, eqb-false, not-false}
+use borrow.Author.Tests.{lt-ltb, le-ltb, le-leb, lt-leb, eq-eqb, ne_eqb, ltb-true, ltb-false, leb-true, eqb-true, not-false}
 use Rattle.laws.specs.Checks.{first_met}
 use Rattle.laws.proofs.Checks.{none_met}
 use Rattle.laws.proofs.Tests.{cases, both_true}
@@ -17,13 +17,13 @@ use Rattle.bcn_spec.specs.Bits.{block_size, blocks_in, block_at}
 use Rattle.bc6h_spec.specs.Picture.{is_signed}
 use Rattle.bc6h_spec.specs.Block.{pixels_of}
 use Rattle.bc6h_spec.proofs.Values.{length_pixels}
-use Rattle.bc6.specs.declared.Pixels.{Pixels}
+use Rattle.bc6.specs.Call.{Pixels}
 use Rattle.bc6.specs.Call.{refusal_of, Painted}
 use Rattle.bc6.proofs.Calls.{written}
-use Rattle.bc6_blocks.specs.declared.BlocksPixels.{BlocksPixels}
+use Rattle.bc6_blocks.specs.Run.{BlocksPixels}
 use Rattle.bc6_blocks.specs.Run.{run_refusal, RunPainted}
 use Rattle.bc6_blocks.proofs.Calls.{block_by_block}
-use Rattle.bc6_image.specs.declared.FacePixels.{FacePixels}
+use Rattle.bc6_image.specs.Face.{FacePixels}
 use Rattle.bc6_image.specs.Face.{lanes, opaque, lane_of, lane_at, row_size, FaceShown, image_in, roomy, image_refusal, ImagePainted}
 use Rattle.bc6_image.specs.Stores.{FaceWritten, Fitting}
 use Rattle.bc6_image.proofs.Places.{lanes_low, block_low, put_shown, shown_is, is_shown}
@@ -31,9 +31,6 @@ use Rattle.bc6_image.proofs.Places.{lanes_low, block_low, put_shown, shown_is, i
 -- ---- the bytes of so many blocks
 
 module _ (size width height : ℕ) where
-  pub no_width : width ≡ 0 → eqb size 0 ≡ eqb size (block_size * (width * height))
-  no_width e = rw (e, zero-mul height)
-
   pub uneven : (size % 16 ≡ 0 → ⊥) → false ≡ eqb size (block_size * (width * height))
   uneven u = sym (ne_eqb size (16 * (width * height)) (λ e. u (omega arith)))
 
@@ -43,24 +40,7 @@ module _ (size width height : ℕ) where
         sym (ne_eqb size (16 * (width * height)) (λ e.
         let n : size / 16 ≡ width * height = omega arith in u (ap (λ (k : ℕ). k % width) n ∙ mul-mod_right width height)))
 
-    pub whole_rows : (width ≡ 0 → ⊥) → size / 16 % width ≡ 0 → eqb (size / 16 / width) height ≡ eqb size (block_size * (width * height))
-    whole_rows w m =
-        cases (eqb (size / 16 / width) height)
-        (λ t.
-        let h = eqb-true (size / 16 / width) height t in
-        let n : width * (size / 16 / width) + size / 16 % width ≡ size / 16 = div-add-mod (size / 16) width in
-        let k : width * (size / 16 / width) ≡ width * height = ap (λ (k : ℕ). width * k) h in
-        let e : size ≡ 16 * (width * height) = omega arith in
-        t ∙ sym (eq-eqb size (16 * (width * height)) e))
-        (λ f. f ∙ sym (ne_eqb size (16 * (width * height)) (λ e.
-        let n : size / 16 ≡ width * height = omega arith in
-        eqb-false (size / 16 / width) height f (ap (λ (k : ℕ). k / width) n ∙ mul-div_right height {m = width} (omega arith)))))
-
 -- ---- the refusals, in their order
-
-pub row_small : (alpha : Bool) (width : ℕ) → row_size alpha width ≤ 16 * width
-row_small true width = omega arith
-row_small false width = omega arith
 
 -- sides of a face with a block in it
 pub record Sides (size width height : ℕ) : Type 0 where
@@ -251,12 +231,6 @@ module _ {blocks : List ℕ} {width height format : ℕ} {out lent : List ℕ} {
 
 module _ (alpha : Bool) (blocks : List ℕ) (width height format : ℕ) (out : List ℕ) (pitch : ℕ) {number : ℕ}
     (e : number ≡ image_refusal alpha (length blocks) format width height pitch (length out)) where
-  pub painted_refused : {r : FacePixels} → (number ≡ done → ⊥) → r ≡ record { answer = number; infinite = 0 } → ImagePainted alpha blocks width height format out pitch r out
-  painted_refused n a =
-      let k = image_refusal alpha (length blocks) format width height pitch (length out) in
-      let some : k ≡ suc (k - 1) = omega arith in
-      record { answers = a ∙ rw (e, some); holds = rw some }
-
   module _ (n : number ≡ done) where
     pub known_done : Known alpha (length blocks) format width height pitch (length out)
     known_done = known alpha (length blocks) format width height pitch (length out) (sym e ∙ n)

@@ -1,5 +1,5 @@
 -- S-33: a face of blocks as rows of pixels, in two layouts; what the calls over one answer, and what the lent values then are. Assumes nothing.
-use Rattle.std.specs.Prelude.{◌≡◌, Bool, not, List, [], ◌∷◌, ℕ, zero, suc, ◌+◌, ◌-◌, ◌*◌, ◌/◌, ◌%◌, ◌<◌, eqb, leb, ltb, length, get_or}
+use Rattle.std.specs.Prelude.{◌≡◌, Bool, not, List, [], ◌∷◌, ℕ, zero, suc, ◌+◌, ◌-◌, ◌*◌, ◌/◌, ◌%◌, ◌<◌, eqb, leb, ltb, length, get_or, Result, Ok, Err}
 use Rattle.laws.specs.Pick.{pick, both, either}
 use Rattle.laws.specs.Checks.{first_met, ifDone}
 use Rattle.laws.specs.Made.{made}
@@ -8,7 +8,8 @@ use Rattle.bcn_spec.specs.Bits.{block_size, block_at}
 use Rattle.bc6h_spec.specs.Picture.{is_signed}
 use Rattle.bc6h_spec.specs.Block.{pixels_of}
 use Rattle.bc6_blocks.specs.Run.{run_infinities}
-use Rattle.bc6_image.specs.declared.FacePixels.{FacePixels}
+use Rattle.bcn_spec.specs.declared.Refusal.{Refusal}
+use Rattle.bcn_spec.specs.Refusals.{refusal_number}
 
 -- ---- the layouts: red, green and blue; and the same with alpha behind them
 
@@ -68,6 +69,16 @@ roomy alpha width height pitch room =
 unfoldable pub image_refusal : Bool → ℕ → ℕ → ℕ → ℕ → ℕ → ℕ → ℕ
 image_refusal alpha size format width height pitch room =
     first_met ((ltb 1 format, bad_format) ∷ (not (eqb size (block_size * (width * height))), blocks_misfit) ∷ (not (roomy alpha width height pitch room), short_output) ∷ [])
+
+-- a number, and how many values are 0xFC00
+pub record FacePixels : Type 0 where
+  pub answer : ℕ
+  pub infinite : ℕ
+
+-- what a result stands for
+abbrev pub told : Result ℕ Refusal → FacePixels
+told (Ok infinite) = record { answer = done; infinite = infinite }
+told (Err refusal) = record { answer = refusal_number refusal; infinite = 0 }
 
 -- how many values are minus infinity, as the call over a run of the same blocks counts them; a refusal counts none
 abbrev pub image_answer : ℕ → List ℕ → ℕ → FacePixels

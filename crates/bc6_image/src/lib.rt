@@ -6,32 +6,15 @@ ghost use Rattle.std.proofs.lemmas.List.Edits.{sets};
 ghost use Rattle.bcn_spec.specs.Bits.{block_size};
 ghost use Rattle.bc6h_spec.specs.Picture.{is_signed};
 ghost use Rattle.bcn_spec.specs.Bits.{blocks_in};
-ghost use Rattle.bc6_image.specs.Face.{lanes, image_refusal, ImagePainted};
+ghost use Rattle.bc6_image.specs.Face.{lanes, image_refusal, told, ImagePainted};
+ghost use Rattle.bcn_spec.specs.Refusals.{answer_of};
 ghost use Rattle.bc6_image.specs.Stores.{pixel_of, block_row, block_put, FaceWritten, Fitting};
 
 use bc6::block_pixels;
-use bcn_spec::{Answer, Block};
+use bcn_spec::{Block, Refusal};
 
-// What the calls over a face answer: how many values are minus infinity, 0 on a refusal.
-#[derive(Clone, Copy)]
-pub struct FacePixels {
-    pub answer: u8,
-    pub infinite: usize,
-}
-
-impl FacePixels {
-    // The alpha of every pixel: 1.0.
-    pub const OPAQUE: u16 = 0x3C00;
-
-    fn refused(answer: u8) -> Self
-        ensures { result ≡ record { answer = answer; infinite = 0 } }
-    {
-        Self {
-            answer,
-            infinite: 0,
-        }
-    }
-}
+// The alpha of every pixel: 1.0.
+const OPAQUE: u16 = 0x3C00;
 
 // The values of a pixel.
 fn lanes_of(alpha: bool) -> usize
@@ -60,7 +43,7 @@ fn put_opaque(values: &[u16; 48], k: usize, out: &mut [u16], at: usize)
     out[at] = values[3 * k];
     out[at + 1] = values[3 * k + 1];
     out[at + 2] = values[3 * k + 2];
-    out[at + 3] = FacePixels::OPAQUE;
+    out[at + 3] = OPAQUE;
 }
 
 // Row `row` of a block's pixels with alpha, sixteen values.
@@ -117,7 +100,9 @@ fn paint_face(
         let start = Block::SIZE * n;
         let end = start + Block::SIZE;
         let mut values = [0u16; 48];
-        let shown = block_pixels(&blocks[start..end], format, &mut values);
+        let Ok(shown) = block_pixels(&blocks[start..end], format, &mut values) else {
+            unreachable!()
+        };
         let at = pitch * (4 * (n / width)) + step * (4 * (n % width));
         put_block(&values, alpha, out, at, pitch);
         infinite += shown.infinite as usize;
@@ -142,8 +127,8 @@ fn holds_face(size: usize, width: usize, height: usize) -> bool
     count / width == height
 }
 
-// The first refusal that is met, or done.
-fn face_refusal(
+// The first refusal that is met, or none.
+fn check_face(
     size: usize,
     format: u8,
     width: usize,
@@ -151,32 +136,32 @@ fn face_refusal(
     alpha: bool,
     pitch: usize,
     room: usize,
-) -> u8
-    ensures { result ≡ image_refusal alpha size format width height pitch room }
+) -> Result<(), Refusal>
+    ensures { answer_of result ≡ image_refusal alpha size format width height pitch room }
 {
     if 1 < format {
-        return Answer::BAD_FORMAT;
+        return Err(Refusal::BadFormat);
     }
     if !holds_face(size, width, height) {
-        return Answer::BLOCKS_MISFIT;
+        return Err(Refusal::BlocksMisfit);
     }
     if size == 0 {
-        return Answer::DONE;
+        return Ok(());
     }
     let row = lanes_of(alpha) * (4 * width);
     if pitch < row {
-        return Answer::SHORT_OUTPUT;
+        return Err(Refusal::ShortOutput);
     }
     if room < row {
-        return Answer::SHORT_OUTPUT;
+        return Err(Refusal::ShortOutput);
     }
     if (room - row) / pitch < 4 * height - 1 {
-        return Answer::SHORT_OUTPUT;
+        return Err(Refusal::ShortOutput);
     }
-    Answer::DONE
+    Ok(())
 }
 
-// A face in one of the layouts.
+// A face in one of the layouts; answers how many values are minus infinity.
 fn face_values(
     blocks: &[u8],
     width: usize,
@@ -185,18 +170,15 @@ fn face_values(
     alpha: bool,
     out: &mut [u16],
     pitch: usize,
-) -> FacePixels
-    ensures { ImagePainted alpha blocks.now width height format out.old pitch result out.new }
+) -> Result<usize, Refusal>
+    ensures { ImagePainted alpha blocks.now width height format out.old pitch (told result) out.new }
 {
-    let answer = face_refusal(blocks.len(), format, width, height, alpha, pitch, out.len());
-    if answer != Answer::DONE {
-        return FacePixels::refused(answer);
-    }
-    let infinite = paint_face(blocks, width, height, format, alpha, out, pitch);
-    FacePixels { answer, infinite }
+    check_face(blocks.len(), format, width, height, alpha, pitch, out.len())?;
+    Ok(paint_face(blocks, width, height, format, alpha, out, pitch))
 }
 
-// The pixels of a face of width by height blocks, three values a pixel, `pitch` values from row to row.
+// The pixels of a face of width by height blocks, three values a pixel, `pitch` values from row to row; answers how many values
+// are minus infinity.
 pub fn face_pixels(
     blocks: &[u8],
     width: usize,
@@ -204,8 +186,8 @@ pub fn face_pixels(
     format: u8,
     out: &mut [u16],
     pitch: usize,
-) -> FacePixels
-    ensures { ImagePainted false blocks.now width height format out.old pitch result out.new }
+) -> Result<usize, Refusal>
+    ensures { ImagePainted false blocks.now width height format out.old pitch (told result) out.new }
 {
     face_values(blocks, width, height, format, false, out, pitch)
 }
@@ -218,8 +200,8 @@ pub fn face_rgba(
     format: u8,
     out: &mut [u16],
     pitch: usize,
-) -> FacePixels
-    ensures { ImagePainted true blocks.now width height format out.old pitch result out.new }
+) -> Result<usize, Refusal>
+    ensures { ImagePainted true blocks.now width height format out.old pitch (told result) out.new }
 {
     face_values(blocks, width, height, format, true, out, pitch)
 }

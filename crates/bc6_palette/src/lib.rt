@@ -14,6 +14,7 @@ ghost use Rattle.bc6_colour.specs.Colours.{unquantized_of, OfBits};
 ghost use Rattle.bc6_palette.specs.Palettes.{blend_of, palette_entry};
 ghost use Rattle.bc6_palette.specs.Triples.{IndicesBelow, one_pixel, two_pixel, flat, in_triples};
 ghost use Rattle.bc6_palette.specs.Call.{FieldsShown};
+ghost use Rattle.bcn_spec.specs.Refusals.{answer_of};
 
 use bc6_colour::Colour;
 use bc6_half::{Half, finish_unquantize, interpolate, weight};
@@ -21,7 +22,7 @@ use bc6_mode::ModeBits;
 use bc6_valid::is_valid;
 use bc6h_spec::{Fields, Picture};
 use bcn_data::Subset2Map;
-use bcn_spec::Answer;
+use bcn_spec::Refusal;
 
 // One channel of a palette's entry, between two unquantised ends.
 fn entry(a: i32, b: i32, w: u16, signed: bool) -> Half
@@ -152,18 +153,18 @@ fn write_values(triples: [[Half; 3]; 16], out: &mut [u16])
 }
 
 // The 48 values that a field record shows.
-pub fn fields_pixels(fields: Fields, out: &mut [u16]) -> u8
-    ensures { FieldsShown fields out.old result out.new }
+pub fn fields_pixels(fields: Fields, out: &mut [u16]) -> Result<(), Refusal>
+    ensures { FieldsShown fields out.old (answer_of result) out.new }
 {
     if 1 < fields.format {
-        return Answer::BAD_FORMAT;
+        return Err(Refusal::BadFormat);
     }
     if !is_valid(fields) {
-        return Answer::INVALID_FIELDS;
+        return Err(Refusal::InvalidFields);
     }
     if out.len() < Picture::VALUES {
-        return Answer::SHORT_OUTPUT;
+        return Err(Refusal::ShortOutput);
     }
     write_values(picture_of(fields), out);
-    Answer::DONE
+    Ok(())
 }

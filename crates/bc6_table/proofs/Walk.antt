@@ -108,9 +108,6 @@ pub record Walked (m n : ℕ) (values : List ℕ) (rest k : ℕ) : Type 0 where
   pub size : length values ≡ 14
   pub so : So (row m) n k values rest
 
-pub walked_first : (m n : ℕ) → 1 ≤ m → m ≤ 14 → Walked m n (replicate 14 0) n 0
-walked_first m n low high = record { low = low; high = high; size = refl; so = so_first (row m) n }
-
 module _ {m n : ℕ} {values : List ℕ} {rest k : ℕ} (w : Walked m n values rest k) {codes : List ℕ} (e : codes ≡ row m) (h : k < length codes) where
   in_row : k < length (row m)
   in_row = subst (λ (l : List ℕ). k < length l) e h

@@ -13,7 +13,7 @@ use Rattle.bc6h_spec.specs.Fields.{mode_of, fields_of, Valid}
 use Rattle.bc6h_spec.specs.Writer.{written_block}
 use Rattle.bc6h_spec.proofs.Reading.{fields_valid, fields_mode}
 use Rattle.bc6h_spec.proofs.Undo.{written_read, read_written_back, is_written}
-use Rattle.bc6_fields.specs.declared.FieldsRead.{FieldsRead}
+use Rattle.bc6_fields.specs.Call.{FieldsRead}
 use Rattle.bc6_fields.specs.Call.{Extracted}
 use Rattle.bc6_fields.proofs.Calls.{block_read}
 use Rattle.bc6_valid.specs.Validity.{valid}

@@ -12,10 +12,11 @@ ghost use Rattle.bc6_fields.specs.Places.{entry};
 ghost use Rattle.bcn_util.specs.Stream.{number};
 ghost use Rattle.bc6_writer.specs.Parts.{InPlaces, stored_size};
 ghost use Rattle.bc6_writer.specs.Call.{BlockWritten};
+ghost use Rattle.bcn_spec.specs.Refusals.{answer_of};
 
 use bc6_valid::{is_valid, second_fixup, stored_bits};
 use bc6h_spec::Fields;
-use bcn_spec::{Answer, Block};
+use bcn_spec::{Block, Refusal};
 use bcn_util::BitStream;
 
 // ---- the bits before the indices
@@ -132,18 +133,18 @@ fn write_bytes(words: BitStream, out: &mut [u8])
 }
 
 // The block of a valid record, into sixteen lent bytes.
-pub fn write_block(fields: Fields, out: &mut [u8]) -> u8
-    ensures { BlockWritten fields out.old result out.new }
+pub fn write_block(fields: Fields, out: &mut [u8]) -> Result<(), Refusal>
+    ensures { BlockWritten fields out.old (answer_of result) out.new }
 {
     if 1 < fields.format {
-        return Answer::BAD_FORMAT;
+        return Err(Refusal::BadFormat);
     }
     if !is_valid(fields) {
-        return Answer::INVALID_FIELDS;
+        return Err(Refusal::InvalidFields);
     }
     if out.len() != Block::SIZE {
-        return Answer::BAD_BUFFER;
+        return Err(Refusal::BadBuffer);
     }
     write_bytes(block_words(fields), out);
-    Answer::DONE
+    Ok(())
 }

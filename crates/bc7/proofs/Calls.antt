@@ -9,7 +9,7 @@ use Rattle.bcn_spec.specs.Bits.{block_size, number_of}
 use Rattle.bc7_spec.specs.Fields.{mode_in, mode_of}
 use Rattle.bc7_spec.specs.Block.{byte_count, colour_bytes}
 use Rattle.bc7_picture.specs.Shown.{shown_of}
-use Rattle.bc7.specs.declared.Bc7Pixels.{Bc7Pixels}
+use Rattle.bc7.specs.Call.{Bc7Pixels}
 use Rattle.bc7.specs.Call.{refusal_of, answer_at, Painted}
 
 -- ---- the checks

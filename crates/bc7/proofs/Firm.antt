@@ -17,7 +17,7 @@ use Rattle.bc7_spec.specs.Bytes.{lowered, widened, weight_of, by_second, between
 use Rattle.bc7_spec.specs.Block.{end_in, weight_in, value_in, byte_in, byte_count, colour_bytes}
 use Rattle.bc7_spec.proofs.Blocks.{C9}
 use Rattle.bc7_spec.proofs.Lengths.{length_bytes}
-use Rattle.bc7.specs.declared.Bc7Pixels.{Bc7Pixels}
+use Rattle.bc7.specs.Call.{Bc7Pixels}
 use Rattle.bc7.specs.Call.{refusal_of, Painted}
 use Rattle.bc7.proofs.Calls.{done_when, answered, written}
 

@@ -1,11 +1,23 @@
 -- S-66: what `bc7_pixels` answers, and what the lent bytes then are. Assumes nothing.
-use Rattle.std.specs.Prelude.{◌≡◌, not, List, [], ◌∷◌, ◌++◌, ℕ, zero, suc, eqb, ltb, length, drop}
+use Rattle.std.specs.Prelude.{◌≡◌, not, List, [], ◌∷◌, ◌++◌, ℕ, zero, suc, eqb, ltb, length, drop, Result, Ok, Err}
 use Rattle.laws.specs.Checks.{first_met, ifDone}
 use Rattle.bcn_spec.specs.Answers.{done, block_not_16, short_output}
 use Rattle.bcn_spec.specs.Bits.{block_size}
 use Rattle.bc7_spec.specs.Fields.{mode_of}
 use Rattle.bc7_spec.specs.Block.{byte_count, colour_bytes}
-use Rattle.bc7.specs.declared.Bc7Pixels.{Bc7Pixels}
+use Rattle.bc7.specs.declared.Shown.{Shown}
+use Rattle.bcn_spec.specs.declared.Refusal.{Refusal}
+use Rattle.bcn_spec.specs.Refusals.{refusal_number}
+
+-- S-66: what the call answers
+pub record Bc7Pixels : Type 0 where
+  pub answer : ℕ
+  pub mode : ℕ
+
+-- what a result stands for
+abbrev pub told : Result Shown Refusal → Bc7Pixels
+told (Ok shown) = record { answer = done; mode = shown.mode }
+told (Err refusal) = record { answer = refusal_number refusal; mode = 0 }
 
 -- S-66: 2, then 3 for fewer than 64 bytes: the first check that is met, from the block's length and the room.
 unfoldable pub refusal_of : ℕ → ℕ → ℕ

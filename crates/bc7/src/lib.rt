@@ -3,27 +3,20 @@
 
 ghost use Rattle.std.specs.Prelude.{◌≡◌};
 ghost use Rattle.bc7_spec.specs.Fields.{mode_in};
-ghost use Rattle.bc7.specs.Call.{Painted};
+ghost use Rattle.bc7.specs.Call.{Painted, told};
 
-use bcn_spec::{Answer, Block};
+use bcn_spec::{Block, Refusal};
 use bcn_util::BitStream;
 
-// What the call answers. The mode is the specification's, 0 to 7, or 8 for a reserved block.
-#[derive(Clone, Copy)]
-pub struct Bc7Pixels {
-    pub answer: u8,
+// What a block shows: the mode is the specification's, 0 to 7, or 8 for a reserved block.
+#[derive(Clone, Copy, Debug, PartialEq, Eq)]
+pub struct Shown {
     pub mode: u8,
 }
 
-impl Bc7Pixels {
+impl Shown {
     // The bytes that a block shows: four for each of sixteen pixels.
     pub const BYTES: usize = 64;
-
-    fn refused(answer: u8) -> Self
-        ensures { result ≡ record { answer = answer; mode = 0 } }
-    {
-        Self { answer, mode: 0 }
-    }
 }
 
 // The place of the lowest one bit of byte 0, or 8: a one is put above the byte.
@@ -34,20 +27,17 @@ fn mode_of(low: u64) -> u8
 }
 
 // The 64 bytes of a block.
-pub fn bc7_pixels(block: &[u8], out: &mut [u8]) -> Bc7Pixels
-    ensures { Painted block.now out.old result out.new }
+pub fn bc7_pixels(block: &[u8], out: &mut [u8]) -> Result<Shown, Refusal>
+    ensures { Painted block.now out.old (told result) out.new }
 {
     if block.len() != Block::SIZE {
-        return Bc7Pixels::refused(Answer::BLOCK_NOT_16);
+        return Err(Refusal::BlockNot16);
     }
-    if out.len() < Bc7Pixels::BYTES {
-        return Bc7Pixels::refused(Answer::SHORT_OUTPUT);
+    if out.len() < Shown::BYTES {
+        return Err(Refusal::ShortOutput);
     }
     let stream = BitStream::new(block);
     let mode = mode_of(stream.lo);
     bc7_picture::show(mode, stream, out);
-    Bc7Pixels {
-        answer: Answer::DONE,
-        mode,
-    }
+    Ok(Shown { mode })
 }

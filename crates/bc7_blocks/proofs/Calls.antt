@@ -10,10 +10,10 @@ use Rattle.bcn_spec.specs.Answers.{done, short_output, uneven_blocks}
 use Rattle.bcn_spec.specs.Bits.{blocks_in, block_at}
 use Rattle.bc7_spec.specs.Block.{byte_count, colour_bytes}
 use Rattle.bc7_spec.proofs.Lengths.{length_bytes}
-use Rattle.bc7.specs.declared.Bc7Pixels.{Bc7Pixels}
+use Rattle.bc7.specs.Call.{Bc7Pixels}
 use Rattle.bc7.specs.Call.{refusal_of, Painted}
 use Rattle.bc7.proofs.Calls.{done_when, written}
-use Rattle.bc7_blocks.specs.declared.Bc7BlocksPixels.{Bc7BlocksPixels}
+use Rattle.bc7_blocks.specs.Run.{Bc7BlocksPixels}
 use Rattle.bc7_blocks.specs.Run.{shown_at, run_of, run_refusal, RunPainted}
 
 -- ---- the checks

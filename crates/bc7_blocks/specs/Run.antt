@@ -1,11 +1,22 @@
 -- S-66: what `bc7_blocks_pixels` answers, and what the lent bytes then are. Assumes nothing.
-use Rattle.std.specs.Prelude.{◌≡◌, not, List, [], ◌∷◌, ◌++◌, ℕ, zero, suc, ◌*◌, ◌/◌, ◌%◌, eqb, ltb, length, drop}
+use Rattle.std.specs.Prelude.{◌≡◌, not, List, [], ◌∷◌, ◌++◌, ℕ, zero, suc, ◌*◌, ◌/◌, ◌%◌, eqb, ltb, length, drop, Result, Ok, Err}
 use Rattle.laws.specs.Checks.{first_met, ifDone}
 use Rattle.laws.specs.Made.{made, join}
 use Rattle.bcn_spec.specs.Answers.{done, short_output, uneven_blocks}
 use Rattle.bcn_spec.specs.Bits.{block_size, blocks_in, block_at}
 use Rattle.bc7_spec.specs.Block.{byte_count, colour_bytes}
-use Rattle.bc7_blocks.specs.declared.Bc7BlocksPixels.{Bc7BlocksPixels}
+use Rattle.bcn_spec.specs.declared.Refusal.{Refusal}
+use Rattle.bcn_spec.specs.Refusals.{refusal_number}
+
+-- S-66: what the call answers
+pub record Bc7BlocksPixels : Type 0 where
+  pub answer : ℕ
+  pub blocks : ℕ
+
+-- what a result stands for
+abbrev pub told : Result ℕ Refusal → Bc7BlocksPixels
+told (Ok blocks) = record { answer = done; blocks = blocks }
+told (Err refusal) = record { answer = refusal_number refusal; blocks = 0 }
 
 -- S-66: what `bc7_pixels` writes for block n, and for the first n blocks.
 unfoldable pub shown_at : List ℕ → ℕ → List ℕ

@@ -2,25 +2,10 @@
 #![tactic(auto)]
 
 ghost use Rattle.std.specs.Prelude.{◌≡◌, ◌++◌, ◌*◌, ◌≤◌, length, drop};
-ghost use Rattle.bc7_blocks.specs.Run.{run_of, RunPainted};
+ghost use Rattle.bc7_blocks.specs.Run.{run_of, told, RunPainted};
 
-use bc7::Bc7Pixels;
-use bcn_spec::{Answer, Block};
-
-// What the call over a run of blocks answers.
-#[derive(Clone, Copy)]
-pub struct Bc7BlocksPixels {
-    pub answer: u8,
-    pub blocks: usize,
-}
-
-impl Bc7BlocksPixels {
-    fn refused(answer: u8) -> Self
-        ensures { result ≡ record { answer = answer; blocks = 0 } }
-    {
-        Self { answer, blocks: 0 }
-    }
-}
+use bc7::Shown;
+use bcn_spec::{Block, Refusal};
 
 // Each block in turn, its bytes behind those of the blocks before it.
 fn paint_run(blocks: &[u8], count: usize, out: &mut [u8])
@@ -30,25 +15,22 @@ fn paint_run(blocks: &[u8], count: usize, out: &mut [u8])
     for n in 0..count {
         let start = Block::SIZE * n;
         let end = start + Block::SIZE;
-        let place = Bc7Pixels::BYTES * n;
-        bc7::bc7_pixels(&blocks[start..end], &mut out[place..]);
+        let place = Shown::BYTES * n;
+        let _ = bc7::bc7_pixels(&blocks[start..end], &mut out[place..]);
     }
 }
 
-// The bytes of all blocks, 64 a block.
-pub fn bc7_blocks_pixels(blocks: &[u8], out: &mut [u8]) -> Bc7BlocksPixels
-    ensures { RunPainted blocks.now out.old result out.new }
+// The bytes of all blocks, 64 a block; answers how many blocks there are.
+pub fn bc7_blocks_pixels(blocks: &[u8], out: &mut [u8]) -> Result<usize, Refusal>
+    ensures { RunPainted blocks.now out.old (told result) out.new }
 {
     if blocks.len() % Block::SIZE != 0 {
-        return Bc7BlocksPixels::refused(Answer::UNEVEN_BLOCKS);
+        return Err(Refusal::UnevenBlocks);
     }
     let count = blocks.len() / Block::SIZE;
-    if out.len() / Bc7Pixels::BYTES < count {
-        return Bc7BlocksPixels::refused(Answer::SHORT_OUTPUT);
+    if out.len() / Shown::BYTES < count {
+        return Err(Refusal::ShortOutput);
     }
     paint_run(blocks, count, out);
-    Bc7BlocksPixels {
-        answer: Answer::DONE,
-        blocks: count,
-    }
+    Ok(count)
 }

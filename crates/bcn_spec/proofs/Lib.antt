@@ -4,3 +4,4 @@ pub mod Joined
 pub mod Partitions
 pub mod Rows
 pub mod Weights
+pub mod Refusals

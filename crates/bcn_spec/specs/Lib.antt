@@ -4,3 +4,4 @@ pub mod Indices
 pub mod Weights
 pub mod Regions
 pub mod Rows
+pub mod Refusals

@@ -4,6 +4,7 @@
 ghost use Rattle.std.specs.Prelude.{◌≡◌};
 ghost use Rattle.bcn_spec.specs.Answers.{answers};
 ghost use Rattle.bcn_spec.specs.Bits.{block_size};
+ghost use Rattle.bcn_spec.specs.Refusals.{refusal_number, answer_of};
 
 // What a call answers.
 #[derive(Clone, Copy)]
@@ -96,6 +97,81 @@ impl Answer {
             Answer::NO_PIXEL,
             Answer::BAD_RECEIPT,
         ]
+    }
+}
+
+// Why a call refuses.
+#[derive(Clone, Copy, Debug, PartialEq, Eq)]
+pub enum Refusal {
+    BadFormat,
+    BlockNot16,
+    ShortOutput,
+    ReservedMode,
+    LongStore,
+    UnevenStore,
+    SpareByte,
+    NoRecord,
+    UnevenBlocks,
+    InvalidFields,
+    BadBuffer,
+    ReservedBlock,
+    ForeignHeader,
+    BadSize,
+    BlocksMisfit,
+    UnevenSize,
+    BadPlace,
+    PlacedRecord,
+    BadEdge,
+    UnplacedRecord,
+    PastEdge,
+    TakenPlace,
+    EmptyPlace,
+    NoPixel,
+    BadReceipt,
+}
+
+impl Refusal {
+    // The number that C is answered.
+    pub fn number(self) -> u8
+        ensures { result ≡ refusal_number self }
+    {
+        match self {
+            Refusal::BadFormat => Answer::BAD_FORMAT,
+            Refusal::BlockNot16 => Answer::BLOCK_NOT_16,
+            Refusal::ShortOutput => Answer::SHORT_OUTPUT,
+            Refusal::ReservedMode => Answer::RESERVED_MODE,
+            Refusal::LongStore => Answer::LONG_STORE,
+            Refusal::UnevenStore => Answer::UNEVEN_STORE,
+            Refusal::SpareByte => Answer::SPARE_BYTE,
+            Refusal::NoRecord => Answer::NO_RECORD,
+            Refusal::UnevenBlocks => Answer::UNEVEN_BLOCKS,
+            Refusal::InvalidFields => Answer::INVALID_FIELDS,
+            Refusal::BadBuffer => Answer::BAD_BUFFER,
+            Refusal::ReservedBlock => Answer::RESERVED_BLOCK,
+            Refusal::ForeignHeader => Answer::FOREIGN_HEADER,
+            Refusal::BadSize => Answer::BAD_SIZE,
+            Refusal::BlocksMisfit => Answer::BLOCKS_MISFIT,
+            Refusal::UnevenSize => Answer::UNEVEN_SIZE,
+            Refusal::BadPlace => Answer::BAD_PLACE,
+            Refusal::PlacedRecord => Answer::PLACED_RECORD,
+            Refusal::BadEdge => Answer::BAD_EDGE,
+            Refusal::UnplacedRecord => Answer::UNPLACED_RECORD,
+            Refusal::PastEdge => Answer::PAST_EDGE,
+            Refusal::TakenPlace => Answer::TAKEN_PLACE,
+            Refusal::EmptyPlace => Answer::EMPTY_PLACE,
+            Refusal::NoPixel => Answer::NO_PIXEL,
+            Refusal::BadReceipt => Answer::BAD_RECEIPT,
+        }
+    }
+}
+
+// The number of what a call answers: 0 where it did what was asked.
+pub fn answer_number<T: Copy>(told: Result<T, Refusal>) -> u8
+    ensures { result ≡ answer_of told }
+{
+    match told {
+        Ok(_) => Answer::DONE,
+        Err(refusal) => refusal.number(),
     }
 }
 

@@ -15,7 +15,7 @@ use Rattle.laws.specs.Pick.{pick}
 use Rattle.laws.specs.Made.{made}
 use Rattle.laws.proofs.Rows.{length_made, made_each}
 use Rattle.laws.proofs.Tests.{cases}
-use Rattle.bc7.specs.declared.Bc7Pixels.{Bc7Pixels}
+use Rattle.bc7.specs.Call.{Bc7Pixels}
 use Rattle.bc7.specs.Call.{Painted}
 use Rattle.check_bc7.specs.declared.Shown.{Shown}
 use Rattle.check_bc7.specs.Shown.{shown_as, shown_of, shown_byte, shown_bytes, shown_at}

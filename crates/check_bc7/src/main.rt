@@ -6,7 +6,7 @@ ghost use Rattle.std.specs.Prelude.{◌≡◌, ◌++◌, ◌*◌, ◌^◌, ◌<�
 ghost use Rattle.laws.specs.Made.{made};
 ghost use Rattle.check_bc7.specs.Shown.{shown_byte, shown_of, shown_bytes, piece_count, PieceEnd, Decoded};
 
-use bcn_spec::Block;
+use bcn_spec::{Answer, Block};
 use run_streams::read_full;
 use std::io;
 
@@ -25,11 +25,17 @@ impl Shown {
         ensures { result ≡ shown_of piece.now }
     {
         let mut bytes = [0u8; 64];
-        let pixels = bc7::bc7_pixels(piece, &mut bytes);
-        Shown {
-            answer: pixels.answer,
-            mode: pixels.mode,
-            bytes,
+        match bc7::bc7_pixels(piece, &mut bytes) {
+            Ok(shown) => Shown {
+                answer: Answer::DONE,
+                mode: shown.mode,
+                bytes,
+            },
+            Err(refusal) => Shown {
+                answer: refusal.number(),
+                mode: 0,
+                bytes,
+            },
         }
     }
 

@@ -4,6 +4,7 @@
 
 ghost use Rattle.std.specs.Prelude.{◌≤◌, length};
 
+use bcn_spec::answer_number;
 use std::io;
 
 // What every lent value is before the call. No block shows it: its magnitude is above the highest pattern.
@@ -32,12 +33,12 @@ fn print_call(
 ) -> io::Result<()>
     requires { (size ≤ length block.now) × (room ≤ length values.old) }
 {
-    let shown = bc6::block_pixels(&block[..size], format, &mut values[..room]);
+    let told = bc6::block_pixels(&block[..size], format, &mut values[..room]);
     print!(rt; "{format}")?;
     print_next(rt, size as u64)?;
     print_next(rt, room as u64)?;
-    print_next(rt, shown.answer as u64)?;
-    print_next(rt, shown.mode as u64)?;
+    print_next(rt, answer_number(told) as u64)?;
+    print_next(rt, told.map_or(0, |shown| shown.mode) as u64)?;
     print_next(rt, changed(values, 0) as u64)?;
     print_next(rt, changed(values, 48) as u64)?;
     println!(rt; "")

@@ -12,7 +12,7 @@ use Rattle.laws.proofs.Rows.{length_made, get_d_made}
 use Rattle.laws.proofs.Tests.{picks}
 use Rattle.laws.proofs.Sameness.{same_all, same_not}
 use Rattle.bc6h_spec.specs.Picture.{value_count}
-use Rattle.bc6.specs.declared.Pixels.{Pixels}
+use Rattle.bc6.specs.Call.{Pixels}
 use Rattle.bc6.specs.Call.{Painted}
 use Rattle.check_replay.specs.Entries.{replay_size, entry_format, entry_block, entry_value, values_in, infinite_in, agrees, count_at, agreeing}
 

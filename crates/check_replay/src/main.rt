@@ -7,7 +7,10 @@ ghost use Rattle.std.specs.Prelude.{◌≡◌, ◌/◌, ◌<◌, IfOk, length};
 ghost use Rattle.laws.specs.Every.{same};
 ghost use Rattle.bc6h_spec.specs.Picture.{value_count};
 ghost use Rattle.check_replay.specs.Entries.{replay_size, entry_value, values_in, infinite_in, agrees, count_at, agreeing};
+ghost use Rattle.bc6.specs.Call.{told as told_of};
 
+use bc6::Shown;
+use bcn_spec::{Refusal, answer_number};
 use raw_bytes::u16_at;
 use run_streams::read_full;
 use std::io;
@@ -48,6 +51,20 @@ fn infinite_in(entry: &[u8]) -> u16
     u16_at(entry, COUNT)
 }
 
+// What the call tells of a block; nothing where it refuses.
+fn shown_of(told: Result<Shown, Refusal>) -> Shown
+    ensures mode_value { result.mode ≡ (told_of told).mode }
+    ensures infinite_value { result.infinite ≡ (told_of told).infinite }
+{
+    match told {
+        Ok(shown) => shown,
+        Err(_) => Shown {
+            mode: 0,
+            infinite: 0,
+        },
+    }
+}
+
 // Whether our call answers an entry's block as the entry says.
 fn agrees(entry: &[u8]) -> bool
     requires { length entry.now ≡ replay_size }
@@ -55,14 +72,15 @@ fn agrees(entry: &[u8]) -> bool
 {
     let mut values = [0u16; 48];
     let block = &entry[BLOCK..ANSWER];
-    let pixels = bc6::block_pixels(block, entry[0], &mut values);
-    if pixels.answer != entry[ANSWER] {
+    let told = bc6::block_pixels(block, entry[0], &mut values);
+    if answer_number(told) != entry[ANSWER] {
         return false;
     }
-    if pixels.mode != entry[MODE] {
+    let shown = shown_of(told);
+    if shown.mode != entry[MODE] {
         return false;
     }
-    if pixels.infinite != infinite_in(entry) {
+    if shown.infinite != infinite_in(entry) {
         return false;
     }
     same_values(&values, &entry[VALUES..SIZE])

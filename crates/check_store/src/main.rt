@@ -3,6 +3,7 @@
 
 ghost use Rattle.std.specs.Prelude.{◌+◌, ◌≤◌, ◌<◌, length};
 
+use bcn_spec::answer_number;
 use run_streams::{Input, first_bytes, read_input, write_text};
 use store_records::{Record, record_at, record_block, record_count};
 use store_spec::TwinList;
@@ -22,7 +23,12 @@ fn print_record(rt: &(impl Print + Eprint), text: &mut [u8], store: &[u8], n: us
     requires { 256 ≤ length text.old }
 {
     let mut end = put_count(text, 0, b"record ", n as u64);
-    end = put_count(text, end, b" answer ", record_at(store, n).number() as u64);
+    end = put_count(
+        text,
+        end,
+        b" answer ",
+        answer_number(record_at(store, n)) as u64,
+    );
     end = put_count(text, end, b" block ", record_block(store, n).len() as u64);
     end = put(text, end, b"\n");
     write_text(rt, text, end);

@@ -13,14 +13,14 @@ use Rattle.bc6h_spec.specs.Named.{Row, named_blocks}
 use Rattle.bc6h_spec.proofs.Blocks.{Shown, named_shown, each_so}
 use Rattle.bc6h_spec.proofs.Formats.{number_le, signed_again}
 use Rattle.bc6h_spec.proofs.Values.{length_pixels}
-use Rattle.bc6.specs.declared.Pixels.{Pixels}
+use Rattle.bc6.specs.Call.{Pixels}
 use Rattle.bc6.specs.Call.{refusal_of, answer_at, Painted}
 use Rattle.bc6.proofs.Calls as pixels
-use Rattle.bc6_blocks.specs.declared.BlocksPixels.{BlocksPixels}
+use Rattle.bc6_blocks.specs.Run.{BlocksPixels}
 use Rattle.bc6_blocks.specs.Run as run
 use Rattle.bc6_blocks.proofs.Calls as runs
 use Rattle.bc7.proofs.Calls as bc7-calls
-use Rattle.bc7_blocks.specs.declared.Bc7BlocksPixels.{Bc7BlocksPixels}
+use Rattle.bc7_blocks.specs.Run.{Bc7BlocksPixels}
 use Rattle.bc7_blocks.specs.Run as bc7-run
 use Rattle.bc7_blocks.proofs.Calls as bc7-runs
 use Rattle.store_copies.proofs.Demand3 as copies

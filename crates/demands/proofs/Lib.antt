@@ -1,3 +1,4 @@
 pub mod Silences
 pub mod Demands
 pub mod Outcomes
+pub mod Told

@@ -11,7 +11,7 @@ use Rattle.bc6h_spec.specs.Fields.{no_fields, mode_of}
 use Rattle.bc6_numbers.specs.Numbers.{number_at, numbers_of}
 use Rattle.bc6.specs.Call as pixels
 use Rattle.bc6_blocks.specs.Run as run
-use Rattle.bc6_image.specs.declared.FacePixels.{FacePixels}
+use Rattle.bc6_image.specs.Face.{FacePixels}
 use Rattle.bc6_image.specs.Face as face
 use Rattle.bc6_fields.specs.Call as fields
 use Rattle.bc6_writer.specs.Call as writer

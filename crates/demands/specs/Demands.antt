@@ -10,17 +10,17 @@ use Rattle.bc6h_spec.specs.Picture.{is_signed, value_count}
 use Rattle.bc6h_spec.specs.Block.{pixels_of}
 use Rattle.store_copies.specs.Words.{Eligible, ChannelDiffers}
 use Rattle.store_copies.specs.Wide.{Suited, Matched}
-use Rattle.bc6.specs.declared.Pixels.{Pixels}
+use Rattle.bc6.specs.Call.{Pixels}
 use Rattle.bc6.specs.Call.{Painted}
-use Rattle.bc6_blocks.specs.declared.BlocksPixels.{BlocksPixels}
+use Rattle.bc6_blocks.specs.Run.{BlocksPixels}
 use Rattle.bc6_blocks.specs.Run.{RunPainted}
-use Rattle.bc6_fields.specs.declared.FieldsRead.{FieldsRead}
+use Rattle.bc6_fields.specs.Call.{FieldsRead}
 use Rattle.bc6_fields.specs.Call.{Extracted}
 use Rattle.bc6_writer.specs.Call.{BlockWritten}
 use Rattle.bc7_spec.specs.Block.{byte_count}
-use Rattle.bc7.specs.declared.Bc7Pixels.{Bc7Pixels}
+use Rattle.bc7.specs.Call.{Bc7Pixels}
 use Rattle.bc7.specs.Call as bc7
-use Rattle.bc7_blocks.specs.declared.Bc7BlocksPixels.{Bc7BlocksPixels}
+use Rattle.bc7_blocks.specs.Run.{Bc7BlocksPixels}
 use Rattle.bc7_blocks.specs.Run as bc7-run
 use Rattle.store_records.specs.Store.{record_size, records_in}
 use Rattle.store_clean.specs.Theorems.{EachHasOne, OnlyThose, StaysInOrder, NoneLost, CleanAgain}

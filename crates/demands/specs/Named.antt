@@ -4,7 +4,7 @@ use Rattle.bcn_spec.specs.Answers.{done}
 use Rattle.bc6h_spec.specs.Picture.{value_count}
 use Rattle.bc6h_spec.specs.Block.{format_number}
 use Rattle.bc6h_spec.specs.Named.{Row, triples, named_blocks, EachOf}
-use Rattle.bc6.specs.declared.Pixels.{Pixels}
+use Rattle.bc6.specs.Call.{Pixels}
 use Rattle.bc6.specs.Call.{Painted}
 
 -- S-28: what `block_pixels` leaves of B1 to B11: the mode of each and what it shows.

@@ -1,24 +1,26 @@
 -- S-1: a refusal has one number, its counts are zero, and it writes nothing. One statement, and a line for each call that can refuse. Assumes
 -- nothing.
-use Rattle.std.specs.Prelude.{◌≡◌, true, false, List, [], ◌∷◌, ℕ, get_or}
+use Rattle.std.specs.Prelude.{◌≡◌, true, false, List, [], ◌∷◌, ℕ, get_or, Result}
 use Rattle.bc6h_spec.specs.declared.Fields.{Fields}
 use Rattle.bcn_spec.specs.Answers.{done}
 use Rattle.bc6_numbers.specs.Numbers.{numbers_of}
-use Rattle.bc6.specs.declared.Pixels.{Pixels}
+use Rattle.bc6.specs.Call.{Pixels}
 use Rattle.bc6.specs.Call.{Painted}
-use Rattle.bc6_blocks.specs.declared.BlocksPixels.{BlocksPixels}
+use Rattle.bc6_blocks.specs.Run.{BlocksPixels}
 use Rattle.bc6_blocks.specs.Run.{RunPainted}
-use Rattle.bc6_image.specs.declared.FacePixels.{FacePixels}
+use Rattle.bc6_image.specs.Face.{FacePixels}
 use Rattle.bc6_image.specs.Face.{ImagePainted}
-use Rattle.bc6_fields.specs.declared.FieldsRead.{FieldsRead}
+use Rattle.bc6_fields.specs.Call.{FieldsRead}
 use Rattle.bc6_fields.specs.Call.{Extracted}
 use Rattle.bc6_writer.specs.Call as writer
 use Rattle.bc6_palette.specs.Call.{FieldsShown}
-use Rattle.bc7.specs.declared.Bc7Pixels.{Bc7Pixels}
+use Rattle.bc7.specs.Call.{Bc7Pixels}
 use Rattle.bc7.specs.Call as bc7
-use Rattle.bc7_blocks.specs.declared.Bc7BlocksPixels.{Bc7BlocksPixels}
+use Rattle.bc7_blocks.specs.Run.{Bc7BlocksPixels}
 use Rattle.bc7_blocks.specs.Run as bc7-run
-use Rattle.store_records.specs.declared.RecordReading.{RecordReading}
+use Rattle.bcn_spec.specs.declared.Refusal.{Refusal}
+use Rattle.bcn_spec.specs.Refusals.{answer_of}
+use Rattle.store_records.specs.declared.Record.{Record}
 use Rattle.store_records.specs.Store as records
 use Rattle.store_spec.specs.declared.TwinList.{TwinList}
 use Rattle.store_spec.specs.Twins.{Listed, ListedIn}
@@ -63,7 +65,7 @@ pub record Demand1 : Type 0 where
   pub block_fields : {b : List ℕ} {f : ℕ} {r : FieldsRead} → Extracted b f r → Silent r.answer (numbers_of r.fields) [] []
   pub write_block : {f : Fields} {o a : List ℕ} {r : ℕ} → writer.BlockWritten f o r a → Silent r [] (o ∷ []) (a ∷ [])
   pub fields_pixels : {f : Fields} {o a : List ℕ} {r : ℕ} → FieldsShown f o r a → Silent r [] (o ∷ []) (a ∷ [])
-  pub record_at : {s : List ℕ} {n : ℕ} {r : RecordReading} → records.RecordRead s n r → Silent (records.reading_number r) (records.values_of r) [] []
+  pub record_at : {s : List ℕ} {n : ℕ} {r : Result Record Refusal} → records.RecordRead s n r → Silent (answer_of r) (records.values_of r) [] []
   pub record_block : (s : List ℕ) (n : ℕ) → Silent (records.record_refusal s n) (records.part_at (records.record_refusal s n) s n) [] []
   pub twin_list : {s m a : List ℕ} {r : TwinList} → Listed s m r a → Silent r.answer (r.kept ∷ r.twins ∷ r.bad ∷ []) (m ∷ []) (a ∷ [])
   pub twin_list_in : {s m w a b : List ℕ} {r : TwinList} → ListedIn s m w r a b → Silent r.answer (r.kept ∷ r.twins ∷ r.bad ∷ []) (m ∷ w ∷ []) (a ∷ b ∷ [])

@@ -107,7 +107,7 @@ pub fn put_band(blocks: &[u8], format: u8, first: usize, across: usize, y: usize
         let start = Block::SIZE * (first + column);
         let end = start + Block::SIZE;
         let mut values = [0u16; 48];
-        block_pixels(&blocks[start..end], format, &mut values);
+        let _ = block_pixels(&blocks[start..end], format, &mut values);
         put_block(&values, across, out, column);
     }
     put_heads(across, y, out, 0);

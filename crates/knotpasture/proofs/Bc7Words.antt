@@ -2,9 +2,9 @@
 use mathlib.Core.Path.{◌≡◌, sym, ap, ◌∙◌}
 use mathlib.Core.List.{List}
 use Prim.Native.Nat.{ℕ}
-use Rattle.bc7.specs.declared.Bc7Pixels.{Bc7Pixels}
+use Rattle.bc7.specs.Call.{Bc7Pixels}
 use Rattle.bc7.specs.Call.{Painted}
-use Rattle.bc7_blocks.specs.declared.Bc7BlocksPixels.{Bc7BlocksPixels}
+use Rattle.bc7_blocks.specs.Run.{Bc7BlocksPixels}
 use Rattle.knotpasture.specs.Bc7.{bc7_word, Bc7Called, Bc7RunCalled}
 
 pub called : {block out : List ℕ} {p : Bc7Pixels} {after : List ℕ} {r : ℕ} → Painted block out p after → r ≡ bc7_word p → Bc7Called block out r after

@@ -7,7 +7,7 @@ use borrow.Author.Tests.{lt-ltb, le-ltb}
 use Rattle.bc6h_spec.specs.declared.Fields.{Fields}
 use Rattle.bcn_spec.specs.Answers.{short_output}
 use Rattle.bc6h_spec.specs.Fields.{mode_of, fields_of}
-use Rattle.bc6_fields.specs.declared.FieldsRead.{FieldsRead}
+use Rattle.bc6_fields.specs.Call.{FieldsRead}
 use Rattle.bc6_fields.specs.Call.{refusal_of, answer_at, Extracted}
 use Rattle.bc6_fields.proofs.Calls.{mode_read}
 use Rattle.bc6_numbers.specs.Numbers.{number_count, numbers_of}

@@ -14,13 +14,13 @@ use Rattle.bc6h_spec.specs.Fields.{mode_of, fields_of, Valid}
 use Rattle.bc6h_spec.specs.Picture.{value_count}
 use Rattle.bc6h_spec.proofs.Pixel.{record_shows}
 use Rattle.bc6h_spec.proofs.Reading.{fields_valid}
-use Rattle.bc6_fields.specs.declared.FieldsRead.{FieldsRead}
+use Rattle.bc6_fields.specs.Call.{FieldsRead}
 use Rattle.bc6_fields.specs.Call.{Extracted}
 use Rattle.bc6_fields.proofs.Calls.{block_read}
 use Rattle.bc6_valid.specs.Validity.{valid}
 use Rattle.bc6_valid.proofs.Validity.{complete}
 use Rattle.bc6_palette.specs.Call as shown
-use Rattle.bc6.specs.declared.Pixels.{Pixels}
+use Rattle.bc6.specs.Call.{Pixels}
 use Rattle.bc6.specs.Call as pixels
 use Rattle.bc6.proofs.Calls.{answered}
 use Rattle.bc6_numbers.specs.Numbers.{number_count, fields_from}

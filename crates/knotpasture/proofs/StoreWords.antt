@@ -10,8 +10,9 @@ use Rattle.laws.proofs.Tests.{cases}
 use Rattle.bcn_spec.specs.Answers.{done}
 use Rattle.bcn_spec.specs.Bits.{block_size}
 use Rattle.store_records.specs.declared.Record.{Record}
-use Rattle.store_records.specs.declared.RecordReading.{RecordReading}
-use Rattle.store_records.specs.declared.RecordReading.TheVariants as reading
+use Rattle.std.specs.Prelude.{Result, Ok, Err}
+use Rattle.bcn_spec.specs.declared.Refusal.{Refusal}
+use Rattle.bcn_spec.specs.Refusals.{refusal_number}
 use Rattle.store_records.specs.Store.{record_size, head_size, store_limit, most_records, tile_of, format_of, block_of, record_refusal, Unrefused, RecordRead, part_at}
 use Rattle.store_records.proofs.Refusals.{known}
 use Rattle.store_records.proofs.Readings.{unrefused, refused}
@@ -24,8 +25,8 @@ use Rattle.knotpasture.specs.Store.{reading_word, offset_at, twins_word, TwinsCa
 
 -- ---- the record calls
 
-module _ {store : List ℕ} {n : ℕ} {x : RecordReading} (d : RecordRead store n x) where
-  pub record_word : {r : Record} → x ≡ reading.Record r → r.format * 0x100 + r.tile * 0x100000000 ≡ reading_word store n
+module _ {store : List ℕ} {n : ℕ} {x : Result Record Refusal} (d : RecordRead store n x) where
+  pub record_word : {r : Record} → x ≡ Ok r → r.format * 0x100 + r.tile * 0x100000000 ≡ reading_word store n
   record_word {r} e =
       let u = unrefused d e in
       let v : r.tile ∷ r.format ∷ [] ≡ tile_of store n ∷ format_of store n ∷ [] = rw (e, u) at d.gives in
@@ -33,22 +34,22 @@ module _ {store : List ℕ} {n : ℕ} {x : RecordReading} (d : RecordRead store 
       let f : r.format ≡ format_of store n = cc in
       rw (u, t, f)
 
-  some_number : {number : ℕ} → x ≡ reading.Refused number → record_refusal store n ≡ suc (record_refusal store n - 1)
+  some_number : {number : Refusal} → x ≡ Err number → record_refusal store n ≡ suc (record_refusal store n - 1)
   some_number e = omega (arith, refused d e)
 
-  pub refused_word : {number : ℕ} → x ≡ reading.Refused number → number ≡ reading_word store n
-  refused_word {number} e =
-      let a : number ≡ record_refusal store n = rw e at d.answers in
+  pub refused_word : {why : Refusal} → x ≡ Err why → refusal_number why ≡ reading_word store n
+  refused_word {why} e =
+      let a : refusal_number why ≡ record_refusal store n = rw e at d.answers in
       a ∙ rw (some_number e)
 
-  pub record_offset : {r : Record} → x ≡ reading.Record r → n * record_size + head_size ≡ offset_at (record_refusal store n) n
+  pub record_offset : {r : Record} → x ≡ Ok r → n * record_size + head_size ≡ offset_at (record_refusal store n) n
   record_offset e = rw (unrefused d e)
 
-  pub refused_offset : {number : ℕ} → x ≡ reading.Refused number → 0 ≡ offset_at (record_refusal store n) n
+  pub refused_offset : {why : Refusal} → x ≡ Err why → 0 ≡ offset_at (record_refusal store n) n
   refused_offset e = rw (some_number e)
 
   -- a record that is there starts inside the store
-  pub inside : {r : Record} → x ≡ reading.Record r → n * record_size < store_limit
+  pub inside : {r : Record} → x ≡ Ok r → n * record_size < store_limit
   inside e = let k = known store n (unrefused d e) in omega arith
 
 -- from the offset on stand the bytes that `record_block` gives; where it gives none, the offset is 0

@@ -1,6 +1,6 @@
 -- S-66, S-87: what the exports for BC7 answer: the calls' own answers in a word. Assumes nothing.
 use Rattle.std.specs.Prelude.{◌≡◌, List, ℕ, length}
-use Rattle.bc7.specs.declared.Bc7Pixels.{Bc7Pixels}
+use Rattle.bc7.specs.Call.{Bc7Pixels}
 use Rattle.bc7.specs.Call.{refusal_of, answer_at, bytes_at}
 use Rattle.bc7_blocks.specs.Run.{run_refusal, run_answer, run_bytes}
 use Rattle.knotpasture.specs.Words.{two_bytes}

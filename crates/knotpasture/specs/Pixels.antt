@@ -1,6 +1,6 @@
 -- S-31, S-32, S-87: what the exports that decode BC6H answer: the calls' own answers, packed into one word or in slots. Assumes nothing.
 use Rattle.std.specs.Prelude.{◌≡◌, List, ℕ, ◌+◌, ◌*◌, length}
-use Rattle.bc6.specs.declared.Pixels.{Pixels}
+use Rattle.bc6.specs.Call.{Pixels}
 use Rattle.bc6.specs.Call.{refusal_of, answer_at, values_at}
 use Rattle.bc6_blocks.specs.Run.{run_refusal, run_answer, run_values}
 use Rattle.knotpasture.specs.Words.{two_bytes}

@@ -6,20 +6,19 @@ ghost use Rattle.knotpasture.specs.Fields.{FieldsCalled};
 
 use crate::two_bytes;
 use bc6_numbers::NUMBERS;
-use bcn_spec::Answer;
+use bcn_spec::{Answer, answer_number};
 
 #[unsafe(no_mangle)]
 pub extern "C" fn knot_block_fields(block: &[u8], format: u8, numbers: &mut [u16]) -> u32
     ensures { FieldsCalled block.now format numbers.old result numbers.new }
 {
-    let read = bc6_fields::block_fields(block, format);
-    if read.answer != Answer::DONE {
-        return read.answer as u32;
-    }
+    let fields = match bc6_fields::block_fields(block, format) {
+        Ok(fields) => fields,
+        Err(refusal) => return refusal.number() as u32,
+    };
     if numbers.len() < NUMBERS {
         return Answer::SHORT_OUTPUT as u32;
     }
-    let fields = read.fields;
     bc6_numbers::write_numbers(fields, numbers);
     two_bytes(Answer::DONE, fields.mode)
 }
@@ -28,12 +27,12 @@ pub extern "C" fn knot_block_fields(block: &[u8], format: u8, numbers: &mut [u16
 pub extern "C" fn knot_write_block(numbers: &[u16], out: &mut [u8]) -> u32
     ensures { BlockWritten (fields_from numbers.now) out.old result out.new }
 {
-    bc6_writer::write_block(bc6_numbers::fields_from(numbers), out) as u32
+    answer_number(bc6_writer::write_block(bc6_numbers::fields_from(numbers), out)) as u32
 }
 
 #[unsafe(no_mangle)]
 pub extern "C" fn knot_fields_pixels(numbers: &[u16], out: &mut [u16]) -> u32
     ensures { FieldsShown (fields_from numbers.now) out.old result out.new }
 {
-    bc6_palette::fields_pixels(bc6_numbers::fields_from(numbers), out) as u32
+    answer_number(bc6_palette::fields_pixels(bc6_numbers::fields_from(numbers), out)) as u32
 }

@@ -3,14 +3,17 @@ ghost use Rattle.std.specs.Prelude.{true, false, ◌+◌, ◌*◌};
 ghost use Rattle.bc6_image.specs.Face.{ImagePainted};
 ghost use Rattle.knotpasture.specs.Pixels.{PixelsCalled, RunCalled};
 
-use crate::two_bytes;
+use crate::{give_count, two_bytes};
+use bcn_spec::Answer;
 
 #[unsafe(no_mangle)]
 pub extern "C" fn knot_block_pixels(block: &[u8], format: u8, out: &mut [u16]) -> u32
     ensures { PixelsCalled block.now format out.old result out.new }
 {
-    let pixels = bc6::block_pixels(block, format, out);
-    two_bytes(pixels.answer, pixels.mode) + (pixels.infinite as u32) * 0x10000
+    match bc6::block_pixels(block, format, out) {
+        Ok(shown) => two_bytes(Answer::DONE, shown.mode) + (shown.infinite as u32) * 0x10000,
+        Err(refusal) => refusal.number() as u32,
+    }
 }
 
 #[unsafe(no_mangle)]
@@ -23,10 +26,9 @@ pub extern "C" fn knot_blocks_pixels(
 ) -> u32
     ensures { RunCalled blocks.now format out.old result out.new done.new infinite.new }
 {
-    let run = bc6_blocks::blocks_pixels(blocks, format, out);
-    *done = run.blocks;
-    *infinite = run.infinite;
-    run.answer as u32
+    let told = bc6_blocks::blocks_pixels(blocks, format, out);
+    *infinite = told.map_or(0, |shown| shown.infinite);
+    give_count(told.map(|shown| shown.blocks), done)
 }
 
 #[unsafe(no_mangle)]
@@ -41,9 +43,10 @@ pub extern "C" fn knot_face_pixels(
 ) -> u32
     ensures { ImagePainted false blocks.now width height format out.old pitch (record { answer = result; infinite = infinite.new }) out.new }
 {
-    let face = bc6_image::face_pixels(blocks, width, height, format, out, pitch);
-    *infinite = face.infinite;
-    face.answer as u32
+    give_count(
+        bc6_image::face_pixels(blocks, width, height, format, out, pitch),
+        infinite,
+    )
 }
 
 #[unsafe(no_mangle)]
@@ -58,7 +61,8 @@ pub extern "C" fn knot_face_rgba(
 ) -> u32
     ensures { ImagePainted true blocks.now width height format out.old pitch (record { answer = result; infinite = infinite.new }) out.new }
 {
-    let face = bc6_image::face_rgba(blocks, width, height, format, out, pitch);
-    *infinite = face.infinite;
-    face.answer as u32
+    give_count(
+        bc6_image::face_rgba(blocks, width, height, format, out, pitch),
+        infinite,
+    )
 }

@@ -7,7 +7,7 @@ ghost use Rattle.store_spec.specs.Twins.{first_twin};
 ghost use Rattle.store_twins.specs.Strict.{first_damaged};
 ghost use Rattle.knotpasture.specs.Store.{reading_word, offset_at, twins_word, TwinsCalled, StrictCalled, TwinsInCalled};
 
-use store_records::{Record, RecordReading};
+use store_records::Record;
 use store_spec::TwinList;
 
 #[unsafe(no_mangle)]
@@ -16,9 +16,8 @@ pub extern "C" fn knot_record_at(store: &[u8], n: usize) -> u64
 {
     let reading = store_records::record_at(store, n);
     match reading {
-        RecordReading::Record(record) => (record.format as u64) * 0x100
-            + (record.tile as u64) * 0x100000000,
-        RecordReading::Refused(number) => number as u64,
+        Ok(record) => (record.format as u64) * 0x100 + (record.tile as u64) * 0x100000000,
+        Err(refusal) => refusal.number() as u64,
     }
 }
 
@@ -26,7 +25,7 @@ pub extern "C" fn knot_record_at(store: &[u8], n: usize) -> u64
 pub extern "C" fn knot_record_block(store: &[u8], n: usize) -> usize
     ensures { result ≡ offset_at (record_refusal store.now n) n }
 {
-    let RecordReading::Record(_) = store_records::record_at(store, n) else {
+    let Ok(_) = store_records::record_at(store, n) else {
         return 0;
     };
     n * Record::SIZE + Record::HEAD

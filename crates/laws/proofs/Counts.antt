@@ -5,10 +5,10 @@ use Prim.Native.Nat.{ℕ, zero, suc, ◌+◌, ◌≤◌, ◌<◌}
 use native.Mathlib.Nat.{add-zero}
 use native.Mathlib.Numerals.{add-one}
 use native.Mathlib.Omega.{arith}
-use borrow.Author.Tests.{eq-eqb, ne_eqb}
+use borrow.Author.Tests.{ne_eqb}
 use lib.Dec.{eqb}
 use lib.ListN.{length, get_or, take}
-use lib.Seq.{take-suc, take_all}
+use lib.Seq.{take-suc}
 use Rattle.laws.specs.Pick.{pick}
 use Rattle.laws.specs.Made.{made, count_of, join, total}
 use Rattle.laws.proofs.Rows.{join_last}
@@ -22,22 +22,9 @@ pub count_last : (v : ℕ) (xs : List ℕ) (x : ℕ) → count_of v (xs ++ (x �
 unfolding count_of
 count_last v xs x = count_append v xs (x ∷ []) ∙ ap (λ (y : ℕ). count_of v xs + y) (add-zero _)
 
-pub count_none : (v : ℕ) (l : List ℕ) → 0 ≡ count_of v (take 0 l)
-unfolding count_of
-count_none v l = refl
-
 module _ (v : ℕ) (l : List ℕ) (i : ℕ) (h : i < length l) where
   step : count_of v (take (i + 1) l) ≡ count_of v (take i l) + pick (eqb (get_or l i 0) v) 1 0
   step = rw (add-one, take-suc l i 0) (count_last v (take i l) (get_or l i 0))
-
-  pub count_hit : (n : ℕ) → n ≡ count_of v (take i l) → get_or l i 0 ≡ v → n + 1 ≡ count_of v (take (i + 1) l)
-  count_hit n e q = rw (step, eq-eqb (get_or l i 0) v q) (omega arith)
-
-  pub count_miss : (n : ℕ) → n ≡ count_of v (take i l) → (get_or l i 0 ≡ v → ⊥) → n ≡ count_of v (take (i + 1) l)
-  count_miss n e q = rw (step, ne_eqb (get_or l i 0) v q) (omega arith)
-
-pub count_all : (v : ℕ) (l : List ℕ) (n i : ℕ) → n ≡ count_of v (take i l) → length l ≤ i → n ≡ count_of v l
-count_all v l n i e h = e ∙ ap (count_of v) (take_all i l h)
 
 -- a list whose elements are 0, 1 or 2: the three counts together are its length
 pub count_three : (f : ℕ → ℕ) → ((k : ℕ) → f k ≤ 2) → (n : ℕ) → count_of 0 (made f n) + count_of 1 (made f n) + count_of 2 (made f n) ≡ n

@@ -2,42 +2,12 @@
 -- Assumes nothing.
 use mathlib.Core.Path.{◌≡◌, sym, ◌∙◌, ap, ap₂}
 use mathlib.Core.List.{List, [], ◌++◌, append-nil, append_assoc}
-use Prim.Native.Nat.{ℕ, ◌+◌, ◌-◌, ◌≤◌, ◌<◌}
-use native.Mathlib.Numerals.{add-one}
+use Prim.Native.Nat.{ℕ, ◌+◌, ◌-◌}
 use native.Mathlib.Omega.{arith}
-use lib.ListN.{length, get_or, take, drop, set, length-append, length-take, length-drop, drop_of_length-le, get_or-append}
-use lib.Seq.{take_all, take_at, drop_at, drop-drop, get_or-take, get_or-drop, paste, paste-suc}
+use lib.ListN.{length, take, drop, length-drop, drop_of_length-le}
+use lib.Seq.{take_all, take_at, drop_at, drop-drop, paste}
 use Rattle.std.specs.List.{copy_within}
 use borrow.Rule.Slice.PartMut.{mid_of, put_mid}
-
--- ---- a turn
-
-turn : (s lent out : List ℕ) (to k byte : ℕ) → out ≡ paste lent to s k → byte ≡ get_or s k 0 → to + k < length lent → k < length s
-    → set out (to + k) byte ≡ paste lent to s (k + 1)
-turn s lent out to k byte e b l m =
-    ap₂ (λ (t : List ℕ) (x : ℕ). set t (to + k) x) e b ∙ paste-suc lent to s k 0 l m ∙ ap (paste lent to s) (sym (add-one k))
-
-module _ (lent out : List ℕ) (at to size k byte : ℕ) where
-  -- of bytes from elsewhere
-  pub part_more : (from : List ℕ) → out ≡ paste lent to (drop at from) k → byte ≡ get_or from (at + k) 0 → k < size → at + size ≤ length from
-      → to + size ≤ length lent → set out (to + k) byte ≡ paste lent to (drop at from) (k + 1)
-  part_more from e b h l m =
-      turn (drop at from) lent out to k byte e (b ∙ sym (get_or-drop at from k 0)) (omega arith) (simp length-drop (omega arith))
-
-  -- of earlier ones of the lent bytes themselves
-  pub within_more : out ≡ paste lent to (drop at lent) k → byte ≡ get_or out (at + k) 0 → k < size → at + size ≤ to → to + size ≤ length lent
-      → set out (to + k) byte ≡ paste lent to (drop at lent) (k + 1)
-  within_more e b h l m = part_more lent e (b ∙ same) h (omega arith) m
-    where
-      head : at + k < length (take to lent)
-      head = simp length-take (omega arith)
-
-      same : get_or out (at + k) 0 ≡ get_or lent (at + k) 0
-      same =
-          ap (λ (t : List ℕ). get_or t (at + k) 0) e
-          ∙ get_or-append (take to lent ++ take k (drop at lent)) (drop (to + k) lent) 0 (at + k) (simp length-append (omega (arith, head)))
-          ∙ get_or-append (take to lent) (take k (drop at lent)) 0 (at + k) head
-          ∙ get_or-take to lent (at + k) 0 (omega arith)
 
 -- ---- what stands at the front
 

@@ -11,7 +11,7 @@ use Rattle.laws.specs.Made.{made, join}
 use Rattle.laws.proofs.Tests.{cases}
 use Rattle.bc6h_spec.specs.Picture.{is_signed}
 use Rattle.bc6h_spec.specs.Block.{pixels_of}
-use Rattle.bc6.specs.declared.Pixels.{Pixels}
+use Rattle.bc6.specs.Call.{Pixels}
 use Rattle.bc6.specs.Call.{Painted}
 use Rattle.bc6.proofs.Values.{unsigned_highest, signed_highest}
 use Rattle.bcn_spec.specs.Bits.{block_at}

@@ -2,7 +2,6 @@
 use mathlib.Core.Path.{◌≡◌, ◌∙◌, sym, ap}
 use mathlib.Core.List.{List, ◌++◌}
 use Prim.Native.Nat.{ℕ, suc, ◌+◌, ◌-◌, ◌*◌, ◌/◌, ◌%◌, ◌≤◌, ◌<◌}
-use native.Mathlib.Nat.{mul-le-mul}
 use native.Mathlib.Omega.{arith}
 use lib.ListN.{length, get_or, drop}
 use borrow.Author.Tests.{lt-ltb, le-ltb, ltb-true, ltb-false, not-false}
@@ -23,9 +22,6 @@ use Rattle.probe_faces.specs.Face.{row_value, face_row, face_of, face_checks, fa
 use Rattle.probe_faces.specs.Strip.{four_rows}
 use Rattle.laws.proofs.Joined.{run_length, run_value}
 use Rattle.probe_faces.proofs.Strips.{row_length, four_length, by_fours}
-
-pub square_small : (edge : ℕ) → edge ≤ 16 → 48 * edge * edge ≤ 12288
-square_small edge h = mul-le-mul {n₁ = 48 * edge} {m₁ = edge} {n₂ = 768} {m₂ = 16} (omega arith) h
 
 pub face_length : (store : List ℕ) (edge face : ℕ) → length (face_of store edge face) ≡ 48 * edge * edge
 unfolding face_of

@@ -7,7 +7,7 @@ ghost use Rattle.probe_places.specs.Faults.{first_fault};
 ghost use Rattle.probe_places.specs.Places.{place_size, places_in};
 ghost use Rattle.probe_moves.specs.Moves.{placed_at, placed_store, old_at, old_store, back_refusal, placing_fault, unplacing_fault, moved_at, PlacedStore, UnplacedStore};
 
-use bcn_spec::Answer;
+use bcn_spec::{Answer, answer_number};
 use probe_places::{Fault, Place, place_at, place_record_refusal};
 use store_records::{Record, record_at, record_count};
 
@@ -49,7 +49,7 @@ fn first_old_fault(old: &[u8]) -> Fault
 {
     let count = record_count(old);
     for n in 0..count {
-        let refusal = record_at(old, n).number();
+        let refusal = answer_number(record_at(old, n));
         if refusal != Answer::DONE {
             return Fault {
                 answer: refusal,

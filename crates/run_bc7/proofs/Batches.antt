@@ -9,7 +9,7 @@ use borrow.Author.Tests.{eq-eqb, ne_eqb, eqb-true, eqb-false}
 use Rattle.laws.specs.Made.{made}
 use Rattle.laws.proofs.Tests.{cases}
 use Rattle.bcn_spec.specs.Answers.{done, uneven_blocks}
-use Rattle.bc7_blocks.specs.declared.Bc7BlocksPixels.{Bc7BlocksPixels}
+use Rattle.bc7_blocks.specs.Run.{Bc7BlocksPixels}
 use Rattle.bc7_blocks.specs.Run.{run_refusal, RunPainted}
 use Rattle.bc7_blocks.proofs.Calls.{blocks_refused, run_when}
 use Rattle.run_bc7.specs.Batch.{blocks_taken, Decoded}

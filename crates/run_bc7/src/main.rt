@@ -5,7 +5,7 @@
 ghost use Rattle.std.specs.Prelude.{◌*◌, ◌/◌, ◌≤◌, length};
 ghost use Rattle.run_bc7.specs.Batch.{Decoded};
 
-use bc7::Bc7Pixels;
+use bc7::Shown;
 use run_streams::read_full;
 use std::io;
 
@@ -14,8 +14,10 @@ fn decode_batch(input: &[u8], out: &mut [u8]) -> usize
     requires { 64 * (length input.now / 16) ≤ length out.old }
     ensures { Decoded input.now out.old result out.new }
 {
-    let run = bc7_blocks::bc7_blocks_pixels(input, out);
-    Bc7Pixels::BYTES * run.blocks
+    match bc7_blocks::bc7_blocks_pixels(input, out) {
+        Ok(blocks) => Shown::BYTES * blocks,
+        Err(_) => 0,
+    }
 }
 
 // The same, written in one go.

@@ -2,7 +2,7 @@
 use Rattle.std.specs.Prelude.{ℕ, ◌-◌, ◌/◌, eqb, ltb, get_or}
 use Rattle.laws.specs.Pick.{pick}
 use Rattle.raw_bytes.specs.Bytes.{low_or_high}
-use Rattle.bc6_fields.specs.declared.FieldsRead.{FieldsRead}
+use Rattle.bc6_fields.specs.Call.{FieldsRead}
 
 -- answer, format, mode, twelve endpoints (two bytes each, low byte first), partition, region count, sixteen indices: byte k
 unfoldable pub fields_byte : FieldsRead → ℕ → ℕ

@@ -7,7 +7,8 @@ ghost use Rattle.std.specs.Prelude.{◌≡◌, ◌++◌, ◌+◌, ◌*◌, ◌/�
 ghost use Rattle.laws.specs.Made.{made};
 ghost use Rattle.run_fields.specs.Record.{fields_byte};
 
-use bc6_fields::FieldsRead;
+use bc6h_spec::Fields;
+use bcn_spec::Answer;
 use raw_bytes::low_or_high;
 use run_streams::read_full;
 use std::io;
@@ -20,13 +21,12 @@ const RECORD_SIZE: usize = 45;
 const BATCH: usize = 1024;
 
 // Byte k of what is written for a block.
-fn byte_of(read: FieldsRead, k: usize) -> u8
+fn byte_of(answer: u8, fields: Fields, k: usize) -> u8
     requires { k < 45 }
-    ensures { result ≡ fields_byte read k }
+    ensures { result ≡ fields_byte (record { answer = answer; fields = fields }) k }
 {
-    let fields = read.fields;
     if k == 0 {
-        return read.answer;
+        return answer;
     }
     if k == 1 {
         return fields.format;
@@ -48,12 +48,12 @@ fn byte_of(read: FieldsRead, k: usize) -> u8
     indices[k - 29]
 }
 
-fn write_record(read: FieldsRead, out: &mut [u8])
+fn write_record(answer: u8, fields: Fields, out: &mut [u8])
     requires { 45 ≤ length out.old }
-    ensures { out.new ≡ made (fields_byte read) 45 ++ drop 45 out.old }
+    ensures { out.new ≡ made (fields_byte (record { answer = answer; fields = fields })) 45 ++ drop 45 out.old }
 {
     for (k, byte) in out[..RECORD_SIZE].iter_mut().enumerate() {
-        *byte = byte_of(read, k);
+        *byte = byte_of(answer, fields, k);
     }
 }
 
@@ -67,8 +67,10 @@ fn write_records(input: &[u8], out: &mut [u8]) -> usize
         .chunks(INPUT_SIZE)
         .zip(out.chunks_exact_mut(RECORD_SIZE))
     {
-        let read = bc6_fields::block_fields(&piece[1..], piece[0]);
-        write_record(read, record);
+        match bc6_fields::block_fields(&piece[1..], piece[0]) {
+            Ok(fields) => write_record(Answer::DONE, fields, record),
+            Err(refusal) => write_record(refusal.number(), Fields::none(), record),
+        }
     }
     RECORD_SIZE * count
 }

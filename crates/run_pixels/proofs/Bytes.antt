@@ -9,7 +9,7 @@ use borrow.Author.Tests.{eq-eqb, ne_eqb}
 use Rattle.std.specs.Int.{w16, to_le_bytes}
 use Rattle.laws.specs.Made.{made}
 use Rattle.laws.proofs.Rows.{made_store}
-use Rattle.bc6.specs.declared.Pixels.{Pixels}
+use Rattle.bc6.specs.Call.{Pixels}
 use Rattle.bc6.specs.Call.{refusal_of, answer_at, values_at, Painted}
 use Rattle.run_pixels.specs.Shown.{value_byte, shown_bytes, piece_format, piece_block, record_bytes}
 

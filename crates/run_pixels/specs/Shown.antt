@@ -2,7 +2,7 @@
 use Rattle.std.specs.Prelude.{List, ◌∷◌, ℕ, ◌/◌, ◌%◌, length, get_or, drop, replicate}
 use Rattle.laws.specs.Made.{made}
 use Rattle.raw_bytes.specs.Bytes.{low_or_high}
-use Rattle.bc6.specs.declared.Pixels.{Pixels}
+use Rattle.bc6.specs.Call.{Pixels}
 use Rattle.bc6.specs.Call.{refusal_of, answer_at, values_at}
 
 -- byte k of the values: of value k div 2 the low byte at an even k, the high one at an odd k

@@ -7,7 +7,8 @@ ghost use Rattle.std.specs.Prelude.{◌≡◌, ◌++◌, ◌+◌, ◌*◌, ◌/�
 ghost use Rattle.laws.specs.Made.{made};
 ghost use Rattle.run_pixels.specs.Shown.{value_byte, shown_bytes, record_bytes};
 
-use bc6::Pixels;
+use bc6::Shown;
+use bcn_spec::Answer;
 use run_streams::read_full;
 use std::io;
 
@@ -15,6 +16,12 @@ use std::io;
 const SIZE: usize = 17;
 
 const SHOWN: usize = 100;
+
+// What is shown of a block that is refused.
+const NOTHING: Shown = Shown {
+    mode: 0,
+    infinite: 0,
+};
 
 // The values' bytes, the low one of each first.
 fn put_values(values: [u16; 48], out: &mut [u8])
@@ -28,12 +35,12 @@ fn put_values(values: [u16; 48], out: &mut [u8])
     }
 }
 
-fn put_shown(shown: Pixels, values: [u16; 48], out: &mut [u8])
+fn put_shown(answer: u8, shown: Shown, values: [u16; 48], out: &mut [u8])
     requires { 100 ≤ length out.old }
-    ensures { out.new ≡ shown_bytes shown values ++ drop 100 out.old }
+    ensures { out.new ≡ shown_bytes (record { answer = answer; mode = shown.mode; infinite = shown.infinite }) values ++ drop 100 out.old }
 {
     let [low, high] = shown.infinite.to_le_bytes();
-    out[0] = shown.answer;
+    out[0] = answer;
     out[1] = shown.mode;
     out[2] = low;
     out[3] = high;
@@ -46,8 +53,10 @@ fn decode_record(piece: &[u8], out: &mut [u8])
 {
     let format = piece[0];
     let mut values = [0u16; 48];
-    let shown = bc6::block_pixels(&piece[1..], format, &mut values);
-    put_shown(shown, values, out);
+    match bc6::block_pixels(&piece[1..], format, &mut values) {
+        Ok(shown) => put_shown(Answer::DONE, shown, values, out),
+        Err(refusal) => put_shown(refusal.number(), NOTHING, values, out),
+    }
 }
 
 // What is written for the records of `input`, and how many bytes that is.

@@ -11,6 +11,7 @@ ghost use Rattle.run_show.specs.Picture.{input_size, output_size, number_in, fie
 
 use bc6_numbers::NUMBERS;
 use bc6h_spec::{Fields, Picture};
+use bcn_spec::answer_number;
 use raw_bytes::{low_or_high, u16_at};
 use run_streams::{Input, first_bytes, read_input, write_text};
 
@@ -65,8 +66,8 @@ fn show(input: &[u8], out: &mut [u8])
 {
     let fields = fields_in(input);
     let mut values = [0u16; Picture::VALUES];
-    let answer = bc6_palette::fields_pixels(fields, &mut values);
-    put_answer(answer, values, out);
+    let told = bc6_palette::fields_pixels(fields, &mut values);
+    put_answer(answer_number(told), values, out);
 }
 
 // What goes out is the definition of what was read.

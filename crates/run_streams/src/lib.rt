@@ -115,8 +115,8 @@ fn write_answer<const INPUT: usize, const OUTPUT: usize, P: Program<INPUT, OUTPU
     write_text(rt, out, end);
 }
 
-// Runs a program: reads standard input into a buffer with more room than its largest input, and writes the answer. Where the input could not
-// be read, nothing is written.
+// Runs a program: reads standard input into a buffer with more room than its largest input, and writes the answer to standard output. Where
+// the input could not be read, all that is written is a line on standard error.
 pub fn run<const INPUT: usize, const OUTPUT: usize, P: Program<INPUT, OUTPUT>>(
     rt: &(impl io::Input + Print + Eprint),
 )

@@ -10,6 +10,7 @@ ghost use Rattle.run_write.specs.Record.{number_in, fields_in, answer_byte, reco
 
 use bc6_numbers::NUMBERS;
 use bc6h_spec::Fields;
+use bcn_spec::answer_number;
 use raw_bytes::u16_at;
 use run_streams::read_full;
 use std::io;
@@ -71,8 +72,8 @@ fn write_record(piece: &[u8], out: &mut [u8])
 {
     let fields = fields_in(piece);
     let mut block = [0u8; 16];
-    let answer = bc6_writer::write_block(fields, &mut block);
-    put_answer(answer, block, out);
+    let told = bc6_writer::write_block(fields, &mut block);
+    put_answer(answer_number(told), block, out);
 }
 
 // What is written for the records of `input`, and how many bytes that is.

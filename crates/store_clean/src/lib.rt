@@ -11,7 +11,7 @@ ghost use Rattle.store_clean.specs.Links.{bucket_count, block_mixed, bucket_of, 
 
 use bcn_spec::Answer;
 use store_marks::list_refusal;
-use store_records::{Record, RecordReading, record_at, record_block, record_count};
+use store_records::{Record, record_at, record_block, record_count};
 use store_scratch::{mixed_on, mode_at};
 use store_spec::TwinList;
 
@@ -66,7 +66,7 @@ pub fn link_records(store: &[u8], links: &mut [u16])
     let count = record_count(store);
     let mut heads = [0u16; Cleaned::BUCKETS];
     for n in 0..count {
-        let RecordReading::Record(found) = record_at(store, n) else {
+        let Ok(found) = record_at(store, n) else {
             continue;
         };
         let bucket = bucket_of(found.format, record_block(store, n));
@@ -79,10 +79,10 @@ pub fn link_records(store: &[u8], links: &mut [u16])
 fn is_repeat(store: &[u8], n: usize, earlier: usize) -> bool
     ensures { result ≡ repeats store.now n earlier }
 {
-    let RecordReading::Record(again) = record_at(store, n) else {
+    let Ok(again) = record_at(store, n) else {
         return false;
     };
-    let RecordReading::Record(kept) = record_at(store, earlier) else {
+    let Ok(kept) = record_at(store, earlier) else {
         return false;
     };
     if again.format != kept.format {
@@ -99,7 +99,7 @@ fn is_repeat(store: &[u8], n: usize, earlier: usize) -> bool
 pub fn first_of(store: &[u8], n: usize) -> usize
     ensures { result ≡ first_of store.now n }
 {
-    let RecordReading::Record(_) = record_at(store, n) else {
+    let Ok(_) = record_at(store, n) else {
         return n;
     };
     (0..n)
@@ -114,7 +114,7 @@ pub fn repeated_along(store: &[u8], links: &[u16], n: usize) -> usize
     requires linked { Linked store.now (records_in store.now) links.now }
     ensures { Met store.now n result }
 {
-    let RecordReading::Record(_) = record_at(store, n) else {
+    let Ok(_) = record_at(store, n) else {
         return n;
     };
     if mode_at(store, n) == 0 {

@@ -5,7 +5,7 @@ ghost use Rattle.std.specs.Prelude.{◌≡◌};
 ghost use Rattle.store_covered.specs.CleanUp.{covered_pair, covered, by_demand_3};
 
 use bc6_fields::fields_of;
-use store_records::{RecordReading, record_at, record_block};
+use store_records::{record_at, record_block};
 use store_trust::is_trusted;
 
 // The copies theorem covers two blocks of a format.
@@ -30,10 +30,10 @@ fn is_covered_pair(format: u8, block: &[u8], earlier: &[u8]) -> bool
 pub fn is_covered(store: &[u8], n: usize, earlier: usize) -> bool
     ensures { result ≡ covered store.now n earlier }
 {
-    let RecordReading::Record(found) = record_at(store, n) else {
+    let Ok(found) = record_at(store, n) else {
         return false;
     };
-    let RecordReading::Record(kept) = record_at(store, earlier) else {
+    let Ok(kept) = record_at(store, earlier) else {
         return false;
     };
     if found.format != kept.format {
@@ -53,7 +53,7 @@ pub fn is_by_demand_3(store: &[u8], n: usize, earlier: usize) -> bool
     if !is_covered(store, n, earlier) {
         return false;
     }
-    let RecordReading::Record(found) = record_at(store, n) else {
+    let Ok(found) = record_at(store, n) else {
         return false;
     };
     if found.format != 0 {

@@ -17,7 +17,7 @@ use Rattle.bc6h_spec.specs.Fields.{mode_in, mode_of}
 use Rattle.store_records.specs.Store.{record_refusal, part_at, most_records}
 use Rattle.store_records.proofs.Refusals as plain
 use Rattle.store_records.proofs.Readings as plain-readings
-use Rattle.probe_places.specs.Places.{place_size, places_in}
+use Rattle.probe_places.specs.Places.{place_size}
 use Rattle.probe_places.specs.Readings.{placed_refusal, placed_part}
 use Rattle.probe_places.proofs.Readings as placed
 use Rattle.store_faulty.specs.Faulty.{RecordForm, plain_form, placed_form, form_of, count_in, store_checks, store_refusal, is_refused, is_damaged, cause_of, how_many, counts_of, Counted}
@@ -68,9 +68,6 @@ pub few_records : (byte : ℕ) (store : List ℕ) → store_refusal (form_of byt
 few_records byte store z =
     by_form byte (λ f. store_refusal f (length store) ≡ done → count_in f store ≤ most_records)
     (λ e. omega (arith, fits placed_form (length store) e)) (λ e. omega (arith, fits plain_form (length store) e)) z
-
-pub placed_below : (byte : ℕ) (store : List ℕ) {n : ℕ} → byte ≡ place_size → n < count_in (form_of byte) store → n < places_in store
-placed_below byte store e h = rw (is_placed byte e) at h
 
 -- ---- a record's block and mode
 

@@ -8,7 +8,7 @@ ghost use Rattle.bc6h_spec.specs.Fields.{mode_of};
 ghost use Rattle.store_faulty.specs.Faulty.{form_of, count_in, store_refusal, is_refused, is_damaged, cause_of, counts_of};
 
 use bc6_mode::extract_mode;
-use bcn_spec::Answer;
+use bcn_spec::{Answer, answer_number};
 use bcn_util::BitStream;
 use probe_places::{Place, placed_record_at, placed_record_block};
 use store_records::{Record, record_at, record_block};
@@ -65,7 +65,7 @@ impl Form for Plain {
     }
 
     fn refusal(store: &[u8], n: usize) -> u8 {
-        record_at(store, n).number()
+        answer_number(record_at(store, n))
     }
 
     fn block(store: &[u8], n: usize) -> &[u8] {

@@ -9,7 +9,7 @@ ghost use Rattle.store_spec.specs.Scratch.{scratch_entry, Pictured, Kept};
 ghost use Rattle.store_spec.specs.Twins.{holding, alike, marks_of, list_refusal, scratch_refusal};
 
 use bcn_spec::Answer;
-use store_records::{Record, RecordReading, record_at, record_count};
+use store_records::{Record, record_at, record_count};
 use store_scratch::{mode_at, picture_in};
 use store_spec::{Mark, TwinList};
 
@@ -17,7 +17,7 @@ use store_spec::{Mark, TwinList};
 pub fn holds_picture(store: &[u8], n: usize, format: u8) -> bool
     ensures { result ≡ holding store.now n format }
 {
-    let RecordReading::Record(found) = record_at(store, n) else {
+    let Ok(found) = record_at(store, n) else {
         return false;
     };
     found.format == format && mode_at(store, n) != 0
@@ -49,7 +49,7 @@ pub fn mark_records(store: &[u8], scratch: &[u16], marks: &mut [u8])
 {
     let count = record_count(store);
     for n in 0..count {
-        let RecordReading::Record(found) = record_at(store, n) else {
+        let Ok(found) = record_at(store, n) else {
             marks[n] = Mark::BAD;
             continue;
         };

@@ -7,8 +7,10 @@ use lib.ListN.{length}
 use borrow.Author.Tests.{lt-ltb, le-ltb}
 use Rattle.bcn_spec.specs.Answers.{done}
 use Rattle.store_records.specs.declared.Record.{Record}
-use Rattle.store_records.specs.declared.RecordReading.{RecordReading}
-use Rattle.store_records.specs.declared.RecordReading.TheVariants as reading
+use Rattle.std.specs.Prelude.{Result, Ok, Err}
+use Rattle.bcn_spec.specs.Refusals.{refusal_number}
+use Rattle.bcn_spec.specs.declared.Refusal.{Refusal}
+use Rattle.bcn_spec.proofs.Refusals.{same_refusal, positive}
 use Rattle.store_records.specs.Store.{records_in, tile_of, format_of, tile_at, block_of, record_refusal, Unrefused, values_at, part_at, RecordRead}
 use Rattle.store_records.proofs.Refusals.{known, block_length}
 
@@ -27,18 +29,22 @@ one_tile store n d e = d ∙ sym e
 
 -- ---- the record call
 
-pub read_refused : (store : List ℕ) (n k : ℕ) → record_refusal store n ≡ suc k → RecordRead store n (reading.Refused (suc k))
-read_refused store n k e = record { answers = sym e; gives = rw e }
+-- the values of a refusal's number are none
+none_of : (store : List ℕ) (n : ℕ) (r : Refusal) → values_at (refusal_number r) store n ≡ []
+none_of store n r = ap (λ a. values_at a store n) (positive r)
+
+pub read_refused : (store : List ℕ) (n : ℕ) (r : Refusal) → record_refusal store n ≡ refusal_number r → RecordRead store n (Err r)
+read_refused store n r e = record { answers = sym e; gives = sym (rw e (none_of store n r)) }
 
 pub read_record : (store : List ℕ) (n tile : ℕ) → Unrefused store n → tile ≡ tile_at store n
-    → RecordRead store n (reading.Record (record { tile = tile; format = format_of store n }))
+    → RecordRead store n (Ok (record { tile = tile; format = format_of store n }))
 read_record store n tile u e = record { answers = sym u; gives = rw (u, e ∙ sym (tile_there store n (known store n u).below)) }
 
 -- a reading that is a record: it is not refused, and its format is the store's
-pub unrefused : {store : List ℕ} {n : ℕ} {x : RecordReading} {r : Record} → RecordRead store n x → x ≡ reading.Record r → Unrefused store n
+pub unrefused : {store : List ℕ} {n : ℕ} {x : Result Record Refusal} {r : Record} → RecordRead store n x → x ≡ Ok r → Unrefused store n
 unrefused d e = cc d.answers
 
-pub format_is : {store : List ℕ} {n : ℕ} {x : RecordReading} {r : Record} → RecordRead store n x → x ≡ reading.Record r → r.format ≡ format_of store n
+pub format_is : {store : List ℕ} {n : ℕ} {x : Result Record Refusal} {r : Record} → RecordRead store n x → x ≡ Ok r → r.format ≡ format_of store n
 format_is {store} {n} {x} {r} d e =
     let u = unrefused d e in
     let v : r.tile ∷ r.format ∷ [] ≡ tile_of store n ∷ format_of store n ∷ [] = rw (e, u) at d.gives in
@@ -49,20 +55,20 @@ refused_at : (store : List ℕ) (n a k : ℕ) → [] ≡ values_at a store n →
 refused_at store n zero k v z = omega (arith, ap length v)
 refused_at store n (suc a) k v z = omega arith
 
-pub refused : {store : List ℕ} {n k : ℕ} {x : RecordReading} → RecordRead store n x → x ≡ reading.Refused k → Unrefused store n → ⊥
-refused {store} {n} {k} {x} d e u = refused_at store n (record_refusal store n) k (rw e at d.gives) u
+pub refused : {store : List ℕ} {n : ℕ} {k : Refusal} {x : Result Record Refusal} → RecordRead store n x → x ≡ Err k → Unrefused store n → ⊥
+refused {store} {n} {k} {x} d e u = refused_at store n (record_refusal store n) 0 (rw e at d.gives) u
 
-same_reading : (a b : RecordReading) (store : List ℕ) (n : ℕ) → RecordRead store n a → RecordRead store n b → a ≡ b
-same_reading (reading.Record q) (reading.Record r) store n d e =
+same_reading : (a b : Result Record Refusal) (store : List ℕ) (n : ℕ) → RecordRead store n a → RecordRead store n b → a ≡ b
+same_reading (Ok q) (Ok r) store n d e =
     let v : q.tile ∷ q.format ∷ [] ≡ r.tile ∷ r.format ∷ [] = d.gives ∙ sym e.gives in
     let t : q.tile ≡ r.tile = cc in
     let f : q.format ≡ r.format = cc in
-    ap₂ (λ x y. reading.Record (record { tile = x; format = y })) t f
-same_reading (reading.Record q) (reading.Refused k) store n d e = absurd (refused e refl (sym d.answers))
-same_reading (reading.Refused k) (reading.Record r) store n d e = absurd (refused d refl (sym e.answers))
-same_reading (reading.Refused j) (reading.Refused k) store n d e = ap reading.Refused (d.answers ∙ sym e.answers)
+    ap₂ (λ x y. Ok (record { tile = x; format = y })) t f
+same_reading (Ok q) (Err k) store n d e = absurd (refused e refl (sym d.answers))
+same_reading (Err k) (Ok r) store n d e = absurd (refused d refl (sym e.answers))
+same_reading (Err j) (Err k) store n d e = ap Err (same_refusal (d.answers ∙ sym e.answers))
 
-pub one_reading : {store : List ℕ} {n : ℕ} {a b : RecordReading} → RecordRead store n a → RecordRead store n b → a ≡ b
+pub one_reading : {store : List ℕ} {n : ℕ} {a b : Result Record Refusal} → RecordRead store n a → RecordRead store n b → a ≡ b
 one_reading {store} {n} {a} {b} d e = same_reading a b store n d e
 
 -- ---- the block call

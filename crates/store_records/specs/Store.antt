@@ -1,12 +1,13 @@
 -- S-39 to S-41: a store is a list of bytes, a record every 24 of them. What the record call and the block call answer. Assumes nothing.
-use Rattle.std.specs.Prelude.{◌≡◌, Bool, not, List, [], ◌∷◌, ℕ, zero, suc, ◌+◌, ◌*◌, ◌/◌, ◌%◌, eqb, ltb, length, get_or, take, drop}
+use Rattle.std.specs.Prelude.{◌≡◌, Bool, not, List, [], ◌∷◌, ℕ, zero, suc, ◌+◌, ◌*◌, ◌/◌, ◌%◌, eqb, ltb, length, get_or, take, drop, Result, Ok, Err}
 use Rattle.laws.specs.Pick.{pick, both}
 use Rattle.laws.specs.Checks.{first_met}
 use Rattle.bcn_spec.specs.Answers.{done, bad_format, long_store, uneven_store, spare_byte, no_record}
 use Rattle.bcn_spec.specs.Bits.{block_size}
 use Rattle.raw_bytes.specs.Bytes.{low_first}
-use Rattle.store_records.specs.declared.RecordReading.{RecordReading}
-use Rattle.store_records.specs.declared.RecordReading.TheVariants.{Record, Refused}
+use Rattle.bcn_spec.specs.Refusals.{answer_of}
+use Rattle.bcn_spec.specs.declared.Refusal.{Refusal}
+use Rattle.store_records.specs.declared.Record.{Record}
 
 -- S-39: a record has 24 bytes: tile number (0 to 3, low byte first), format (4), zeros (5 to 7), block (8 to 23). A store has no header.
 abbrev pub record_size : ℕ
@@ -63,22 +64,18 @@ record_refusal store n = first_met (record_checks store n)
 abbrev pub Unrefused : List ℕ → ℕ → Type 0
 Unrefused store n = record_refusal store n ≡ done
 
--- The number and the values that each case of a reading stands for.
-abbrev pub reading_number : RecordReading → ℕ
-reading_number (Record r) = done
-reading_number (Refused number) = number
-
-abbrev pub values_of : RecordReading → List ℕ
-values_of (Record r) = r.tile ∷ r.format ∷ []
-values_of (Refused number) = []
+-- The values that each case of a reading stands for.
+abbrev pub values_of : Result Record Refusal → List ℕ
+values_of (Ok r) = r.tile ∷ r.format ∷ []
+values_of (Err refusal) = []
 
 abbrev pub values_at : ℕ → List ℕ → ℕ → List ℕ
 values_at zero store n = tile_of store n ∷ format_of store n ∷ []
 values_at (suc number) store n = []
 
 -- S-40: tile number and format, or the number of the refusal alone.
-pub record RecordRead (store : List ℕ) (n : ℕ) (r : RecordReading) : Type 0 where
-  pub answers : reading_number r ≡ record_refusal store n
+pub record RecordRead (store : List ℕ) (n : ℕ) (r : Result Record Refusal) : Type 0 where
+  pub answers : answer_of r ≡ record_refusal store n
   pub gives : values_of r ≡ values_at (record_refusal store n) store n
 
 -- S-41: the record's sixteen block bytes as a part of the store, empty exactly when `record_at` refuses.

@@ -2,34 +2,15 @@
 #![tactic(auto)]
 
 ghost use Rattle.std.specs.Prelude.{◌≡◌, [], ◌∷◌};
-ghost use Rattle.store_records.specs.Store.{record_size, head_size, store_limit, records_in, tile_at, reading_number, part_at, record_refusal, RecordRead};
+ghost use Rattle.store_records.specs.Store.{record_size, head_size, store_limit, records_in, tile_at, part_at, record_refusal, RecordRead};
 
-use bcn_spec::{Answer, Block};
+use bcn_spec::{Block, Refusal};
 use raw_bytes::u32_at;
 
 #[derive(Clone, Copy)]
 pub struct Record {
     pub tile: u32,
     pub format: u8,
-}
-
-// A record, or the number of a refusal.
-#[derive(Clone, Copy)]
-pub enum RecordReading {
-    Record(Record),
-    Refused(u8),
-}
-
-impl RecordReading {
-    // The number that a reading stands for: 0 for a record.
-    pub fn number(self) -> u8
-        ensures { result ≡ reading_number self }
-    {
-        match self {
-            RecordReading::Record(_) => Answer::DONE,
-            RecordReading::Refused(number) => number,
-        }
-    }
 }
 
 impl Record {
@@ -67,27 +48,27 @@ pub fn tile_at(store: &[u8], n: usize) -> u32
 }
 
 // Record n of a store.
-pub fn record_at(store: &[u8], n: usize) -> RecordReading
+pub fn record_at(store: &[u8], n: usize) -> Result<Record, Refusal>
     ensures { RecordRead store.now n result }
 {
     if store.len() > Record::STORE {
-        return RecordReading::Refused(Answer::LONG_STORE);
+        return Err(Refusal::LongStore);
     }
     if store.len() % Record::SIZE != 0 {
-        return RecordReading::Refused(Answer::UNEVEN_STORE);
+        return Err(Refusal::UnevenStore);
     }
     if n >= record_count(store) {
-        return RecordReading::Refused(Answer::NO_RECORD);
+        return Err(Refusal::NoRecord);
     }
     let at = n * Record::SIZE;
     let format = store[at + 4];
     if format > 1 {
-        return RecordReading::Refused(Answer::BAD_FORMAT);
+        return Err(Refusal::BadFormat);
     }
     if store[at + 5..at + 8] != [0; 3] {
-        return RecordReading::Refused(Answer::SPARE_BYTE);
+        return Err(Refusal::SpareByte);
     }
-    RecordReading::Record(Record {
+    Ok(Record {
         tile: tile_at(store, n),
         format,
     })
@@ -97,7 +78,7 @@ pub fn record_at(store: &[u8], n: usize) -> RecordReading
 pub fn record_block(store: &[u8], n: usize) -> &[u8]
     ensures { result.now ≡ part_at (record_refusal store.now n) store.now n }
 {
-    let RecordReading::Record(_) = record_at(store, n) else {
+    let Ok(_) = record_at(store, n) else {
         return &store[..0];
     };
     let start = n * Record::SIZE + Record::HEAD;

@@ -12,7 +12,7 @@ ghost use Rattle.store_spec.specs.Scratch.{scratch_entry, kind_at, mixed_on, pic
 use bc6_mode::extract_mode;
 use bc6h_spec::Picture;
 use bcn_util::BitStream;
-use store_records::{RecordReading, record_at, record_block, record_count};
+use store_records::{record_at, record_block, record_count};
 use store_spec::TwinList;
 
 // A number made of all but the high bits of another, to which the next values are added.
@@ -81,7 +81,7 @@ pub fn keep_prints(store: &[u8], scratch: &mut [u16])
 {
     let count = record_count(store);
     for n in 0..count {
-        let RecordReading::Record(found) = record_at(store, n) else {
+        let Ok(found) = record_at(store, n) else {
             continue;
         };
         let kind = kind_at(store, n, found.format);

@@ -20,7 +20,7 @@ use Rattle.bc6h_spec.specs.Picture.{is_signed, palette}
 use Rattle.bc6h_spec.specs.Block.{format_number, pixels_of}
 use Rattle.bc6h_spec.proofs.Formats.{number_again}
 use Rattle.bc6h_spec.proofs.Reading.{fields_mode, fields_valid}
-use Rattle.bc6.specs.declared.Pixels.{Pixels}
+use Rattle.bc6.specs.Call.{Pixels}
 use Rattle.bc6.specs.Call.{Painted}
 use Rattle.bc6.proofs.Calls.{done_when, written}
 use Rattle.store_copies.specs.Wide.{regions, last_index}

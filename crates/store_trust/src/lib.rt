@@ -98,7 +98,7 @@ fn palettes_of(block: &[u8], two: bool, format: u8) -> [u16; 48]
 {
     let ramp = ramped(block, two);
     let mut palettes = [0u16; 48];
-    bc6::block_pixels(&ramp, format, &mut palettes);
+    let _ = bc6::block_pixels(&ramp, format, &mut palettes);
     palettes
 }
 

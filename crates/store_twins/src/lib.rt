@@ -14,7 +14,7 @@ use bc6::block_pixels;
 use bc6h_spec::Picture;
 use bcn_spec::Answer;
 use store_marks::{count_of, holds_picture, list_refusal, mark_records, scratch_refusal};
-use store_records::{Record, RecordReading, record_at, record_block, record_count};
+use store_records::{Record, record_at, record_block, record_count};
 use store_scratch::{keep_prints, mode_at};
 use store_spec::{Mark, TwinList};
 
@@ -25,7 +25,7 @@ fn decode_record(store: &[u8], n: usize, format: u8, out: &mut [u16])
     requires value_count_in_bounds { value_count ≤ length out.old }
     ensures { out.new ≡ picture_at store.now n ++ drop value_count out.old }
 {
-    block_pixels(record_block(store, n), format, out);
+    let _ = block_pixels(record_block(store, n), format, out);
 }
 
 // The pictures of all records that are not refused, each at its record's number.
@@ -35,7 +35,7 @@ fn keep_pictures(store: &[u8], pictures: &mut [u16])
 {
     let count = record_count(store);
     for n in 0..count {
-        let RecordReading::Record(found) = record_at(store, n) else {
+        let Ok(found) = record_at(store, n) else {
             continue;
         };
         let start = Picture::VALUES * n;
@@ -97,7 +97,7 @@ fn shows(store: &[u8], n: usize, format: u8, picture: &[u16]) -> bool
 pub fn first_twin(store: &[u8], n: usize) -> usize
     ensures { result ≡ first_twin store.now n }
 {
-    let RecordReading::Record(found) = record_at(store, n) else {
+    let Ok(found) = record_at(store, n) else {
         return n;
     };
     if mode_at(store, n) == 0 {
@@ -116,7 +116,7 @@ pub fn first_twin(store: &[u8], n: usize) -> usize
 fn is_damaged(store: &[u8], n: usize) -> bool
     ensures { result ≡ damaged store.now n }
 {
-    let RecordReading::Record(_) = record_at(store, n) else {
+    let Ok(_) = record_at(store, n) else {
         return false;
     };
     mode_at(store, n) == 0

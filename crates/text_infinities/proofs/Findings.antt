@@ -10,9 +10,9 @@ use Rattle.laws.specs.First.{first_below}
 use Rattle.bcn_spec.specs.Answers.{done}
 use Rattle.bc6h_spec.specs.Picture.{value_count, is_signed}
 use Rattle.bc6h_spec.specs.Block.{infinities_of}
-use Rattle.bc6.specs.declared.Pixels.{Pixels}
+use Rattle.bc6.specs.Call.{Pixels}
 use Rattle.bc6.specs.Call.{Painted}
-use Rattle.bc6.proofs.Calls.{written, done_when, infinities_told}
+use Rattle.bc6.proofs.Calls.{written, done_when, infinities_told, never_refused}
 use Rattle.store_records.specs.Store.{records_in, format_of, tile_at, block_of, record_refusal, Unrefused, part_at, most_records}
 use Rattle.store_records.proofs.Refusals.{known, block_length}
 use Rattle.store_records.proofs.Readings.{part_of}
@@ -22,6 +22,8 @@ use Rattle.store_spec.proofs.Shown.{record_painted, whole_picture}
 use Rattle.text.specs.Text.{field, refusal_line, Written}
 use Rattle.text.proofs.Texts.{then, said}
 use Rattle.text.proofs.Lines as lines
+use Rattle.bcn_spec.specs.declared.Refusal.{Refusal}
+use Rattle.bcn_spec.specs.Refusals.{refusal_number}
 use Rattle.text_infinities.specs.declared.Finding.{Finding}
 use Rattle.text_infinities.specs.Infinities.{infinite_at, finding_at, finding_of, channel_word, finding_line, infinite_line, infinite_lines, records_with, values_with, counts_line, counts_of, infinities_text, Counted}
 
@@ -35,6 +37,14 @@ module _ (store : List ℕ) (n : ℕ) where
   pub nothing : (Unrefused store n → ⊥) → record { infinite = 0; first = value_count } ≡ finding_of store n
   unfolding finding_of
   nothing r = nothing_at (record_refusal store n) r
+
+  pub never : {format : ℕ} {block out after : List ℕ} {r : Pixels} → Unrefused store n → format ≡ format_of store n
+      → block ≡ part_at (record_refusal store n) store n → length out ≡ value_count → Painted block format out r after
+      → (why : Refusal) → r.answer ≡ refusal_number why → ⊥
+  never {format} {block} {out} u f b room p why e =
+      let k = known store n u in
+      let is : block ≡ block_of store n = b ∙ part_of store n u in
+      never_refused p (done_when format (length block) (length out) (omega arith) (ap length is ∙ block_length k) (omega arith)) why e
 
   pub found : {format infinite first : ℕ} {block out after : List ℕ} {r : Pixels} → Unrefused store n → format ≡ format_of store n
       → block ≡ part_at (record_refusal store n) store n → length out ≡ value_count → length after ≡ value_count → Painted block format out r after

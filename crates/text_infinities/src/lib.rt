@@ -13,7 +13,7 @@ use bc6::block_pixels;
 use bc6h_spec::Picture;
 use bcn_spec::Answer;
 use store_marks::list_refusal;
-use store_records::{RecordReading, record_at, record_block, record_count, tile_at};
+use store_records::{record_at, record_block, record_count, tile_at};
 use store_spec::TwinList;
 use text::{put, put_count, put_field, put_refusal};
 
@@ -47,16 +47,18 @@ fn examine(store: &[u8], n: usize) -> Finding
     ensures infinite_bound { result.infinite ≤ 65535 }
     ensures value { result ≡ finding_of store.now n }
 {
-    let RecordReading::Record(found) = record_at(store, n) else {
+    let Ok(found) = record_at(store, n) else {
         return Finding {
             infinite: 0,
             first: Picture::VALUES,
         };
     };
     let mut values = [0u16; Picture::VALUES];
-    let pixels = block_pixels(record_block(store, n), found.format, &mut values);
+    let Ok(shown) = block_pixels(record_block(store, n), found.format, &mut values) else {
+        unreachable!()
+    };
     Finding {
-        infinite: usize::from(pixels.infinite),
+        infinite: usize::from(shown.infinite),
         first: first_infinite(&values),
     }
 }

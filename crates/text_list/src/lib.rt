@@ -10,7 +10,8 @@ ghost use Rattle.text_list.specs.Lines.{hex_triple, shown_rest, refused_rest, li
 
 use bc6::block_pixels;
 use bc6h_spec::Picture;
-use store_records::{RecordReading, record_at, record_block, record_count, tile_at};
+use bcn_spec::answer_number;
+use store_records::{record_at, record_block, record_count, tile_at};
 use store_scratch::mode_at;
 use store_spec::TwinList;
 use text::{put, put_count, put_field, put_hex};
@@ -22,7 +23,7 @@ fn picture_of(store: &[u8], n: usize, format: u8) -> [u16; Picture::VALUES]
     ensures { result ≡ picture_at store.now n }
 {
     let mut values = [0u16; Picture::VALUES];
-    block_pixels(record_block(store, n), format, &mut values);
+    let _ = block_pixels(record_block(store, n), format, &mut values);
     values
 }
 
@@ -77,8 +78,8 @@ fn put_record(text: &mut [u8], at: usize, store: &[u8], n: usize, mark: u8) -> u
     let mut end = put_field(text, at, n as u64);
     end = put_field(text, end, tile_at(store, n) as u64);
     let reading = record_at(store, n);
-    end = put_field(text, end, reading.number() as u64);
-    let RecordReading::Record(found) = reading else {
+    end = put_field(text, end, answer_number(reading) as u64);
+    let Ok(found) = reading else {
         return put_refused(text, end, store, n, mark);
     };
     put_picture(text, end, store, n, found.format, mark)

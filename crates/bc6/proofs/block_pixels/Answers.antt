@@ -1,5 +1,5 @@
 -- `bc6::block_pixels` meets its contract: one law for each return. Assumes nothing.
-use mathlib.Core.Path.{◌∙◌, ap}
+use mathlib.Core.Path.{refl, ◌∙◌, ap}
 use native.Mathlib.Omega.{arith}
 use Prim.Native.Nat.{◌≤◌}
 use Rattle.bc6h_spec.specs.Fields.{mode_in, mode_of}
@@ -10,13 +10,13 @@ use Rattle.bc6.proofs.Calls.{painted_format, painted_block, painted_output, pain
 use Rattle.bc6.proofs.block_pixels.Goals as goal
 
 pub returns-then-format-gt1 : goal.returns-then-format-gt1
-returns-then-format-gt1 c = painted_format _ _ _ _ c.if-format-gt1.true c.refused.ensures
+returns-then-format-gt1 c = painted_format _ _ _ _ c.if-format-gt1.true refl
 
 pub returns-then-block-ne-SIZE : goal.returns-then-block-ne-SIZE
-returns-then-block-ne-SIZE c = painted_block _ _ _ _ (omega arith) c.if-block-ne-SIZE.true c.refused-then-block-ne-SIZE.ensures
+returns-then-block-ne-SIZE c = painted_block _ _ _ _ (omega arith) c.if-block-ne-SIZE.true refl
 
 pub returns-then-out-lt-VALUES : goal.returns-then-out-lt-VALUES
-returns-then-out-lt-VALUES c = painted_output _ _ _ _ (omega arith) (omega arith) (omega arith) c.refused-then-out-lt-VALUES.ensures
+returns-then-out-lt-VALUES c = painted_output _ _ _ _ (omega arith) (omega arith) (omega arith) refl
 
 pub overflow_cast-mode : goal.overflow_cast-mode
 overflow_cast-mode c =

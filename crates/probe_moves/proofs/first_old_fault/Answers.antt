@@ -9,10 +9,10 @@ pub loop-n-init : goal.loop-n-init
 loop-n-init c = (search rules, first_none _)
 
 pub returns-then-refusal-ne-DONE : goal.returns-then-refusal-ne-DONE
-returns-then-refusal-ne-DONE c = fault_here _ _ c.loop-n.invariant.1 (search rules) (c.number-refusal.ensures ∙ c.record_at.ensures.answers) c.if-refusal-ne-DONE.true
+returns-then-refusal-ne-DONE c = fault_here _ _ c.loop-n.invariant.1 (search rules) (c.answer_number-refusal.ensures ∙ c.record_at.ensures.answers) c.if-refusal-ne-DONE.true
 
 pub loop-n-preserved : goal.loop-n-preserved
-loop-n-preserved c = (search rules, first_more _ _ c.loop-n.invariant.1 (passes _ (c.number-refusal.ensures ∙ c.record_at.ensures.answers) c.if-refusal-ne-DONE.false))
+loop-n-preserved c = (search rules, first_more _ _ c.loop-n.invariant.1 (passes _ (c.answer_number-refusal.ensures ∙ c.record_at.ensures.answers) c.if-refusal-ne-DONE.false))
 
 pub returns : goal.returns
 returns c = c.none.ensures ∙ fault_none _ _ c.loop-n.invariant.1 (search rules) (search rules)

@@ -7,4 +7,4 @@ use Rattle.run_fields.specs.Record.{fields_byte}
 use Rattle.run_fields.proofs.write_record.Given as goal
 
 abbrev pub invariant-loop-k : goal.invariant-loop-k
-invariant-loop-k l = l.byte-items ≡ made (fields_byte l.read) l.k ++ drop l.k l.initial.byte-items
+invariant-loop-k l = l.byte-items ≡ made (fields_byte (record { answer = l.answer; fields = l.fields })) l.k ++ drop l.k l.initial.byte-items

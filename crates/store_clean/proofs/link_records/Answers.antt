@@ -18,13 +18,13 @@ loop-n-preserved-in_default c =
     (search rules, i.1, i.2, linking_refused i.3 (refused c.record_at.ensures c.in_default.is))
 
 pub bucket_of-bucket-requires : goal.bucket_of-bucket-requires
-bucket_of-bucket-requires c = part_length _ _ (unrefused c.record_at.ensures c.in-Record.is) c.record_block.ensures
+bucket_of-bucket-requires c = part_length _ _ (unrefused c.record_at.ensures c.in-Ok.is) c.record_block.ensures
 
 pub loop-n-preserved : goal.loop-n-preserved
 loop-n-preserved c =
     let i = c.loop-n.invariant in
     let r = c.record_at.ensures in
-    let e = c.in-Record.is in
+    let e = c.in-Ok.is in
     let u = unrefused r e in
     let k = c.bucket_of-bucket.ensures.0 ∙ ap₂ bucket_of (format_is r e) (c.record_block.ensures ∙ part_of _ _ u) in
     (search rules, simp length-set i.1, simp length-set i.2, linking_more i.3 (search rules) i.2 u k refl refl)

@@ -8,13 +8,13 @@ pub returns-in_default : goal.returns-in_default
 returns-in_default c = met_refused _ _ (refused c.record_at.ensures c.in_default.is)
 
 pub mode_at-requires : goal.mode_at-requires
-mode_at-requires c = unrefused c.record_at.ensures c.in-Record.is
+mode_at-requires c = unrefused c.record_at.ensures c.in-Ok.is
 
 pub returns-then-mode_at-eq0 : goal.returns-then-mode_at-eq0
 returns-then-mode_at-eq0 c = met_reserved _ _ (sym c.mode_at.ensures ∙ c.if-mode_at-eq0.true)
 
 pub loop-at-init : goal.loop-at-init
-loop-at-init c = let s = c.requires in passed_none s.linked _ s.n_bound (unrefused c.record_at.ensures c.in-Record.is) c.from-at.ensures
+loop-at-init c = let s = c.requires in passed_none s.linked _ s.n_bound (unrefused c.record_at.ensures c.in-Ok.is) c.from-at.ensures
 
 pub returns-then-is_repeat : goal.returns-then-is_repeat
 returns-then-is_repeat c = let s = c.requires in met_here s.linked _ s.n_bound c.loop-at.invariant (search rules) (sym c.is_repeat.ensures ∙ c.if-is_repeat.true)

@@ -13,15 +13,15 @@ returns-in_default c = absurd (laws.covered_unrefused _ _ _ (sym c.is_covered.en
 pub returns-then-found-ne0 : goal.returns-then-found-ne0
 returns-then-found-ne0 c =
     laws.demand_3_signed _ _ _ (sym c.is_covered.ensures ∙ c.if-not-is_covered.false)
-    (λ e. c.if-found-ne0.true (format_is c.record_at.ensures c.in-Record.is ∙ e))
+    (λ e. c.if-found-ne0.true (format_is c.record_at.ensures c.in-Ok.is ∙ e))
 
 pub fields_of-fields-requires : goal.fields_of-fields-requires
 fields_of-fields-requires c =
     laws.covered_length _ _ _ (sym c.is_covered.ensures ∙ c.if-not-is_covered.false)
-    (unrefused c.record_at.ensures c.in-Record.is) c.record_block.ensures
+    (unrefused c.record_at.ensures c.in-Ok.is) c.record_block.ensures
 
 pub returns : goal.returns
 returns c =
     laws.demand_3_modes _ _ _ (sym c.is_covered.ensures ∙ c.if-not-is_covered.false)
-    (sym (format_is c.record_at.ensures c.in-Record.is) ∙ c.if-found-ne0.false)
-    (unrefused c.record_at.ensures c.in-Record.is) c.record_block.ensures c.fields_of-fields.ensures
+    (sym (format_is c.record_at.ensures c.in-Ok.is) ∙ c.if-found-ne0.false)
+    (unrefused c.record_at.ensures c.in-Ok.is) c.record_block.ensures c.fields_of-fields.ensures

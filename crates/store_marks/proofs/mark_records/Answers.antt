@@ -17,10 +17,10 @@ pub loop-n-preserved-in_default : goal.loop-n-preserved-in_default
 loop-n-preserved-in_default c = let i = c.loop-n.invariant in (search rules, made_store _ _ _ _ _ _ i.1 refl (mark_bad _ _ (refused c.record_at.ensures c.in_default.is)) (search rules), simp length-set i.2)
 
 pub mode_at-requires : goal.mode_at-requires
-mode_at-requires c = unrefused c.record_at.ensures c.in-Record.is
+mode_at-requires c = unrefused c.record_at.ensures c.in-Ok.is
 
 pub loop-n-preserved-then-mode_at-eq0 : goal.loop-n-preserved-then-mode_at-eq0
-loop-n-preserved-then-mode_at-eq0 c = let i = c.loop-n.invariant in (search rules, made_store _ _ _ _ _ _ i.1 refl (mark_reserved _ _ (unrefused c.record_at.ensures c.in-Record.is) (sym c.mode_at.ensures ∙ c.if-mode_at-eq0.true)) (search rules), simp length-set i.2)
+loop-n-preserved-then-mode_at-eq0 c = let i = c.loop-n.invariant in (search rules, made_store _ _ _ _ _ _ i.1 refl (mark_reserved _ _ (unrefused c.record_at.ensures c.in-Ok.is) (sym c.mode_at.ensures ∙ c.if-mode_at-eq0.true)) (search rules), simp length-set i.2)
 
 pub search-init : goal.search-init
 search-init c = (search rules, refl, first_none _)
@@ -31,7 +31,7 @@ search-preserved-then-scratch-earlier c = let i = c.search.invariant in (search 
 pub kept_alike-requires : goal.kept_alike-requires
 kept_alike-requires c =
     let r = c.record_at.ensures in
-    let e = c.in-Record.is in
+    let e = c.in-Ok.is in
     record {
       unrefused = unrefused r e;
       format_value = format_is r e;
@@ -47,7 +47,7 @@ search-preserved c = let i = c.search.invariant in (search rules, i.1, first_mor
 pub loop-n-preserved : goal.loop-n-preserved
 loop-n-preserved c =
     let i = c.loop-n.invariant in
-    let u = unrefused c.record_at.ensures c.in-Record.is in
+    let u = unrefused c.record_at.ensures c.in-Ok.is in
     let s = c.search.invariant in
     let m : c.search-test.mark ≡ mark_at c.args.store.now c.loop-n.n = elim c.search-test.branch [
       | else-search-test w ↦ w.mark-is ∙ s.1 ∙ mark_kept _ _ u (unfound _ _ _ s.0 w.search-test.false s.2)

@@ -6,8 +6,8 @@ use Rattle.store_records.proofs.Refusals.{Known, known}
 use Rattle.store_records.proofs.Readings as laws
 use Rattle.store_records.proofs.record_block.Goals as goal
 
-found : (c : goal.In-Record) → Known c.args.store.now c.args.n
-found c = known _ _ (laws.unrefused c.record_at.ensures c.in-Record.is)
+found : (c : goal.In-Ok) → Known c.args.store.now c.args.n
+found c = known _ _ (laws.unrefused c.record_at.ensures c.in-Ok.is)
 
 pub returns-in_default : goal.returns-in_default
 returns-in_default c = sym (laws.empty_refused _ _ (laws.refused c.record_at.ensures c.in_default.is))
@@ -26,4 +26,4 @@ slice_bounds-result-end-2 c = let k = found c in omega arith
 
 pub returns : goal.returns
 unfolding block_of
-returns c = rw (laws.unrefused c.record_at.ensures c.in-Record.is, add-sub_cancel_left)
+returns c = rw (laws.unrefused c.record_at.ensures c.in-Ok.is, add-sub_cancel_left)

@@ -18,7 +18,7 @@ loop-n-preserved-in_default c =
 pub kind_at-kind-requires : goal.kind_at-kind-requires
 kind_at-kind-requires c =
     let r = c.record_at.ensures in
-    let e = c.in-Record.is in
+    let e = c.in-Ok.is in
     record { unrefused = unrefused r e; format_value = format_is r e }
 
 pub fingerprint-requires : goal.fingerprint-requires
@@ -27,7 +27,7 @@ fingerprint-requires c = ap length c.picture_in.ensures ∙ picture_in_length _ 
 pub loop-n-preserved : goal.loop-n-preserved
 loop-n-preserved c =
     let l = c.loop-n in
-    let u = unrefused c.record_at.ensures c.in-Record.is in
+    let u = unrefused c.record_at.ensures c.in-Ok.is in
     let shown = c.picture_in.ensures ∙ behind_prints _ _ _ _ _ _ l.invariant.1 (search rules) ∙ at_count _ _ _ _ c.record_count-count.ensures c.requires.pictured (search rules) u in (
       search rules,
       made_store _ _ _ _ _ _ l.invariant.1 refl (print_put _ _ _ u (c.fingerprint.ensures ∙ ap₂ print_of c.kind_at-kind.ensures shown)) (search rules),

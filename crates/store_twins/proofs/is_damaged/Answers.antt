@@ -6,7 +6,7 @@ pub returns-in_default : goal.returns-in_default
 returns-in_default c = damaged_refused _ _ (refused c.record_at.ensures c.in_default.is)
 
 pub mode_at-requires : goal.mode_at-requires
-mode_at-requires c = unrefused c.record_at.ensures c.in-Record.is
+mode_at-requires c = unrefused c.record_at.ensures c.in-Ok.is
 
 pub returns : goal.returns
-returns c = damaged_mode _ _ (unrefused c.record_at.ensures c.in-Record.is) c.mode_at.ensures
+returns c = damaged_mode _ _ (unrefused c.record_at.ensures c.in-Ok.is) c.mode_at.ensures

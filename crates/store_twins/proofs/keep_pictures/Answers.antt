@@ -15,13 +15,13 @@ loop-n-preserved-in_default c =
 
 pub decode_record-requires : goal.decode_record-requires
 decode_record-requires c = let r = c.record_at.ensures in
-    let e = c.in-Record.is in record { unrefused = unrefused r e; format_value = format_is r e; value_count_in_bounds = search rules }
+    let e = c.in-Ok.is in record { unrefused = unrefused r e; format_value = format_is r e; value_count_in_bounds = search rules }
 
 pub loop-n-preserved : goal.loop-n-preserved
 loop-n-preserved c =
     let k = c.decode_record in
     let l = c.loop-n in
-    let u = unrefused c.record_at.ensures c.in-Record.is in (
+    let u = unrefused c.record_at.ensures c.in-Ok.is in (
       search rules,
       slot_put _ _ _ _ _ l.invariant.1 u k.ensures,
       search rules,

@@ -1,7 +1,8 @@
 -- `fields::knot_fields_pixels` meets its contract. Assumes nothing.
+use mathlib.Core.Path.{sym}
 use Rattle.knotpasture.proofs.fields.knot_fields_pixels.Goals as goal
 
 -- what the call leaves is told of the record that the numbers make
 
 pub returns : goal.returns
-returns c = rw c.fields_from.ensures at c.fields_pixels.ensures
+returns c = rw (c.fields_from.ensures, sym c.answer_number.ensures) at c.fields_pixels.ensures

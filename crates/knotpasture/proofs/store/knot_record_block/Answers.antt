@@ -9,13 +9,13 @@ returns-in_default c = refused_offset c.record_at.ensures c.in_default.is
 
 pub overflow_mul-result : goal.overflow_mul-result
 overflow_mul-result c =
-    let within : c.args.n * record_size < store_limit = inside c.record_at.ensures c.in-Record.is in
+    let within : c.args.n * record_size < store_limit = inside c.record_at.ensures c.in-Ok.is in
     record { fits = omega (arith, within) }
 
 pub overflow_add-result : goal.overflow_add-result
 overflow_add-result c =
-    let within : c.args.n * record_size < store_limit = inside c.record_at.ensures c.in-Record.is in
+    let within : c.args.n * record_size < store_limit = inside c.record_at.ensures c.in-Ok.is in
     record { fits = omega (arith, within) }
 
 pub returns : goal.returns
-returns c = record_offset c.record_at.ensures c.in-Record.is
+returns c = record_offset c.record_at.ensures c.in-Ok.is

@@ -4,4 +4,4 @@ use Rattle.store_faulty.proofs.PlainForm.refusal.Goals as goal
 
 pub returns : goal.returns
 unfolding form_of
-returns c = c.number.ensures ∙ c.record_at.ensures.answers
+returns c = c.answer_number.ensures ∙ c.record_at.ensures.answers

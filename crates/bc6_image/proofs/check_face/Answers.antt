@@ -1,4 +1,4 @@
--- `bc6_image::face_refusal` meets its contract: a law for each return. Assumes nothing.
+-- `bc6_image::check_face` meets its contract: a law for each return. Assumes nothing.
 use borrow.Author.Rules.{rules}
 use mathlib.Core.Path.{◌≡◌, ap, sym, ◌∙◌}
 use mathlib.Core.Bool.{true}
@@ -8,7 +8,7 @@ use lib.Dec.{eqb}
 use Rattle.bcn_spec.specs.Bits.{block_size}
 use Rattle.bc6_image.specs.Face.{row_size}
 use Rattle.bc6_image.proofs.Calls.{refused_format, refused_blocks, done_empty, refused_pitch, refused_row, refused_last, done_room}
-use Rattle.bc6_image.proofs.face_refusal.Goals as goal
+use Rattle.bc6_image.proofs.check_face.Goals as goal
 
 pub returns-then-format-gt1 : goal.returns-then-format-gt1
 returns-then-format-gt1 c = refused_format _ _ _ _ _ _ _ c.if-format-gt1.true

@@ -96,7 +96,7 @@ enum {
  * infinity, 0xFC00. A reserved mode is done, with mode 0 and 48 zeros. Refusals: 1, 2, 3 (fewer than 48 values of room), in
  * this order, with mode and count 0.
  *
- * Stack: 250 bytes.
+ * Stack: 200 bytes.
  */
 uint32_t knot_block_pixels(const uint8_t *block, size_t block_length, uint8_t format, uint16_t *out, size_t out_length);
 
@@ -110,7 +110,7 @@ uint32_t knot_block_pixels(const uint8_t *block, size_t block_length, uint8_t fo
  * infinity, 0xFC00. Refusals: 1, 9, 3 (fewer than 48 values of room a block), in this order; nothing is written, not even the
  * first block's values, and *done and *infinite become 0.
  *
- * Stack: 300 bytes.
+ * Stack: 250 bytes.
  */
 uint32_t knot_blocks_pixels(const uint8_t *blocks, size_t blocks_length, uint8_t format, uint16_t *out, size_t out_length,
                             size_t *done, size_t *infinite);
@@ -373,7 +373,7 @@ uint64_t knot_unplace_store(const uint8_t *store, size_t store_length, uint8_t *
  * Answers as knot_place_store. Refusals: 5, 6, 3 (less room than the store has bytes), 8, 1, 7 (of record n, with its number; no other record
  * is looked at), 17 (of the place that is given), in this order.
  *
- * Stack: 50 bytes.
+ * Stack: 100 bytes.
  */
 uint64_t knot_put_place(const uint8_t *store, size_t store_length, size_t n, uint8_t face, uint16_t column, uint16_t row, uint8_t *out,
                         size_t out_length);
@@ -462,7 +462,7 @@ size_t knot_probe_edge(const uint8_t *store, size_t store_length);
  * Answers the number alone; *records becomes the number of records, 6 n n. Refusals: 19, 1, 15 (not 96 n n bytes of blocks), 3 (fewer
  * than 192 n n bytes of room), in this order; nothing is written, and *records becomes 0.
  *
- * Stack: 150 bytes.
+ * Stack: 100 bytes.
  */
 uint32_t knot_probe_build(const uint8_t *blocks, size_t blocks_length, uint8_t format, uint32_t edge, uint32_t first_tile, uint8_t *out,
                           size_t out_length, size_t *records);
@@ -570,7 +570,7 @@ size_t knot_bc7_dds_first_blocks(const uint8_t *file, size_t file_length);
  * Answers the number in the low byte and the file's length in the bits above it, 0 on a refusal. Refusals: 1, 14, 15, 3 (less room than
  * KNOT_DDS_HEADER bytes and the blocks), in this order.
  *
- * Stack: 200 bytes.
+ * Stack: 100 bytes.
  */
 uint64_t knot_dds_write(const uint8_t *blocks, size_t blocks_length, uint8_t format, uint32_t width, uint32_t height, uint8_t *out,
                         size_t out_length);

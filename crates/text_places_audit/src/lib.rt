@@ -54,12 +54,9 @@ fn first_of(store: &[u8], n: usize) -> usize
     ensures upper_bound { result ≤ n }
     ensures value { result ≡ first_in placed_form store.now n }
 {
-    for earlier in 0..n {
-        if is_repeat(store, n, earlier) {
-            return earlier;
-        }
-    }
-    n
+    (0..n)
+        .find(|earlier| is_repeat(store, n, *earlier))
+        .unwrap_or(n)
 }
 
 // Where record n is: its number, tile, face, column and row.

@@ -5,7 +5,7 @@
 
 ghost use Rattle.std.specs.Prelude.{◌≡◌, ◌++◌, ◌+◌, ◌*◌, ◌/◌, ◌<◌, ◌≤◌, length, drop};
 ghost use Rattle.laws.specs.Made.{made};
-ghost use Rattle.run_fields.specs.Record.{fields_byte};
+ghost use Rattle.run_fields.specs.Record.{fields_byte, record_bytes};
 
 use bc6h_spec::Fields;
 use bcn_spec::Answer;
@@ -48,12 +48,24 @@ fn byte_of(answer: u8, fields: Fields, k: usize) -> u8
     indices[k - 29]
 }
 
+// What is written for an answer and its fields.
 fn write_record(answer: u8, fields: Fields, out: &mut [u8])
     requires { 45 ≤ length out.old }
     ensures { out.new ≡ made (fields_byte (record { answer = answer; fields = fields })) 45 ++ drop 45 out.old }
 {
     for (k, byte) in out[..RECORD_SIZE].iter_mut().enumerate() {
         *byte = byte_of(answer, fields, k);
+    }
+}
+
+// What is written for a piece: what the field call answers of it, all zero but the answer where it refuses.
+fn extract_record(piece: &[u8], out: &mut [u8])
+    requires { (1 ≤ length piece.now) × (45 ≤ length out.old) }
+    ensures { out.new ≡ record_bytes piece.now ++ drop 45 out.old }
+{
+    match bc6_fields::block_fields(&piece[1..], piece[0]) {
+        Ok(fields) => write_record(Answer::DONE, fields, out),
+        Err(refusal) => write_record(refusal.number(), Fields::none(), out),
     }
 }
 
@@ -67,10 +79,7 @@ fn write_records(input: &[u8], out: &mut [u8]) -> usize
         .chunks(INPUT_SIZE)
         .zip(out.chunks_exact_mut(RECORD_SIZE))
     {
-        match bc6_fields::block_fields(&piece[1..], piece[0]) {
-            Ok(fields) => write_record(Answer::DONE, fields, record),
-            Err(refusal) => write_record(refusal.number(), Fields::none(), record),
-        }
+        extract_record(piece, record);
     }
     RECORD_SIZE * count
 }

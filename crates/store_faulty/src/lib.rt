@@ -100,14 +100,14 @@ impl Form for Placed {
     }
 }
 
-pub fn record_count<F: Form>(store: &[u8]) -> usize
+pub fn records_in<F: Form>(store: &[u8]) -> usize
     ensures { result ≡ count_in (form_of F.byte) store.now }
 {
     store.len() / F::size()
 }
 
 // Why a store is refused whole.
-pub fn store_refusal<F: Form>(store: &[u8]) -> u8
+pub fn refusal_in<F: Form>(store: &[u8]) -> u8
     ensures { result ≡ store_refusal (form_of F.byte) (length store.now) }
 {
     if store.len() > F::limit() {
@@ -126,7 +126,7 @@ fn is_refused<F: Form>(store: &[u8], n: usize) -> bool
 }
 
 // The mode of record n, which is not refused.
-pub fn mode_of<F: Form>(store: &[u8], n: usize) -> usize
+pub fn mode_in<F: Form>(store: &[u8], n: usize) -> usize
     requires { (form_of F.byte).refusal store.now n ≡ done }
     ensures { result ≡ mode_of ((form_of F.byte).block store.now n) }
 {
@@ -140,11 +140,11 @@ fn is_damaged<F: Form>(store: &[u8], n: usize) -> bool
     if F::refusal(store, n) != Answer::DONE {
         return false;
     }
-    mode_of::<F>(store, n) == 0
+    mode_in::<F>(store, n) == 0
 }
 
 // Why record n is faulty; 0 where it is sound.
-pub fn cause_of<F: Form>(store: &[u8], n: usize) -> u8
+pub fn cause_in<F: Form>(store: &[u8], n: usize) -> u8
     ensures { result ≡ cause_of (form_of F.byte) store.now n }
 {
     if is_damaged::<F>(store, n) {
@@ -169,7 +169,7 @@ pub struct FaultCounts {
 pub fn faults_in<F: Form>(store: &[u8]) -> FaultCounts
     ensures { result ≡ counts_of (form_of F.byte) store.now }
 {
-    let count = record_count::<F>(store);
+    let count = records_in::<F>(store);
     let mut refused: usize = 0;
     let mut damaged: usize = 0;
     for n in 0..count {
@@ -179,7 +179,55 @@ pub fn faults_in<F: Form>(store: &[u8]) -> FaultCounts
     FaultCounts { refused, damaged }
 }
 
-// The same of the form that a byte tells.
+// ---- the same by a byte that tells the form: 32 for records with a place, any other for 24-byte records
+
+pub fn record_count(form: u8, store: &[u8]) -> usize
+    ensures { result ≡ count_in (form_of form) store.now }
+{
+    if form == PLACED {
+        return records_in::<Placed>(store);
+    }
+    records_in::<Plain>(store)
+}
+
+pub fn store_refusal(form: u8, store: &[u8]) -> u8
+    ensures { result ≡ store_refusal (form_of form) (length store.now) }
+{
+    if form == PLACED {
+        return refusal_in::<Placed>(store);
+    }
+    refusal_in::<Plain>(store)
+}
+
+pub fn tile_of(form: u8, store: &[u8], n: usize) -> u32
+    requires { n < count_in (form_of form) store.now }
+    ensures { result ≡ (form_of form).tile store.now n }
+{
+    if form == PLACED {
+        return Placed::tile(store, n);
+    }
+    Plain::tile(store, n)
+}
+
+pub fn mode_of(form: u8, store: &[u8], n: usize) -> usize
+    requires { (form_of form).refusal store.now n ≡ done }
+    ensures { result ≡ mode_of ((form_of form).block store.now n) }
+{
+    if form == PLACED {
+        return mode_in::<Placed>(store, n);
+    }
+    mode_in::<Plain>(store, n)
+}
+
+pub fn cause_of(form: u8, store: &[u8], n: usize) -> u8
+    ensures { result ≡ cause_of (form_of form) store.now n }
+{
+    if form == PLACED {
+        return cause_in::<Placed>(store, n);
+    }
+    cause_in::<Plain>(store, n)
+}
+
 pub fn count_faults(form: u8, store: &[u8]) -> FaultCounts
     ensures { result ≡ counts_of (form_of form) store.now }
 {

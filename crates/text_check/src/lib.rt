@@ -11,7 +11,7 @@ ghost use Rattle.text_check.specs.Checking.{fault_line, check_lines, counts_line
 use bcn_spec::Answer;
 use probe_places::Place;
 use store_faulty::{
-    FaultCounts, Form, PLACED, Placed, Plain, cause_of, faults_in, record_count, store_refusal,
+    FaultCounts, Form, PLACED, Placed, Plain, cause_in, faults_in, records_in, refusal_in,
 };
 use store_records::Record;
 use text::{put, put_count, put_decimal, put_field, put_refusal};
@@ -43,10 +43,10 @@ fn put_faults<F: Form>(text: &mut [u8], store: &[u8]) -> usize
     ensures upper_bound { result ≤ count_in (form_of F.byte) store.now * 128 }
     ensures written { Written text.old 0 (check_lines (form_of F.byte) store.now (count_in (form_of F.byte) store.now)) result text.new }
 {
-    let count = record_count::<F>(store);
+    let count = records_in::<F>(store);
     let mut end: usize = 0;
     for n in 0..count {
-        let cause = cause_of::<F>(store, n);
+        let cause = cause_in::<F>(store, n);
         if cause == Answer::DONE {
             continue;
         }
@@ -72,13 +72,13 @@ fn put_checking<F: Form>(text: &mut [u8], store: &[u8]) -> usize
     ensures upper_bound { result ≤ length text.new }
     ensures written { Written text.old 0 (checking_text F.byte store.now) result text.new }
 {
-    let refusal = store_refusal::<F>(store);
+    let refusal = refusal_in::<F>(store);
     if refusal != Answer::DONE {
         return put_refusal(text, 0, refusal);
     }
     let end = put_faults::<F>(text, store);
     let counts = faults_in::<F>(store);
-    put_counts(text, end, record_count::<F>(store), counts)
+    put_counts(text, end, records_in::<F>(store), counts)
 }
 
 // The same of an input: its first byte is the form, the others are the store.

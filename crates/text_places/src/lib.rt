@@ -12,7 +12,7 @@ ghost use Rattle.text_places.specs.Listing.{listing_refusal, listing_text, listi
 use bcn_spec::Answer;
 use probe::triple_at;
 use probe_places::{Place, PlacedReading, placed_record_at, tile_at};
-use store_faulty::{Placed, faults_in, mode_of, one_if, store_refusal};
+use store_faulty::{Placed, faults_in, mode_in, one_if, refusal_in};
 use text::{put, put_count, put_decimal, put_field, put_refusal};
 use text_list::put_triple;
 
@@ -69,7 +69,7 @@ fn put_shown(text: &mut [u8], at: usize, store: &[u8], n: usize, place: Place) -
     ensures written { Written text.old at (shown_rest store.now n) result text.new }
 {
     let triple = triple_at(store, n, 15);
-    let mut end = put_field(text, at, mode_of::<Placed>(store, n) as u64);
+    let mut end = put_field(text, at, mode_in::<Placed>(store, n) as u64);
     end = put_place(text, end, place);
     end = put(text, end, b" ");
     put_triple(text, end, triple[0], triple[1], triple[2])
@@ -158,7 +158,7 @@ fn put_counts(text: &mut [u8], at: usize, counts: PlaceCounts) -> usize
 fn listing_refusal(store: &[u8], strict: bool) -> u8
     ensures { result ≡ listing_refusal strict store.now }
 {
-    let refusal = store_refusal::<Placed>(store);
+    let refusal = refusal_in::<Placed>(store);
     if refusal != Answer::DONE {
         return refusal;
     }

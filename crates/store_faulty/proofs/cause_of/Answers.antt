@@ -1,9 +1,9 @@
-use mathlib.Core.Path.{sym, ◌∙◌}
-use Rattle.store_faulty.proofs.Forms.{cause_damaged, cause_refusal}
+use native.Mathlib.Omega.{arith}
+use Rattle.store_faulty.proofs.Forms.{is_plain}
 use Rattle.store_faulty.proofs.cause_of.Goals as goal
 
-pub returns-then-is_damaged : goal.returns-then-is_damaged
-returns-then-is_damaged g c = cause_damaged _ _ _ (sym c.is_damaged.ensures ∙ c.if-is_damaged.true)
+pub returns-then-form-eq-PLACED : goal.returns-then-form-eq-PLACED
+returns-then-form-eq-PLACED c = rw c.if-form-eq-PLACED.true c.cause_in.ensures
 
 pub returns : goal.returns
-returns g c = cause_refusal _ _ _ (sym c.is_damaged.ensures ∙ c.if-is_damaged.false) c.refusal.ensures
+returns c = rw (is_plain _ c.if-form-eq-PLACED.false) (rw (is_plain 24 (λ e. omega arith)) at c.cause_in-2.ensures)

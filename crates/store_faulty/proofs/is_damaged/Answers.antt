@@ -6,4 +6,4 @@ pub returns-then-refusal-ne-DONE : goal.returns-then-refusal-ne-DONE
 returns-then-refusal-ne-DONE g c = refused_undamaged _ _ _ c.refusal.ensures c.if-refusal-ne-DONE.true
 
 pub returns : goal.returns
-returns g c = damaged_by_mode _ _ _ (sym c.refusal.ensures ∙ c.if-refusal-ne-DONE.false) c.mode_of.ensures
+returns g c = damaged_by_mode _ _ _ (sym c.refusal.ensures ∙ c.if-refusal-ne-DONE.false) c.mode_in.ensures

@@ -1,9 +1,9 @@
 use native.Mathlib.Omega.{arith}
-use Rattle.store_faulty.proofs.Forms.{size_some}
+use Rattle.store_faulty.proofs.Forms.{is_plain}
 use Rattle.store_faulty.proofs.record_count.Goals as goal
 
-pub nonzero_div-result : goal.nonzero_div-result
-nonzero_div-result g c = omega (arith, size_some g.F.Form.byte)
+pub returns-then-form-eq-PLACED : goal.returns-then-form-eq-PLACED
+returns-then-form-eq-PLACED c = rw c.if-form-eq-PLACED.true c.records_in.ensures
 
 pub returns : goal.returns
-returns g c = rw c.size.ensures
+returns c = rw (is_plain _ c.if-form-eq-PLACED.false) (rw (is_plain 24 (λ e. omega arith)) at c.records_in-2.ensures)

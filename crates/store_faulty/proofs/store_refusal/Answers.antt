@@ -1,16 +1,9 @@
 use native.Mathlib.Omega.{arith}
-use Rattle.store_faulty.proofs.Forms.{size_some, long, uneven, whole}
-use borrow.Author.Rules.{rules}
+use Rattle.store_faulty.proofs.Forms.{is_plain}
 use Rattle.store_faulty.proofs.store_refusal.Goals as goal
 
-pub returns-then-store-limit : goal.returns-then-store-limit
-returns-then-store-limit g c = long _ _ (search rules)
-
-pub nonzero_rem-store : goal.nonzero_rem-store
-nonzero_rem-store g c = omega (arith, size_some g.F.Form.byte)
-
-pub returns-then-store-size-ne0 : goal.returns-then-store-size-ne0
-returns-then-store-size-ne0 g c = uneven _ _ (search rules) (rw c.size.ensures at c.if-store-size-ne0.true)
+pub returns-then-form-eq-PLACED : goal.returns-then-form-eq-PLACED
+returns-then-form-eq-PLACED c = rw c.if-form-eq-PLACED.true c.refusal_in.ensures
 
 pub returns : goal.returns
-returns g c = whole _ _ (search rules) (rw c.size.ensures at c.if-store-size-ne0.false)
+returns c = rw (is_plain _ c.if-form-eq-PLACED.false) (rw (is_plain 24 (λ e. omega arith)) at c.refusal_in-2.ensures)

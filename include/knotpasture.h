@@ -373,7 +373,7 @@ uint64_t knot_unplace_store(const uint8_t *store, size_t store_length, uint8_t *
  * Answers as knot_place_store. Refusals: 5, 6, 3 (less room than the store has bytes), 8, 1, 7 (of record n, with its number; no other record
  * is looked at), 17 (of the place that is given), in this order.
  *
- * Stack: 100 bytes.
+ * Stack: 50 bytes.
  */
 uint64_t knot_put_place(const uint8_t *store, size_t store_length, size_t n, uint8_t face, uint16_t column, uint16_t row, uint8_t *out,
                         size_t out_length);
@@ -570,7 +570,7 @@ size_t knot_bc7_dds_first_blocks(const uint8_t *file, size_t file_length);
  * Answers the number in the low byte and the file's length in the bits above it, 0 on a refusal. Refusals: 1, 14, 15, 3 (less room than
  * KNOT_DDS_HEADER bytes and the blocks), in this order.
  *
- * Stack: 100 bytes.
+ * Stack: 50 bytes.
  */
 uint64_t knot_dds_write(const uint8_t *blocks, size_t blocks_length, uint8_t format, uint32_t width, uint32_t height, uint8_t *out,
                         size_t out_length);

@@ -1,7 +1,7 @@
 // A place for a record: a store of records with a place, copied, with the place of one record set.
 #![tactic(auto)]
 
-ghost use Rattle.std.specs.Prelude.{◌≡◌, ◌+◌, ◌*◌, ◌≤◌, ◌<◌, length};
+ghost use Rattle.std.specs.Prelude.{◌≡◌, ◌++◌, ◌+◌, ◌*◌, ◌≤◌, ◌<◌, length, drop};
 ghost use Rattle.std.proofs.lemmas.List.Edits.{sets};
 ghost use Rattle.probe_places.specs.Places.{place_size, places_in, most_places};
 ghost use Rattle.probe_put.specs.Put.{place_bytes, own_refusal, putting_fault, PlacePut};
@@ -59,6 +59,17 @@ fn store_place(face: u8, column: u16, row: u16, out: &mut [u8], n: usize)
     out[at + 3..at + 5].copy_from_slice(&row.to_le_bytes());
 }
 
+// A copy of the store at the start of `out`, by a loop, of which the compiler makes memcpy: the slice's own copy would be memmove, for which the
+// archive does not ask.
+fn copy_store(store: &[u8], out: &mut [u8])
+    requires { length store.now ≤ length out.old }
+    ensures { out.new ≡ store.now ++ drop (length store.now) out.old }
+{
+    for i in 0..store.len() {
+        out[i] = store[i];
+    }
+}
+
 // The store with the place of record n set, in `out`: every other byte is the store's.
 pub fn put_place(store: &[u8], n: usize, face: u8, column: u16, row: u16, out: &mut [u8]) -> Moved
     ensures { PlacePut store.now n (record { face = face; column = column; row = row }) out.old result out.new }
@@ -68,7 +79,7 @@ pub fn put_place(store: &[u8], n: usize, face: u8, column: u16, row: u16, out: &
     if fault.answer != Answer::DONE {
         return Moved::refused(fault);
     }
-    out[..store.len()].copy_from_slice(store);
+    copy_store(store, out);
     store_place(face, column, row, out, n);
     Moved::done(store.len() / Place::SIZE)
 }

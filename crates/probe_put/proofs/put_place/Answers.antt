@@ -1,8 +1,12 @@
 -- `probe_put::put_place` meets its contract. Assumes nothing.
-use mathlib.Core.Path.{sym}
+use mathlib.Core.Path.{refl, ap, ◌∙◌}
+use mathlib.Core.List.{List}
+use Prim.Native.Nat.{ℕ, ◌+◌, ◌*◌}
 use native.Mathlib.Omega.{arith}
 use lib.ListN.{length}
-use lib.Seq.{length-take-le}
+use lib.Seq.{sets}
+use Rattle.probe_places.specs.Places.{place_size}
+use Rattle.probe_put.specs.Put.{place_bytes}
 use Rattle.probe_places.specs.declared.Place.{Place}
 use Rattle.probe_moves.proofs.Moving.{moved_refused, moved_done}
 use Rattle.probe_put.proofs.Checks.{puttable}
@@ -12,16 +16,8 @@ use Rattle.probe_put.proofs.put_place.Goals as goal
 pub returns-then-fault-ne-DONE : goal.returns-then-fault-ne-DONE
 returns-then-fault-ne-DONE c = moved_refused _ _ _ c.putting_fault-fault.ensures c.if-fault-ne-DONE.true c.refused.ensures
 
-pub slice_bounds-copy_from_slice-end : goal.slice_bounds-copy_from_slice-end
-slice_bounds-copy_from_slice-end c = (puttable _ _ _ _ c.putting_fault-fault.ensures c.if-fault-ne-DONE.false).enough_room
-
-pub slice_bounds-copy_from_slice-end-2 : goal.slice_bounds-copy_from_slice-end-2
-slice_bounds-copy_from_slice-end-2 c =
-    sym (length-take-le _ c.args.out.now (puttable _ _ _ _ c.putting_fault-fault.ensures c.if-fault-ne-DONE.false).enough_room)
-
-pub copy_from_slice-requires : goal.copy_from_slice-requires
-copy_from_slice-requires c =
-    length-take-le _ c.args.out.now (puttable _ _ _ _ c.putting_fault-fault.ensures c.if-fault-ne-DONE.false).enough_room
+pub copy_store-requires : goal.copy_store-requires
+copy_store-requires c = (puttable _ _ _ _ c.putting_fault-fault.ensures c.if-fault-ne-DONE.false).enough_room
 
 pub store_place-requires : goal.store_place-requires
 store_place-requires c =
@@ -36,4 +32,5 @@ returns c =
     let z = c.if-fault-ne-DONE.false in
     let k = puttable s.store.now s.n p _ e z in
     moved_done _ _ _ e (length s.store.now) z c.done.ensures (put_length s.store.now s.n p)
-    (put_copied s.store.now s.out.now _ _ s.n p k.inside c.copy_from_slice.ensures.after c.store_place.ensures)
+    (put_copied s.store.now s.out.now s.store.now _ s.n p k.inside refl
+    (c.store_place.ensures ∙ ap (λ (t : List ℕ). sets t (s.n * place_size + 5) (place_bytes p)) c.copy_store.ensures))

@@ -1,3 +1,4 @@
+pub mod Copying
 pub mod Fitting
 pub mod Restoring
 pub mod Undoing

@@ -1,7 +1,8 @@
 // Undoes a clean-up: the store as it was, from the cleaned store and the receipt.
 #![tactic(auto)]
 
-ghost use Rattle.std.specs.Prelude.{◌≡◌, ◌<◌, eqb, ltb};
+ghost use Rattle.std.specs.Prelude.{◌≡◌, ◌+◌, ◌<◌, ◌≤◌, eqb, ltb, length, drop};
+ghost use Rattle.std.proofs.Math.Seq.{paste};
 ghost use Rattle.laws.specs.Pick.{both};
 ghost use Rattle.store_receipt.specs.Receipt.{entries_in, removed_number};
 ghost use Rattle.store_restore.specs.Restore.{least_at, entry_fits, receipt_fits, restore_refusal, put_into, PutBack, RestoredInto};
@@ -86,6 +87,26 @@ fn restore_refusal(cleaned: &[u8], receipt: &[u8], room: usize) -> u8
 
 // ---- the bytes
 
+// The tile of an entry, copied to a record. By a loop, as below: the copies of slices take half as much again.
+fn copy_tile(receipt: &[u8], from: usize, out: &mut [u8], to: usize)
+    requires { (from + 4 ≤ length receipt.now) × (to + 4 ≤ length out.old) }
+    ensures { out.new ≡ paste out.old to (drop from receipt.now) 4 }
+{
+    for k in 0..Entry::TILE {
+        out[to + k] = receipt[from + k];
+    }
+}
+
+// What follows the tile in a record, copied to a later one.
+fn copy_rest(out: &mut [u8], from: usize, to: usize)
+    requires { (from + 20 ≤ to) × (to + 20 ≤ length out.old) }
+    ensures { out.new ≡ paste out.old to (drop from out.old) 20 }
+{
+    for k in 0..Entry::REST {
+        out[to + k] = out[from + k];
+    }
+}
+
 // Writes record n by entry e: the entry's tile, and what follows the tile in the record that stays.
 fn put_back(receipt: &[u8], e: usize, out: &mut [u8], n: usize)
     requires { PutBack receipt.now e out.old n }
@@ -94,9 +115,9 @@ fn put_back(receipt: &[u8], e: usize, out: &mut [u8], n: usize)
     let stays = entry_at(receipt, e).stays;
     let tile = e * Entry::SIZE + Entry::HEAD;
     let to = n * Record::SIZE;
-    out[to..to + Entry::TILE].copy_from_slice(&receipt[tile..tile + Entry::TILE]);
+    copy_tile(receipt, tile, out, to);
     let rest = stays * Record::SIZE + Entry::TILE;
-    out.copy_within(rest..rest + Entry::REST, to + Entry::TILE);
+    copy_rest(out, rest, to + Entry::TILE);
 }
 
 // Whether there is an entry e, and its number is n.

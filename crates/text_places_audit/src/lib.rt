@@ -10,10 +10,10 @@ ghost use Rattle.text.specs.Text.{Written};
 ghost use Rattle.text_places_audit.specs.Copies.{repeats_in, first_in};
 ghost use Rattle.text_places_audit.specs.Audit.{where_of, copy_line, copy_lines, tally_line, tally_of, audit_of};
 
-use bcn_spec::{Answer, Block};
+use bcn_spec::Answer;
 use probe_places::{Place, PlacedReading, place_at, placed_record_at, placed_record_block};
-use raw_bytes::same_bytes;
-use store_faulty::{FaultCounts, Placed, faults_in, mode_of, store_refusal};
+use store_clean::same_block;
+use store_faulty::{FaultCounts, Placed, faults_in, mode_in, refusal_in};
 use text::{put, put_count, put_refusal};
 use text_audit::put_faults;
 use text_places::{put_number, put_place};
@@ -39,13 +39,12 @@ fn is_repeat(store: &[u8], n: usize, earlier: usize) -> bool
     if again.format != first.format {
         return false;
     }
-    if mode_of::<Placed>(store, n) == 0 {
+    if mode_in::<Placed>(store, n) == 0 {
         return false;
     }
-    same_bytes(
+    same_block(
         placed_record_block(store, n),
         placed_record_block(store, earlier),
-        Block::SIZE,
     )
 }
 
@@ -121,7 +120,7 @@ pub fn put_places_audit(text: &mut [u8], store: &[u8]) -> usize
     ensures upper_bound { result ≤ length text.new }
     ensures written { Written text.old 0 (audit_of store.now) result text.new }
 {
-    let refusal = store_refusal::<Placed>(store);
+    let refusal = refusal_in::<Placed>(store);
     if refusal != Answer::DONE {
         return put_refusal(text, 0, refusal);
     }

@@ -14,14 +14,14 @@ returns-in_default-placed_record_at c = copies.other_refused placed_form c.args.
 pub returns-then-again-first : goal.returns-then-again-first
 returns-then-again-first c = copies.two_formats placed_form c.args.store.now c.args.n c.args.earlier (unrefused c.placed_record_at.ensures c.in-Record.is) (unrefused c.placed_record_at-2.ensures c.in-Record-placed_record_at.is) (lines.format_is c.placed_record_at.ensures c.in-Record.is) (lines.format_is c.placed_record_at-2.ensures c.in-Record-placed_record_at.is) c.if-again-first.true
 
-pub mode_of-requires : goal.mode_of-requires
-mode_of-requires c = readable _ _ (unrefused c.placed_record_at.ensures c.in-Record.is)
+pub mode_in-requires : goal.mode_in-requires
+mode_in-requires c = readable _ _ (unrefused c.placed_record_at.ensures c.in-Record.is)
 
-pub returns-then-mode_of-eq0 : goal.returns-then-mode_of-eq0
-returns-then-mode_of-eq0 c = copies.reserved placed_form c.args.store.now c.args.n c.args.earlier (unrefused c.placed_record_at.ensures c.in-Record.is) (unrefused c.placed_record_at-2.ensures c.in-Record-placed_record_at.is) (lines.format_is c.placed_record_at.ensures c.in-Record.is) (lines.format_is c.placed_record_at-2.ensures c.in-Record-placed_record_at.is) c.if-again-first.false (lines.mode-is _ _ c.mode_of.ensures) c.if-mode_of-eq0.true
+pub returns-then-mode_in-eq0 : goal.returns-then-mode_in-eq0
+returns-then-mode_in-eq0 c = copies.reserved placed_form c.args.store.now c.args.n c.args.earlier (unrefused c.placed_record_at.ensures c.in-Record.is) (unrefused c.placed_record_at-2.ensures c.in-Record-placed_record_at.is) (lines.format_is c.placed_record_at.ensures c.in-Record.is) (lines.format_is c.placed_record_at-2.ensures c.in-Record-placed_record_at.is) c.if-again-first.false (lines.mode-is _ _ c.mode_in.ensures) c.if-mode_in-eq0.true
 
-pub same_bytes-requires : goal.same_bytes-requires
-same_bytes-requires c = (lines.part_length _ _ (unrefused c.placed_record_at.ensures c.in-Record.is) c.placed_record_block.ensures, lines.part_length _ _ (unrefused c.placed_record_at-2.ensures c.in-Record-placed_record_at.is) c.placed_record_block-2.ensures)
+pub same_block-requires : goal.same_block-requires
+same_block-requires c = (lines.part_length _ _ (unrefused c.placed_record_at.ensures c.in-Record.is) c.placed_record_block.ensures, lines.part_length _ _ (unrefused c.placed_record_at-2.ensures c.in-Record-placed_record_at.is) c.placed_record_block-2.ensures)
 
 pub returns : goal.returns
-returns c = copies.same_blocks placed_form c.args.store.now c.args.n c.args.earlier (unrefused c.placed_record_at.ensures c.in-Record.is) (unrefused c.placed_record_at-2.ensures c.in-Record-placed_record_at.is) (lines.format_is c.placed_record_at.ensures c.in-Record.is) (lines.format_is c.placed_record_at-2.ensures c.in-Record-placed_record_at.is) c.if-again-first.false (lines.mode-is _ _ c.mode_of.ensures) c.if-mode_of-eq0.false (lines.part_is _ _ (unrefused c.placed_record_at.ensures c.in-Record.is) c.placed_record_block.ensures) (lines.part_is _ _ (unrefused c.placed_record_at-2.ensures c.in-Record-placed_record_at.is) c.placed_record_block-2.ensures) c.same_bytes.ensures
+returns c = copies.same_blocks placed_form c.args.store.now c.args.n c.args.earlier (unrefused c.placed_record_at.ensures c.in-Record.is) (unrefused c.placed_record_at-2.ensures c.in-Record-placed_record_at.is) (lines.format_is c.placed_record_at.ensures c.in-Record.is) (lines.format_is c.placed_record_at-2.ensures c.in-Record-placed_record_at.is) c.if-again-first.false (lines.mode-is _ _ c.mode_in.ensures) c.if-mode_in-eq0.false (lines.part_is _ _ (unrefused c.placed_record_at.ensures c.in-Record.is) c.placed_record_block.ensures) (lines.part_is _ _ (unrefused c.placed_record_at-2.ensures c.in-Record-placed_record_at.is) c.placed_record_block-2.ensures) c.same_block.ensures

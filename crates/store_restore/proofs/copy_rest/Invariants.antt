@@ -1,0 +1,8 @@
+use mathlib.Core.Path.{◌≡◌}
+use Prim.Native.Nat.{◌≤◌}
+use lib.ListN.{length, drop}
+use lib.Seq.{paste}
+use Rattle.store_restore.proofs.copy_rest.Given as goal
+
+abbrev pub invariant-loop-k : goal.invariant-loop-k
+invariant-loop-k l = (l.k ≤ 20) × (l.out ≡ paste l.initial.out l.to (drop l.from l.initial.out) l.k) × (length l.out ≡ length l.initial.out)

@@ -13,8 +13,8 @@ ghost use Rattle.bc6_image.specs.Stores.{pixel_of, block_row, block_put, FaceWri
 use bc6::block_pixels;
 use bcn_spec::{Block, Refusal};
 
-// The alpha of every pixel: 1.0.
-const OPAQUE: u16 = 0x3C00;
+// The alpha of every pixel that `face_rgba` writes: 1.0.
+pub const OPAQUE: u16 = 0x3C00;
 
 // The values of a pixel.
 fn lanes_of(alpha: bool) -> usize

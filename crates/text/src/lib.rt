@@ -4,6 +4,7 @@
 ghost use Rattle.std.specs.Prelude.{◌≡◌, ◌++◌, ◌+◌, ◌≤◌, ◌%◌, length};
 ghost use Rattle.text.specs.Text.{decimal, hex_digit, hex, field, refusal_line, Written};
 
+#[tactic(auto, using(crate::proofs::Texts::stored))]
 pub fn put(text: &mut [u8], at: usize, word: &[u8]) -> usize
     requires { at + length word.now ≤ length text.old }
     ensures value { result ≡ at + length word.now }

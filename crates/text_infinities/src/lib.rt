@@ -29,9 +29,8 @@ fn first_infinite(values: &[u16]) -> usize
     requires { length values.now ≡ value_count }
     ensures { result ≡ first_below (infinite_at values.now) value_count }
 {
-    values
-        .iter()
-        .position(|value| *value == MINUS_INFINITY)
+    (0..Picture::VALUES)
+        .find(|j| values[*j] == MINUS_INFINITY)
         .unwrap_or(Picture::VALUES)
 }
 

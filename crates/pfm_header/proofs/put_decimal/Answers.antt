@@ -10,8 +10,8 @@ use Rattle.pfm_header.proofs.put_decimal.Goals as goal
 pub put-requires : goal.put-requires
 put-requires c =
     let digits : take c.put_decimal-end.result c.put_decimal-end.new.text ≡ decimal c.args.n =
-    text.in_buffer c.requires.0 (lit≤ tt) (rw c.from.ensures at c.put_decimal-end.ensures.written) in
+    text.in_buffer c.requires.0 (lit≤ tt) (omega arith) (rw c.from.ensures at c.put_decimal-end.ensures.written) in
     omega (arith, ap length digits, text.length_decimal c.args.n)
 
 pub returns : goal.returns
-returns c = text.copied c.args.n (text.in_buffer c.requires.0 (lit≤ tt) (rw c.from.ensures at c.put_decimal-end.ensures.written)) c.put.ensures.written
+returns c = text.copied c.args.n (text.in_buffer c.requires.0 (lit≤ tt) (omega arith) (rw c.from.ensures at c.put_decimal-end.ensures.written)) c.put.ensures.written

@@ -48,14 +48,17 @@ fn is_repeat(store: &[u8], n: usize, earlier: usize) -> bool
     )
 }
 
-// The first record that record n repeats; n where there is none.
+// The first record that record n repeats; n where there is none. By a loop: with `find` the audit takes up to half as long again.
 fn first_of(store: &[u8], n: usize) -> usize
     ensures upper_bound { result ≤ n }
     ensures value { result ≡ first_in placed_form store.now n }
 {
-    (0..n)
-        .find(|earlier| is_repeat(store, n, *earlier))
-        .unwrap_or(n)
+    for earlier in 0..n {
+        if is_repeat(store, n, earlier) {
+            return earlier;
+        }
+    }
+    n
 }
 
 // Where record n is: its number, tile, face, column and row.

@@ -48,7 +48,8 @@ fn is_repeat(store: &[u8], n: usize, earlier: usize) -> bool
     )
 }
 
-// The first record that record n repeats; n where there is none. By a loop: with `find` the audit takes up to half as long again.
+// The first record that record n repeats; n where there is none. By a loop: `find` tests its end twice a turn, and
+// the audit does little else.
 fn first_of(store: &[u8], n: usize) -> usize
     ensures upper_bound { result ≤ n }
     ensures value { result ≡ first_in placed_form store.now n }

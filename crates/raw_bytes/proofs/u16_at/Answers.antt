@@ -3,4 +3,4 @@ use Rattle.raw_bytes.proofs.Bytes.{two_bytes}
 use Rattle.raw_bytes.proofs.u16_at.Goals as goal
 
 pub returns : goal.returns
-returns c = c.from_le_bytes.ensures ∙ two_bytes _ _
+returns c = (cc) ∙ two_bytes _ _

@@ -1,7 +1,6 @@
-use mathlib.Core.Path.{◌∙◌}
 use Rattle.store_faulty.specs.Faulty.{form_of}
 use Rattle.store_faulty.proofs.PlacedForm.refusal.Goals as goal
 
 pub returns : goal.returns
 unfolding form_of
-returns c = c.number.ensures ∙ c.placed_record_at.ensures.answers
+returns c = (cc)

@@ -131,7 +131,10 @@ pub fn first_damaged(store: &[u8]) -> usize
     if store.len() > Record::STORE {
         return count;
     }
-    (0..count).find(|n| is_damaged(store, *n)).unwrap_or(count)
+    match (0..count).find(|n| is_damaged(store, *n)) {
+        Some(n) => n,
+        None => count,
+    }
 }
 
 // The twin list of a store, which is refused whole where a record is damaged.

@@ -1,3 +1,4 @@
 pub mod Ramp
 pub mod Lowest
+pub mod Searches
 pub mod Verdict

@@ -22,9 +22,9 @@ use bcn_data::Subset2Map;
 use bcn_spec::Block;
 
 // The region of a pixel.
-fn region_of(fields: Fields, k: usize) -> u8
-    requires { (fields.partition < 32) × (k < 16) }
-    ensures { result ≡ region_of fields.mode fields.partition k }
+fn region_of(fields: &Fields, k: usize) -> u8
+    requires { (fields.now.partition < 32) × (k < 16) }
+    ensures { result ≡ region_of fields.now.mode fields.now.partition k }
 {
     if 10 < fields.mode {
         return 0;
@@ -34,9 +34,9 @@ fn region_of(fields: Fields, k: usize) -> u8
 }
 
 // Pixel k lies in the region and has the index n.
-fn is_at(fields: Fields, region: u8, n: u8, k: usize) -> bool
-    requires { (fields.partition < 32) × (k < 16) }
-    ensures { result ≡ indexed_at fields region n k }
+fn is_at(fields: &Fields, region: u8, n: u8, k: usize) -> bool
+    requires { (fields.now.partition < 32) × (k < 16) }
+    ensures { result ≡ indexed_at fields.now region n k }
 {
     region_of(fields, k) == region && fields.indices[k] == n
 }
@@ -46,7 +46,7 @@ fn reaches(fields: Fields, region: u8, n: u8) -> bool
     requires { fields.partition < 32 }
     ensures { result ≡ reaches fields region n }
 {
-    (0..16).any(|k| is_at(fields, region, n, k))
+    (0..16).any(|k| is_at(&fields, region, n, k))
 }
 
 // The block with the index k at pixel k: it shows its palette, in order.
@@ -108,7 +108,7 @@ fn is_repeated(palettes: &[u16; 48], first: usize, channel: usize, i: usize) -> 
     ensures { result ≡ repeated (ramp_entry palettes.now first channel) i }
 {
     let value = palettes[3 * (first + i) + channel];
-    (0..i).any(|k| value == palettes[3 * (first + k) + channel])
+    (first..first + i).any(|k| value == palettes[3 * k + channel])
 }
 
 fn entries_differ(palettes: &[u16; 48], first: usize, count: usize, channel: usize) -> bool

@@ -77,7 +77,7 @@ pub fn link_records(store: &[u8], links: &mut [u16])
 }
 
 // Two blocks are the same. By a loop that ends at the first byte that differs: a search through a store asks for little else, and `==` of slices
-// takes half as much again.
+// costs more a call.
 pub fn same_block(a: &[u8], b: &[u8]) -> bool
     requires { (length a.now ≡ block_size) × (length b.now ≡ block_size) }
     ensures { result ≡ same a.now b.now }

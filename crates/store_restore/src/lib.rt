@@ -87,7 +87,7 @@ fn restore_refusal(cleaned: &[u8], receipt: &[u8], room: usize) -> u8
 
 // ---- the bytes
 
-// The tile of an entry, copied to a record. By a loop, as below: the copies of slices take half as much again.
+// The tile of an entry, copied to a record. By a loop, as below: for so few bytes the copies of slices cost more.
 fn copy_tile(receipt: &[u8], from: usize, out: &mut [u8], to: usize)
     requires { (from + 4 ≤ length receipt.now) × (to + 4 ≤ length out.old) }
     ensures { out.new ≡ paste out.old to (drop from receipt.now) 4 }

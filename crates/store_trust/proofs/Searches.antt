@@ -1,5 +1,5 @@
--- `any` over the numbers from `first` on, by a test that the closure computes. Assumes nothing.
-use Rattle.std.proofs.Common.{◌≡◌, refl, sym, ◌∙◌, subst, ℕ, ◌+◌, ◌<◌, Bool, true, false, List, Option, arith}
+-- `any` over n numbers from `first` on, by a test that the closure computes: `any_below` of laws/proofs/Chains has those from 0 on. Assumes nothing.
+use Rattle.std.proofs.Common.{◌≡◌, refl, sym, ap, ◌∙◌, subst, ℕ, ◌+◌, ◌<◌, Bool, true, false, List, Option, arith}
 use Rattle.std.specs.Prelude.{MatchOption}
 use Rattle.std.specs.declared.ops.Range.{Range}
 use Rattle.std.specs.Fn.{Called}
@@ -25,7 +25,9 @@ module _ (test : ℕ → Bool) (first n : ℕ) where
       rw (get_or-range_with_len first n i 0 l) (is_false (test (first + i)) (λ t. subst T e (some_at _ n i l t))))
 
   module _ {F : Type 0} (u : Range ℕ) (f : F) {g : Mut F (ℕ × Unit {0}) Bool} (computes : (x : ℕ) (b : Bool) (q : F) → Called g f (x, tt) b q → (q ≡ f) × (b ≡ test x)) where
-    pub any_from : (r : Bool) → ((xs : List ℕ) × (o : Option ℕ) × (j : F) × YieldsThen nat_range_steps (record { start = first; end = first + n }) xs o u
+    pub any_from : {low high : ℕ} → low ≡ first → high ≡ first + n → (r : Bool) → ((xs : List ℕ) × (o : Option ℕ) × (j : F) × YieldsThen nat_range_steps (record { start = low; end = high }) xs o u
         × FoldsTo (λ p x q. Called g p (x, tt) false q) f xs j × MatchOption o (r ≡ false) (λ x. (r ≡ true) × ((h : F) × Called g j (x, tt) true h)))
         → r ≡ some (λ k. test (first + k)) n
-    any_from r ran = any_from_yields_List test u f r ran (YieldsList-from_range first (first + n) n refl (omega arith)) computes ∙ sym some_any
+    any_from {low} {high} p q r ran =
+        any_from_yields_List test u f r ran (YieldsList-from_range low high n refl (omega (arith, p, q))) computes
+        ∙ ap (λ x. list_any test (range_with_len x n)) p ∙ sym some_any

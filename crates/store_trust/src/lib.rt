@@ -145,6 +145,8 @@ fn region_passes(
     some_channel_differs(palettes, first, count)
 }
 
+// Never inlined: so its frame lies beside that of the reading of the fields, not on top of it.
+#[inline(never)]
 fn all_pass(fields: Fields, palettes: &[u16; 48]) -> bool
     requires { fields.partition < 32 }
     ensures { result ≡ all_pass fields palettes.now }

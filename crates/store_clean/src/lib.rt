@@ -76,8 +76,8 @@ pub fn link_records(store: &[u8], links: &mut [u16])
     }
 }
 
-// Two blocks are the same. By a loop that ends at the first byte that differs: a search through a store asks for little else, and `==` of slices
-// costs more a call.
+// Two blocks are the same. By a loop that ends at the first byte that differs: in a search through a store that is mostly an early one, and `==`
+// of slices costs more there.
 pub fn same_block(a: &[u8], b: &[u8]) -> bool
     requires { (length a.now ≡ block_size) × (length b.now ≡ block_size) }
     ensures { result ≡ same a.now b.now }
